@@ -1,0 +1,4 @@
+pub mod Regions
+pub mod Le
+pub mod Word
+pub mod Bits
