@@ -2,3 +2,4 @@ pub mod Regions
 pub mod Le
 pub mod Word
 pub mod Bits
+pub mod Lists

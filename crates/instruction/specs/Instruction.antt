@@ -1,0 +1,119 @@
+-- "Eight bytes: op, flags, then a, b, c of 16 bits, little-endian."
+-- Assumes nothing.
+use mathlib.Core.Path.{_≡_, refl, sym}
+use mathlib.Core.Bool.{Bool}
+use mathlib.Core.List.{List}
+use Prim.Native.Nat.{ℕ, _+_, _*_, _/_, _%_, _^_, _<_}
+use native.Mathlib.Nat.{div-div-eq-div-mul}
+use native.Mathlib.Omega.{arith}
+use lib.Dec.{eqb}
+use lib.ListN.{getD}
+use Rattle.words.specs.Le.{u16At}
+use Rattle.words.specs.Word.{signExtend}
+use Rattle.instruction.specs.Opcode as op
+use Rattle.instruction.specs.declared.Instruction.{Instruction}
+use Rattle.instruction.specs.declared.Class.{Class}
+use Rattle.instruction.specs.Class.{classOf}
+
+-- the instruction at a place of the code
+unfoldable pub instructionAt : List ℕ → ℕ → Instruction
+instructionAt code p =
+    record {
+      op = getD code (8 * p) 0;
+      flags = getD code (8 * p + 1) 0;
+      a = u16At code (8 * p + 2);
+      b = u16At code (8 * p + 4);
+      c = u16At code (8 * p + 6);
+    }
+
+-- an instruction as one word of 64 bits, op lowest, and back
+unfoldable pub toWord : Instruction → ℕ
+toWord i = i .op + 256 * i .flags + 65536 * i .a + 2 ^ 32 * i .b + 2 ^ 48 * i .c
+
+unfoldable pub ofWord : ℕ → Instruction
+ofWord w = record { op = w % 256; flags = w / 256 % 256; a = w / 65536 % 65536; b = w / 2 ^ 32 % 65536; c = w / 2 ^ 48 % 65536 }
+
+-- "`imm32` is b + 65,536 × c"
+abbrev pub imm32Unsigned : Instruction → ℕ
+imm32Unsigned i = i .b + 65536 * i .c
+
+-- "read as signed": the word with that signed reading
+abbrev pub imm32 : Instruction → ℕ
+imm32 i = signExtend 32 (imm32Unsigned i)
+
+-- an instruction with that immediate; of a value above 32 bits the low 32 count
+abbrev pub withImm32 : Instruction → ℕ → Instruction
+withImm32 i v = record { op = i .op; flags = i .flags; a = i .a; b = v % 65536; c = v / 65536 % 65536 }
+
+-- "A replaced instruction has flags 0 and unread fields 0"
+abbrev pub plain : ℕ → ℕ → ℕ → ℕ → Instruction
+plain o a b c = record { op = o; flags = 0; a = a; b = b; c = c }
+
+-- the class of its opcode
+abbrev pub class : Instruction → Class
+class i = classOf (i .op)
+
+-- ForLoop's distance, c read as signed, as a word
+abbrev pub forLoopDistance : Instruction → ℕ
+forLoopDistance i = signExtend 16 (i .c)
+
+-- the function that Call names: "low 16 bits in `a`, high 8 bits in `flags`"
+abbrev pub staticCallFuncId : Instruction → ℕ
+staticCallFuncId i = i .a + 65536 * i .flags
+
+-- GoStart, DeferPush, ErrDeferPush: bit 0 of flags says whether a closure is called; the other seven are the function's high bits
+abbrev pub callShapeIsClosure : Instruction → Bool
+callShapeIsClosure i = eqb (i .flags % 2) 1
+
+abbrev pub callShapeStaticFuncId : Instruction → ℕ
+callShapeStaticFuncId i = i .a + 65536 * (i .flags / 2)
+
+-- every field fits its width
+pub record Fields (i : Instruction) : Type 0 where
+  pub op-fits : i .op < 256
+  pub flags-fits : i .flags < 256
+  pub a-fits : i .a < 65536
+  pub b-fits : i .b < 65536
+  pub c-fits : i .c < 65536
+
+-- the digits of an instruction's word are its fields
+record Digits (i : Instruction) : Type 0 where
+  op-digit : toWord i % 256 ≡ i .op
+  flags-digit : toWord i / 256 % 256 ≡ i .flags
+  a-digit : toWord i / 65536 % 65536 ≡ i .a
+  b-digit : toWord i / 2 ^ 32 % 65536 ≡ i .b
+  c-digit : toWord i / 2 ^ 48 % 65536 ≡ i .c
+
+digits-of : (i : Instruction) → Fields i → Digits i
+unfolding toWord
+digits-of i f =
+    let q1 : toWord i / 256 ≡ i .flags + 256 * i .a + 2 ^ 24 * i .b + 2 ^ 40 * i .c = omega arith in
+    let q2 : toWord i / 65536 ≡ i .a + 65536 * i .b + 2 ^ 32 * i .c = omega arith in
+    let q3 : toWord i / 2 ^ 32 ≡ i .b + 65536 * i .c = omega arith in
+    let q4 : toWord i / 2 ^ 48 ≡ i .c = omega arith in
+    record {
+      op-digit = omega arith;
+      flags-digit = rw q1 (omega arith);
+      a-digit = rw q2 (omega arith);
+      b-digit = rw q3 (omega arith);
+      c-digit = rw q4 (omega arith);
+    }
+
+-- an instruction and its word are the same information
+pub of-to : (i : Instruction) → Fields i → ofWord (toWord i) ≡ i
+unfolding ofWord
+of-to i f =
+    let d : Digits i = digits-of i f in
+    rw (d .op-digit, d .flags-digit, d .a-digit, d .b-digit, d .c-digit)
+
+pub to-of : (w : ℕ) → w < 2 ^ 64 → toWord (ofWord w) ≡ w
+unfolding ofWord toWord
+to-of w h = digits w (w / 256) (w / 65536) (w / 2 ^ 32) (w / 2 ^ 48) refl (sym (div-div-eq-div-mul w 256 256)) (sym (div-div-eq-div-mul w 65536 65536)) (sym (div-div-eq-div-mul w (2 ^ 32) 65536)) h
+  where
+    digits : (w p q r s : ℕ) → p ≡ w / 256 → q ≡ p / 256 → r ≡ q / 65536 → s ≡ r / 65536 → w < 2 ^ 64
+        → w % 256 + 256 * (p % 256) + 65536 * (q % 65536) + 2 ^ 32 * (r % 65536) + 2 ^ 48 * (s % 65536) ≡ w
+    digits w p q r s e1 e2 e3 e4 h = omega arith
+
+pub toWord-fits : (i : Instruction) → Fields i → toWord i < 2 ^ 64
+unfolding toWord
+toWord-fits i f = omega arith

@@ -1,0 +1,48 @@
+-- Tests over lists and over the numbers below a bound.
+-- Assumes nothing.
+use mathlib.Core.Path.{_≡_, refl}
+use mathlib.Core.Bool.{Bool, true, false, cond}
+use mathlib.Core.List.{List, [], _∷_}
+use Prim.Native.Nat.{ℕ, zero, suc, _+_, _<_}
+use native.Mathlib.Omega.{arith}
+use lib.Dec.{eqb}
+use borrow.Author.Tests.{eqb-true, eqb-false}
+
+-- is x among these?
+abbrev pub isIn : ℕ → List ℕ → Bool
+isIn x [] = false
+isIn x (y ∷ ys) = let rest = isIn x ys in cond (eqb x y) true rest
+
+-- how many numbers below n pass
+abbrev pub count : ℕ → (ℕ → Bool) → ℕ
+count zero t = 0
+count (suc n) t = cond (t n) 1 0 + count n t
+
+-- does each number below n pass?
+unfoldable pub every : ℕ → (ℕ → Bool) → Bool
+every zero t = true
+every (suc n) t = let rest = every n t in cond (t n) rest false
+
+pub every-at : (n : ℕ) (t : ℕ → Bool) → every n t ≡ true → (k : ℕ) → k < n → t k ≡ true
+unfolding every
+every-at zero t e k h = absurd (omega arith)
+every-at (suc n) t e k h = go (t n) refl (eqb k n) refl e (λ e l. every-at n t e k l)
+  where
+    go : (b : Bool) → t n ≡ b → (q : Bool) → eqb k n ≡ q → cond b (every n t) false ≡ true → (every n t ≡ true → k < n → t k ≡ true) → t k ≡ true
+    go true r true s e f = rw (eqb-true k n s) r
+    go true r false s e f =
+        let other : k ≡ n → ⊥ = eqb-false k n s in
+        f e (omega arith)
+    go false r q s e f = let z : _≡_ {A = ℕ} 0 1 = cc in absurd (omega arith)
+
+pub every-all : (n : ℕ) (t : ℕ → Bool) → ((k : ℕ) → k < n → t k ≡ true) → every n t ≡ true
+unfolding every
+every-all zero t f = refl
+every-all (suc n) t f = rw (f n (omega arith)) (every-all n t (λ k h. f k (omega arith)))
+
+pub every-not : (n : ℕ) (t : ℕ → Bool) (k : ℕ) → k < n → t k ≡ false → every n t ≡ false
+every-not n t k h e = go (every n t) refl
+  where
+    go : (b : Bool) → every n t ≡ b → every n t ≡ false
+    go true r = let w : t k ≡ true = every-at n t r k h in let z : _≡_ {A = ℕ} 0 1 = cc in absurd (omega arith)
+    go false r = r
