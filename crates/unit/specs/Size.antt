@@ -1,0 +1,64 @@
+-- Sizes: each number of document 01's layout and each lent buffer's length in one definition.
+-- Assumes nothing.
+use Prim.Native.Nat.{ℕ, _+_, _*_, _/_, min}
+
+-- bytes of the header and of one entry of each section
+abbrev pub headerSize : ℕ
+headerSize = 64
+
+abbrev pub instructionSize : ℕ
+instructionSize = 8
+
+abbrev pub metadataSize : ℕ
+metadataSize = 16
+
+abbrev pub constantSize : ℕ
+constantSize = 16
+
+abbrev pub functionSize : ℕ
+functionSize = 4
+
+abbrev pub externSize : ℕ
+externSize = 2
+
+abbrev pub caseSize : ℕ
+caseSize = 8
+
+-- bytes of the result's header, and of a result of k instructions: "16 + 28n'"
+abbrev pub resultHeaderSize : ℕ
+resultHeaderSize = 16
+
+abbrev pub resultSize : ℕ → ℕ
+resultSize k = resultHeaderSize + 28 * k
+
+-- "Output buffer: 16 + 28n bytes"
+abbrev pub outputRoom : ℕ → ℕ
+outputRoom n = resultSize n
+
+-- "Work: 16n + 16 numbers of 32 bits"
+abbrev pub work32Room : ℕ → ℕ
+work32Room n = 16 * n + 16
+
+-- w, "local slots / 64 rounded up"
+abbrev pub setWords : ℕ → ℕ
+setWords s = (s + 63) / 64
+
+-- the most words of sets over all blocks that liveness works on
+abbrev pub maxSetWords : ℕ
+maxSetWords = 2097152
+
+-- "and of 64 bits 24n + 4s + w + 3 × w × the lesser of n and 2,097,152 / w rounded down (the last two terms absent
+-- for w = 0)": they are 0 then
+abbrev pub work64Room : ℕ → ℕ → ℕ
+work64Room n s = 24 * n + 4 * s + setWords s + 3 * setWords s * min n (maxSetWords / setWords s)
+
+-- "The three-pass cleaning also needs 2 × (16 + 28n) spare bytes"
+abbrev pub spareRoom : ℕ → ℕ
+spareRoom n = 2 * resultSize n
+
+-- the largest function that is worked on, and the largest number of local slots
+abbrev pub maxInstructions : ℕ
+maxInstructions = 65536
+
+abbrev pub maxLocalSlots : ℕ
+maxLocalSlots = 65535
