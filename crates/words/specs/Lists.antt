@@ -46,3 +46,16 @@ every-not n t k h e = go (every n t) refl
     go : (b : Bool) → every n t ≡ b → every n t ≡ false
     go true r = let w : t k ≡ true = every-at n t r k h in let z : _≡_ {A = ℕ} 0 1 = cc in absurd (omega arith)
     go false r = r
+
+-- the values of f at the k numbers from p on, and at all below n
+unfoldable pub tabulateFrom {ℓ} : {A : Type ℓ} → ℕ → ℕ → (ℕ → A) → List A
+tabulateFrom p zero f = []
+tabulateFrom p (suc k) f = f p ∷ tabulateFrom (suc p) k f
+
+unfoldable pub tabulate {ℓ} : {A : Type ℓ} → ℕ → (ℕ → A) → List A
+unfolding tabulateFrom
+tabulate n f = tabulateFrom 0 n f
+
+unfoldable pub sum : List ℕ → ℕ
+sum [] = 0
+sum (x ∷ xs) = x + sum xs

@@ -1,0 +1,4 @@
+pub mod Shape
+pub mod Table
+pub mod Effects
+pub mod Check

@@ -1,0 +1,13 @@
+// What each instruction reads and writes, as ranges of slots, and the check of every operand.
+
+// `count` slots from `start`.
+pub struct Range {
+    pub start: usize,
+    pub count: usize,
+}
+
+// The answer of a check over the whole function: the number and place of a refusal, or none.
+pub enum Check {
+    Passed,
+    Refused(u32, u32),
+}

@@ -1,0 +1,4 @@
+pub mod Branch
+pub mod Block
+pub mod Reach
+pub mod Loop

@@ -1,0 +1,1 @@
+// Where control goes: branch targets, blocks, and the places that are reached.

@@ -1,0 +1,3 @@
+pub mod Fold
+pub mod Table
+pub mod Number

@@ -1,0 +1,178 @@
+-- The walk over the function: each instruction rewritten by the values known before it.
+-- Assumes nothing.
+use mathlib.Core.Bool.{Bool, true, false, cond, _&&_, _||_, not}
+use mathlib.Core.List.{List, [], _∷_}
+use mathlib.Core.Option.{Option, none, some}
+use Prim.Native.Nat.{ℕ, suc, _%_, _/_, _^_}
+use lib.Dec.{eqb}
+use lib.ListN.{getD}
+use Rattle.words.specs.Lists.{isIn}
+use Rattle.instruction.specs.Opcode as op
+use Rattle.instruction.specs.declared.Instruction.{Instruction}
+use Rattle.instruction.specs.declared.Class.{Class}
+use Rattle.instruction.specs.declared.Class.the-variants.{Hint, LoadInt, LoadConst, Copy, CopyN, Unary, Binary, Jump, JumpIf, JumpIfNot, ForLoop, Return, Panic, Outside, Invalid}
+use Rattle.instruction.specs.Instruction.{imm32, plain, withImm32, class}
+use Rattle.unit.specs.declared.Constant.{Constant}
+use Rattle.unit.specs.declared.Constant.the-variants.{Nil, Bool as BoolConstant, Int, Float as FloatConstant, String, Missing}
+use Rattle.unit.specs.Entry.{constantAt, typeValue, typeFloat}
+use Rattle.effects.specs.Shape.{Sections, Cell}
+use Rattle.values.specs.declared.Atom.{Atom}
+use Rattle.values.specs.declared.Atom.the-variants.{Integer, Float, Definition}
+use Rattle.values.specs.Fold.{foldingUnary, foldingBinary, foldWord, fitsImm32}
+use Rattle.values.specs.Table.{Values, Expression, Represented, empty, valueOf, recordedSlot, representative, store, learn, expressionIn}
+
+-- an instruction as it becomes, and the table after it
+pub record Numbered : Type 0 where
+  pub instruction : Instruction
+  pub table : Values
+
+abbrev pub setA : Instruction → ℕ → Instruction
+setA i s = record { op = i .op; flags = i .flags; a = s; b = i .b; c = i .c }
+
+abbrev pub setB : Instruction → ℕ → Instruction
+setB i s = record { op = i .op; flags = i .flags; a = i .a; b = s; c = i .c }
+
+abbrev pub setBC : Instruction → ℕ → ℕ → Instruction
+setBC i s t = record { op = i .op; flags = i .flags; a = i .a; b = s; c = t }
+
+-- "LoadConst": the value of a constant; none of "a String or a missing constant"
+unfoldable pub constantAtom : Constant → Option Atom
+constantAtom Nil = some (Integer 0)
+constantAtom (BoolConstant v) = some (Integer v)
+constantAtom (Int v) = some (Integer v)
+constantAtom (FloatConstant v) = some (Float v)
+constantAtom String = none
+constantAtom Missing = none
+
+-- the known integer that an expression folds to
+unfoldable pub foldUnary : Expression → Atom → Option ℕ
+unfolding foldWord
+foldUnary e (Integer x) = cond (isIn (e .opcode) foldingUnary) (some (foldWord (e .opcode) (e .flags) x 0)) none
+foldUnary e (Float x) = none
+foldUnary e (Definition p s) = none
+
+unfoldable pub foldBinary : Expression → Atom → Atom → Option ℕ
+unfolding foldWord
+foldBinary e (Integer x) (Integer y) = cond (isIn (e .opcode) foldingBinary) (some (foldWord (e .opcode) (e .flags) x y)) none
+foldBinary e (Integer x) (Float y) = none
+foldBinary e (Integer x) (Definition q t) = none
+foldBinary e (Float x) y = none
+foldBinary e (Definition p s) y = none
+
+-- "A folded result becomes LoadInt exactly if its signed reading fits 32 bits; otherwise the instruction stays"
+unfoldable pub loadOrStay : Instruction → ℕ → Instruction
+unfolding fitsImm32
+loadOrStay i v = cond (fitsImm32 v) (withImm32 (plain op.LoadInt (i .a) 0 0) (v % 2 ^ 32)) i
+
+module _ (S : Sections) where
+  -- "scalar": a slot of type Value or Float
+  abbrev pub isScalar : ℕ → Bool
+  isScalar s = eqb (getD (S .types) s 1) typeValue || eqb (getD (S .types) s 1) typeFloat
+
+  -- a store of a known value: the instruction and the value of its destination
+  unfoldable pub stored : Instruction → Values → Atom → Numbered
+  unfolding store
+  stored i t v = record { instruction = i; table = store (S .types) t (i .a) v }
+
+  -- "An equal expression .. becomes Copy from the recorded slot under the same two conditions, the type being the destination's;
+  -- otherwise it stays, with the same value"
+  unfoldable pub copyOrStay : Instruction → Option ℕ → Instruction
+  copyOrStay i (some r) = plain op.Copy (i .a) r 0
+  copyOrStay i none = i
+
+  unfoldable pub byExpression : ℕ → Instruction → Values → Expression → Option Atom → Numbered
+  unfolding stored copyOrStay recordedSlot learn
+  byExpression p i t e (some v) = stored (copyOrStay i (recordedSlot (S .types) t v (getD (S .types) (i .a) 0))) t v
+  byExpression p i t e none = stored i (learn t e (Definition p (i .a))) (Definition p (i .a))
+
+  -- folded, or looked up
+  unfoldable pub byValue : ℕ → Instruction → Values → Expression → Option ℕ → Numbered
+  unfolding byExpression stored loadOrStay expressionIn
+  byValue p i t e (some v) = stored (loadOrStay i v) t (Integer v)
+  byValue p i t e none = byExpression p i t e (expressionIn (t .expressions) e)
+
+  unfoldable pub numberUnary : ℕ → Instruction → Values → Numbered
+  unfolding byValue foldUnary representative
+  numberUnary p i t =
+      let r = representative (S .types) t (i .b) in
+      let left = valueOf (r .table) (r .slot) in
+      let e : Expression = record { opcode = i .op; flags = i .flags; left = left; right = Integer 0 } in
+      byValue p (setB i (r .slot)) (r .table) e (foldUnary e left)
+
+  -- "(left first)"
+  unfoldable pub numberBinary : ℕ → Instruction → Values → Numbered
+  unfolding byValue foldBinary representative
+  numberBinary p i t =
+      let l = representative (S .types) t (i .b) in
+      let r = representative (S .types) (l .table) (i .c) in
+      let left = valueOf (r .table) (l .slot) in
+      let right = valueOf (r .table) (r .slot) in
+      let e : Expression = record { opcode = i .op; flags = i .flags; left = left; right = right } in
+      byValue p (setBC i (l .slot) (r .slot)) (r .table) e (foldBinary e left right)
+
+  unfoldable pub numberCopy : Instruction → Values → Numbered
+  unfolding stored representative
+  numberCopy i t =
+      let r = representative (S .types) t (i .b) in
+      stored (setB i (r .slot)) (r .table) (valueOf (r .table) (r .slot))
+
+  unfoldable pub numberConstant : Instruction → Values → Option Atom → Numbered
+  unfolding stored
+  numberConstant i t (some v) = stored i t v
+  numberConstant i t none = record { instruction = i; table = empty }
+
+  -- an operand a that is read: of "an undecided conditional jump on a scalar and of a one-scalar Return"
+  unfoldable pub numberRead : Instruction → Values → Numbered
+  unfolding representative
+  numberRead i t =
+      let r = representative (S .types) t (i .a) in
+      record { instruction = setA i (r .slot); table = r .table }
+
+  -- "JumpIf and JumpIfNot on a known integer become Jump or plain Hint"
+  unfoldable pub decided : Instruction → Bool → Instruction
+  decided i taken = cond taken (plain op.Jump 0 (i .b) (i .c)) (plain op.Hint 0 0 0)
+
+  unfoldable pub numberJump : (ℕ → Bool) → Instruction → Values → Atom → Numbered
+  unfolding decided numberRead
+  numberJump takes i t (Integer v) = record { instruction = decided i (takes v); table = t }
+  numberJump takes i t (Float v) = cond (isScalar (i .a)) (numberRead i t) (record { instruction = i; table = t })
+  numberJump takes i t (Definition p s) = cond (isScalar (i .a)) (numberRead i t) (record { instruction = i; table = t })
+
+  abbrev pub cleared : Instruction → Numbered
+  cleared i = record { instruction = i; table = empty }
+
+  -- "CopyN, a non-scalar destination, LoadConst of a String or a missing constant, and every impure opcode clear all values, except
+  -- JumpIf, JumpIfNot, and a Return of one scalar."
+  unfoldable pub numberBy : Class → ℕ → Instruction → Values → Numbered
+  unfolding stored numberConstant constantAtom numberCopy numberUnary numberBinary numberJump numberRead
+  numberBy Hint p i t = cleared i
+  numberBy LoadInt p i t = let r = stored i t (Integer (imm32 i)) in cond (isScalar (i .a)) r (cleared i)
+  numberBy LoadConst p i t =
+      let r = numberConstant i t (constantAtom (constantAt (S .constants) (i .b))) in cond (isScalar (i .a)) r (cleared i)
+  numberBy Copy p i t = let r = numberCopy i t in cond (isScalar (i .a)) r (cleared i)
+  numberBy CopyN p i t = cleared i
+  numberBy Unary p i t = let r = numberUnary p i t in cond (isScalar (i .a)) r (cleared i)
+  numberBy Binary p i t = let r = numberBinary p i t in cond (isScalar (i .a)) r (cleared i)
+  numberBy Jump p i t = cleared i
+  numberBy JumpIf p i t = numberJump (λ v. not (eqb v 0)) i t (valueOf t (i .a))
+  numberBy JumpIfNot p i t = numberJump (λ v. eqb v 0) i t (valueOf t (i .a))
+  numberBy ForLoop p i t = cleared i
+  numberBy Return p i t = let r = numberRead i t in cond (eqb (i .b) 1 && isScalar (i .a)) r (cleared i)
+  numberBy Panic p i t = cleared i
+  numberBy Outside p i t = cleared i
+  numberBy Invalid p i t = cleared i
+
+  abbrev pub number : ℕ → Instruction → Values → Numbered
+  number p i t = numberBy (class i) p i t
+
+  -- the code rewritten from place p on, the table being cleared where a block starts
+  unfoldable pub numberFrom : List ℕ → ℕ → Values → List Cell → List Cell
+  unfolding numberBy
+  numberFrom leaders p t [] = []
+  numberFrom leaders p t (x ∷ xs) =
+      let r = number p (x .instruction) (cond (eqb (getD leaders p 0) 1) empty t) in
+      record { instruction = r .instruction; metadata = x .metadata } ∷ numberFrom leaders (suc p) (r .table) xs
+
+  unfoldable pub numberCode : List ℕ → List Cell → List Cell
+  unfolding numberFrom
+  numberCode leaders cells = numberFrom leaders 0 empty cells
