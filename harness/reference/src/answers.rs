@@ -18,8 +18,8 @@ pub fn clean(bytes: &[u8]) -> Cleaned {
 }
 
 /// Up to `max_passes` passes. "It is unchanged if pass 1 is; otherwise it gives the last rewritten code, with
-/// old places in the given unit. A refusal in any pass leaves the output untouched, its place being one of that
-/// pass."
+/// old places in the given unit. A refusal in any pass leaves the output untouched, its place being one of
+/// that pass."
 fn run(bytes: &[u8], max_passes: u32) -> Cleaned {
     let Some(unit) = Unit::check(bytes) else {
         return Cleaned { answer: Answer::NO_UNIT, pass: 1 };

@@ -68,8 +68,15 @@ pub struct FunctionDef {
 
 impl FunctionDef {
     pub fn compute_call_flags(code: &[Instruction]) -> (bool, bool) {
-        let any = |calls: &[Opcode]| code.iter().any(|instruction| calls.contains(&instruction.opcode()));
-        (any(&[Opcode::Call, Opcode::CallClosure, Opcode::CallIface]), any(&[Opcode::CallExtern]))
+        let (mut has_calls, mut has_call_extern) = (false, false);
+        for instruction in code {
+            match instruction.opcode() {
+                Opcode::Call | Opcode::CallClosure | Opcode::CallIface => has_calls = true,
+                Opcode::CallExtern => has_call_extern = true,
+                _ => {}
+            }
+        }
+        (has_calls, has_call_extern)
     }
 }
 

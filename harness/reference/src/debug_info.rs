@@ -39,8 +39,8 @@ pub struct InlineFunctionSources {
     pub entries: Vec<InlineSourceEntry>,
 }
 
-/// "A chain entry is attached to an exact instruction", says volang: `frame` has the instruction's place in the
-/// given unit, so that the Rust's own relocation carries the old places.
+/// "A chain entry is attached to an exact instruction", says volang: `frame` has the instruction's place in
+/// the given unit, so that the Rust's own relocation carries the old places.
 #[derive(Clone, Copy, Debug)]
 pub struct InlineSourceEntry {
     pub pc: u32,

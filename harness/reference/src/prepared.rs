@@ -67,11 +67,9 @@ pub(crate) fn metadata(entry: Metadata, cases: &[SelectCaseLayout]) -> Instructi
     match Kind::from_u8(entry.kind).expect("a checked unit has kinds 0 to 15") {
         Kind::None => InstructionMetadata::None,
         Kind::ElemLayout => InstructionMetadata::ElemLayout { slot_layout: first },
-        Kind::MapGet => InstructionMetadata::MapGet {
-            key_layout: first,
-            val_layout: second,
-            has_ok: entry.has_ok != 0,
-        },
+        Kind::MapGet => {
+            InstructionMetadata::MapGet { key_layout: first, val_layout: second, has_ok: entry.has_ok != 0 }
+        }
         Kind::MapNew => InstructionMetadata::MapNew { key_layout: first, val_layout: second },
         Kind::MapSet => InstructionMetadata::MapSet { key_layout: first, val_layout: second },
         Kind::MapDelete => InstructionMetadata::MapDelete { key_layout: first },

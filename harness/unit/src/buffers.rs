@@ -20,8 +20,8 @@ pub fn work32(n: u64) -> u64 {
     16 * n + 16
 }
 
-/// "and of 64 bits 24n + 4s + w + 3 × w × the lesser of n and 2,097,152 / w rounded down (the last two terms
-/// absent for w = 0)"
+/// "and of 64 bits 24n + 4s + w + 3 × w × the lesser of n and 2,097,152 / w rounded down (the last two
+/// terms absent for w = 0)"
 pub fn work64(n: u64, s: u64) -> u64 {
     let w = liveness_words(s);
     let liveness = match MAX_LIVENESS_WORDS.checked_div(w) {

@@ -83,13 +83,7 @@ impl Entry for Instruction {
     const LEN: usize = 8;
 
     fn read(bytes: &[u8]) -> Self {
-        Self {
-            op: bytes[0],
-            flags: bytes[1],
-            a: u16_at(bytes, 2),
-            b: u16_at(bytes, 4),
-            c: u16_at(bytes, 6),
-        }
+        Self { op: bytes[0], flags: bytes[1], a: u16_at(bytes, 2), b: u16_at(bytes, 4), c: u16_at(bytes, 6) }
     }
 
     fn write(&self, out: &mut Vec<u8>) {
