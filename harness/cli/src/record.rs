@@ -19,7 +19,7 @@ const SHARES: [(&str, usize); 14] = [
     ("branches", 180),
     ("loops", 200),
     ("jumps", 80),
-    ("stages", 120),
+    ("stages", 150),
     ("opcodes", 120),
     ("pairs", 60),
     ("spoiled", 140),

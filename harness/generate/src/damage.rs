@@ -2,8 +2,8 @@
 
 use unit::{Case, Kind, Parts, Section, Unit, CONSTANT_BOOL, CONSTANT_STRING, HEADER_LEN, TYPE_FLOAT};
 
-/// One thing wrong with a good unit. Some damage is none: s may be another number, and a defer of 1 is as good
-/// as one of 0. Whether it is a unit is for the check to say.
+/// One thing wrong with a good unit. Some damage is none: s may be another number, and a defer of 1 is as
+/// good as one of 0. Whether it is a unit is for the check to say.
 pub enum Damage {
     Bytes { at: usize, to: Vec<u8> },
     Length(usize),

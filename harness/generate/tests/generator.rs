@@ -17,7 +17,7 @@ fn same_units_everywhere() {
     assert_eq!(hashed, EXPECTED);
 }
 
-const EXPECTED: u64 = 0;
+const EXPECTED: u64 = 8_466_235_109_804_844_076;
 
 #[test]
 fn profiles_draw_units() {

@@ -25,7 +25,7 @@ pub(super) fn branches(rng: &mut Rng) -> Parts {
             _ => draft.pure(20),
         }
     }
-    if draft.rng.percent(4) {
+    if draft.rng.percent(6) {
         leave(&mut draft);
     }
     draft.finish()

@@ -8,18 +8,21 @@ use unit::{Metadata, Parts};
 /// What one pass lays open to the next: known branches behind known branches, stores that die late, ends of
 /// loops and targets at the end that go late.
 pub(super) fn stages(rng: &mut Rng) -> Parts {
+    let looped = rng.percent(50);
     let mut stages: Vec<Stage> = (0..rng.within(1..=2)).map(|_| rng.pick(&Stage::ALL)).collect();
-    if rng.percent(50) {
+    if looped && rng.percent(40) {
+        stages[0] = Stage::Chain;
+    } else if rng.percent(50) {
         stages.push(Stage::Guard);
     }
     let tail = rng.pick(&[Tail::None, Tail::Dead, Tail::DeadLater]);
-    let looped = rng.percent(40);
     let before_tail = usize::from(looped) + stages.iter().map(|stage| stage.len()).sum::<usize>() + 1;
     let n = (before_tail + tail.len()).max(2);
     let mut draft = Draft::new(rng, n, 4);
     if looped {
-        // Often the start of a stage, which may go in a later pass.
-        let end = if draft.rng.percent(50) { 1 } else { draft.rng.below(n) };
+        // Often a store of the first stage, which may go in a later pass.
+        let any = draft.rng.below(n);
+        let end = draft.rng.pick(&[1, 3, any]).min(n - 1);
         let exit = draft.rng.within(1..=n) as u32;
         draft.loop_hint(exit, Metadata::loop_end(end as u32));
     }
