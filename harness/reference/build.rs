@@ -45,13 +45,9 @@ fn main() {
     }
     let modules: String = MODULES
         .iter()
+        // What goes unused here, or is in another style, is no finding of ours.
         .map(|(module, file)| {
-            let visible = if *module == "instruction" { "pub " } else { "" };
-            // What volang's makers leave unused here, or write in another style, is no finding of ours.
-            format!(
-                "#[allow(dead_code, clippy::all)]\n#[path = {:?}]\n{visible}mod {module};\n",
-                out.join(file)
-            )
+            format!("#[allow(dead_code, clippy::all)]\n#[path = {:?}]\nmod {module};\n", out.join(file))
         })
         .collect();
     fs::write(out.join("modules.rs"), modules).unwrap();

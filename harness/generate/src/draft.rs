@@ -8,7 +8,7 @@ use unit::{CONSTANT_BOOL, CONSTANT_FLOAT, CONSTANT_INT, CONSTANT_NIL, CONSTANT_S
 use unit::{TYPE_FLOAT, TYPE_GC_BASE, TYPE_VALUE};
 
 /// A loop hint's flags.
-pub const HINT_LOOP: u8 = 1;
+const HINT_LOOP: u8 = 1;
 
 /// Words on which folding, sign and the 32-bit limit turn.
 const WORDS: [u64; 16] = [
@@ -30,7 +30,16 @@ const WORDS: [u64; 16] = [
     i64::MIN as u64,
 ];
 
-const FLOATS: [f64; 6] = [0.0, -0.0, 1.0, 0.5, f64::INFINITY, f64::NAN];
+/// The bits of 0.0, -0.0, 1.0, 0.5, infinity, a quiet and a signaling NaN.
+const FLOATS: [u64; 7] = [
+    0,
+    1 << 63,
+    0x3ff0_0000_0000_0000,
+    0x3fe0_0000_0000_0000,
+    0x7ff0_0000_0000_0000,
+    0x7ff8_0000_0000_0000,
+    0x7ff0_0000_0000_0001,
+];
 
 /// Trunc's flags with a width, and some without.
 const TRUNC_FLAGS: [u8; 11] = [1, 2, 4, 0x81, 0x82, 0x84, 0, 3, 8, 0x80, 0x85];
@@ -98,8 +107,8 @@ impl<'r> Draft<'r> {
         ]);
         let value = match kind {
             CONSTANT_BOOL => self.rng.below(2) as u64,
-            CONSTANT_FLOAT => self.rng.pick(&FLOATS).to_bits(),
-            CONSTANT_INT if self.rng.percent(20) => self.rng.word(),
+            CONSTANT_INT | CONSTANT_FLOAT if self.rng.percent(20) => self.rng.word(),
+            CONSTANT_FLOAT => self.rng.pick(&FLOATS),
             CONSTANT_INT => self.rng.pick(&WORDS),
             _ => 0,
         };
@@ -256,7 +265,7 @@ impl<'r> Draft<'r> {
         self.op(Opcode::LoadConst, 0, a, index as u16, 0);
     }
 
-    /// An earlier pure instruction again, often into another slot; so that equal expressions occur.
+    /// A recent unary or binary instruction again, often into another slot: equal expressions.
     pub fn again(&mut self) {
         let from = self.place().saturating_sub(12);
         if from == self.place() {
@@ -264,12 +273,12 @@ impl<'r> Draft<'r> {
         }
         let place = self.rng.within(from..=self.place() - 1);
         let mut instruction = self.parts.code[place];
-        let is_pure = matching(Opcode::from_u8(instruction.op)) == Kind::None
-            && (is_any(&INTEGER_BINARY, instruction.op)
-                || is_any(&FLOAT_BINARY, instruction.op)
-                || is_any(&INTEGER_UNARY, instruction.op)
-                || is_any(&FLOAT_UNARY, instruction.op));
-        if !is_pure {
+        let op = instruction.op;
+        let is_expression = is_any(&INTEGER_BINARY, op)
+            || is_any(&FLOAT_BINARY, op)
+            || is_any(&INTEGER_UNARY, op)
+            || is_any(&FLOAT_UNARY, op);
+        if !is_expression {
             return self.pure(50);
         }
         if self.rng.percent(70) {

@@ -17,7 +17,7 @@ fn same_units_everywhere() {
     assert_eq!(hashed, EXPECTED);
 }
 
-const EXPECTED: u64 = 8_466_235_109_804_844_076;
+const EXPECTED: u64 = 16_333_595_163_959_946_887;
 
 #[test]
 fn profiles_draw_units() {

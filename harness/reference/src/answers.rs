@@ -1,7 +1,9 @@
 //! From what the Rust gives back to document 01's answers.
 
 use crate::bytecode::{FunctionDef, InstructionMetadata};
+use crate::loop_hint::{is_loop_hint, LoopHint};
 use crate::prepared::{metadata, select_case, Prepared};
+use std::mem;
 use unit::{Answer, Cleaned, Kind, Metadata, Retained, Rewritten, Unit};
 
 /// The cleaning "stops at the first pass that does not rewrite, or after 3".
@@ -33,8 +35,8 @@ fn run(bytes: &[u8], max_passes: u32) -> Cleaned {
             Ok(true) => answer = Answer::rewritten(&result(&prepared, &unit)),
             Ok(false) => return Cleaned { answer, pass },
             Err(text) => {
-                prepared.module.functions.under_work = before;
-                return Cleaned { answer: refusal(&prepared, &text), pass };
+                let cut = mem::replace(&mut prepared.module.functions.under_work, before);
+                return Cleaned { answer: refusal(&prepared, &cut, &text), pass };
             }
         }
     }
@@ -80,8 +82,9 @@ fn result(prepared: &Prepared, unit: &Unit) -> Rewritten {
     Rewritten { retained }
 }
 
-/// The refusal that the Rust's text stands for. `prepared` is as it was before the refused pass.
-fn refusal(prepared: &Prepared, text: &str) -> Answer {
+/// The refusal that the Rust's text stands for. `prepared` is as it was before the refused pass; `cut` is the
+/// function as the Rust left it.
+fn refusal(prepared: &Prepared, cut: &FunctionDef, text: &str) -> Answer {
     let (number, place) = if text == "optimizer metadata length mismatch" {
         (3, 0)
     } else if text == "function has an inconsistent frame layout" {
@@ -98,15 +101,11 @@ fn refusal(prepared: &Prepared, text: &str) -> Answer {
     } else if let Some(place) = number_after(text, "branch at PC ") {
         (8, place)
     } else if ["loop hint has no back edge", "loop back edge is outside its function"].contains(&text) {
-        // "lowest reached loop hint without LoopEnd or with its end outside"
-        (9, lowest_reached(prepared, |_, end| end.is_none()))
-    } else if let Some(exit_past_n) = number_after(text, "source PC ") {
-        // "lowest kept loop hint whose end was removed or whose exit exceeds n": the Rust relocates by rising
-        // place and stops at the first such hint, naming its exit or its end. No lower reached hint has the
-        // same one, or the Rust would have stopped there; and every reached loop hint is kept.
-        (10, lowest_reached(prepared, |exit, _| exit == exit_past_n))
-    } else if let Some(removed_end) = number_after(text, "required instruction at PC ") {
-        (10, lowest_reached(prepared, |_, end| end == Some(removed_end)))
+        (9, lowest_unsound(prepared))
+    } else if let Some(exit) = number_after(text, "source PC ") {
+        (10, lowest_unmoved(prepared, cut, |hint| hint.exit == exit))
+    } else if let Some(end) = number_after(text, "required instruction at PC ") {
+        (10, lowest_unmoved(prepared, cut, |hint| hint.end == Some(end)))
     } else {
         panic!("a refusal that document 01 does not know: {text}")
     };
@@ -120,8 +119,24 @@ fn number_after(text: &str, prefix: &str) -> Option<u32> {
     Some(digits[..end].parse().expect("the Rust's text has a place"))
 }
 
-/// The place of the lowest reached loop hint whose exit and end are as asked.
-fn lowest_reached(prepared: &Prepared, asked: impl Fn(u32, Option<u32>) -> bool) -> u32 {
-    let hints = prepared.module.reached_loop_hints().expect("the refused pass came as far as reachability");
-    hints.iter().find(|hint| asked(hint.exit, hint.end)).expect("the Rust refused a reached loop hint").place
+/// "lowest reached loop hint without LoopEnd or with its end outside": the Rust names no place, and walks in
+/// another order.
+fn lowest_unsound(prepared: &Prepared) -> u32 {
+    let hints = reached_loop_hints(prepared);
+    hints.iter().find(|hint| hint.end.is_none()).expect("the Rust reached an unsound hint").place
+}
+
+/// "lowest kept loop hint whose end was removed or whose exit exceeds n": every reached loop hint is kept; the
+/// Rust moves them by rising place and stops at the first that it cannot move, naming its exit or its end. Any
+/// other with the same one could not be moved either, so it is the lowest that has it.
+fn lowest_unmoved(prepared: &Prepared, cut: &FunctionDef, named: impl Fn(&LoopHint) -> bool) -> u32 {
+    let hints = reached_loop_hints(prepared);
+    let lowest = hints.iter().position(named).expect("the Rust named a reached hint's exit or end");
+    // The Rust has "cut the function off before place p": the hints before it are there, and no other.
+    assert_eq!(cut.code.iter().filter(|instruction| is_loop_hint(instruction)).count(), lowest);
+    hints[lowest].place
+}
+
+fn reached_loop_hints(prepared: &Prepared) -> Vec<LoopHint> {
+    prepared.module.reached_loop_hints().expect("the refused pass came as far as reachability")
 }

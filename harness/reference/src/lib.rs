@@ -10,6 +10,7 @@ extern crate self as vo_common_core;
 mod answers;
 mod bytecode;
 mod debug_info;
+mod loop_hint;
 mod prepared;
 mod types;
 

@@ -3,7 +3,8 @@
 
 use super::{blocks, local_values, optimize_function, reachable};
 use vo_common_core::bytecode::{Module, UNDER_WORK};
-use vo_common_core::instruction::{Instruction, Opcode, HINT_LOOP};
+use vo_common_core::instruction::{Instruction, Opcode};
+use vo_common_core::loop_hint::{is_loop_hint, LoopHint};
 use vo_common_core::InstructionMetadata;
 
 pub(super) fn compose(_module: &mut Module) -> Result<Vec<usize>, String> {
@@ -12,14 +13,6 @@ pub(super) fn compose(_module: &mut Module) -> Result<Vec<usize>, String> {
 
 pub(super) fn compact_sources(_module: &mut Module) {
     unreachable!("calls are not inlined")
-}
-
-/// A loop hint that `reachable` reaches.
-pub(crate) struct LoopHint {
-    pub(crate) place: u32,
-    pub(crate) exit: u32,
-    /// Its LoopEnd, if that lies in the function: then the hint is sound.
-    pub(crate) end: Option<u32>,
 }
 
 impl Module {
@@ -58,8 +51,4 @@ impl Module {
         let (reached, _) = reachable(&code, &function.instruction_metadata)?;
         Ok(hints.into_iter().filter(|hint| reached[hint.place as usize]).collect())
     }
-}
-
-fn is_loop_hint(instruction: &Instruction) -> bool {
-    instruction.opcode() == Opcode::Hint && instruction.flags == HINT_LOOP
 }
