@@ -1,0 +1,26 @@
+//! The reference harness as a program.
+
+mod record;
+mod survey;
+
+use std::process::ExitCode;
+
+const USAGE: &str = "usage: harness survey [--seed S] [--count N]
+       harness record [--out FILE | --check]";
+
+fn main() -> ExitCode {
+    let arguments: Vec<String> = std::env::args().skip(1).collect();
+    let words: Vec<&str> = arguments.iter().map(String::as_str).collect();
+    let done = match words.split_first() {
+        Some((&"survey", options)) => survey::run(options),
+        Some((&"record", options)) => record::run(options),
+        _ => Err(USAGE.into()),
+    };
+    match done {
+        Ok(()) => ExitCode::SUCCESS,
+        Err(message) => {
+            eprintln!("{message}");
+            ExitCode::FAILURE
+        }
+    }
+}

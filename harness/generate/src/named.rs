@@ -1,0 +1,399 @@
+//! Named examples: those of document 01's notebook, and the smallest units on which its readings part.
+
+use reference::Opcode;
+use unit::{Case, Constant, Function, Instruction, Kind, Metadata, Parts};
+use unit::{CONSTANT_FLOAT, CONSTANT_INT, TYPE_GC_BASE, TYPE_VALUE};
+
+/// What the papers state of an example's answer.
+#[derive(Clone, Debug)]
+pub enum Stated {
+    Unchanged,
+    Refused {
+        number: u32,
+        place: u32,
+    },
+    /// The old place and the instruction of each new place.
+    Rewritten(Vec<(u32, Instruction)>),
+}
+
+pub struct Named {
+    pub name: &'static str,
+    pub unit: Vec<u8>,
+    pub pass: Stated,
+    /// The cleaning's answer and pass number, where the papers state them.
+    pub clean: Option<(Stated, u32)>,
+    /// Whether it is small enough for the recorded answers.
+    pub recorded: bool,
+}
+
+impl Named {
+    fn new(name: &'static str, parts: Parts, pass: Stated) -> Self {
+        Self { name, unit: parts.encode(), pass, clean: None, recorded: true }
+    }
+
+    fn cleaned(self, stated: Stated, pass: u32) -> Self {
+        Self { clean: Some((stated, pass)), ..self }
+    }
+
+    fn not_recorded(self) -> Self {
+        Self { recorded: false, ..self }
+    }
+}
+
+pub fn all() -> Vec<Named> {
+    let mut named = notebook();
+    named.extend(wrong_turns());
+    named.extend(readings());
+    named.extend(refusals());
+    named.extend(large());
+    named
+}
+
+fn op(opcode: Opcode, a: u16, b: u16, c: u16) -> Instruction {
+    Instruction { op: opcode as u8, flags: 0, a, b, c }
+}
+
+fn with_flags(flags: u8, instruction: Instruction) -> Instruction {
+    Instruction { flags, ..instruction }
+}
+
+fn imm32(opcode: Opcode, a: u16, value: i32) -> Instruction {
+    let mut instruction = op(opcode, a, 0, 0);
+    instruction.set_imm32(value as u32);
+    instruction
+}
+
+fn load_int(slot: u16, value: i32) -> Instruction {
+    imm32(Opcode::LoadInt, slot, value)
+}
+
+fn load_const(slot: u16, index: u16) -> Instruction {
+    op(Opcode::LoadConst, slot, index, 0)
+}
+
+fn copy(to: u16, from: u16) -> Instruction {
+    op(Opcode::Copy, to, from, 0)
+}
+
+fn jump(delta: i32) -> Instruction {
+    imm32(Opcode::Jump, 0, delta)
+}
+
+fn jump_if(slot: u16, delta: i32) -> Instruction {
+    imm32(Opcode::JumpIf, slot, delta)
+}
+
+fn give_back(slot: u16, count: u16) -> Instruction {
+    op(Opcode::Return, slot, count, 0)
+}
+
+const HINT: Instruction = Instruction { op: Opcode::Hint as u8, flags: 0, a: 0, b: 0, c: 0 };
+
+fn loop_hint(exit: u32) -> Instruction {
+    with_flags(1, imm32(Opcode::Hint, 0, exit as i32))
+}
+
+/// A function of s slots, all Value, without metadata.
+fn function(s: u32, code: &[Instruction]) -> Parts {
+    Parts {
+        code: code.to_vec(),
+        metadata: vec![Metadata::default(); code.len()],
+        local_slots: s,
+        types: vec![TYPE_VALUE; s as usize],
+        ..Parts::default()
+    }
+}
+
+fn with_metadata(mut parts: Parts, place: usize, metadata: Metadata) -> Parts {
+    parts.metadata[place] = metadata;
+    parts
+}
+
+fn with_constant(mut parts: Parts, kind: u8, value: u64) -> Parts {
+    parts.constants.push(Constant::new(kind, value));
+    parts
+}
+
+fn rewritten(retained: &[(u32, Instruction)]) -> Stated {
+    Stated::Rewritten(retained.to_vec())
+}
+
+fn refused(number: u32, place: u32) -> Stated {
+    Stated::Refused { number, place }
+}
+
+/// "Boom notebook examples"
+fn notebook() -> Vec<Named> {
+    use Opcode::{AddF, AddF32, AddI, CopyN};
+    let sum =
+        |left: i32| function(3, &[load_int(0, left), load_int(1, 1), op(AddI, 2, 0, 1), give_back(2, 1)]);
+    let two = |first, second| function(4, &[first, second, give_back(2, 2)]);
+    let add_f = op(AddF, 2, 0, 1);
+    let nothing = |s| function(s, &[op(CopyN, 0, 0, 0), give_back(0, 0)]);
+    vec![
+        Named::new(
+            "listing",
+            function(3, &[load_int(0, 2), load_int(1, 3), op(AddI, 2, 0, 1), give_back(2, 1)]),
+            rewritten(&[(2, load_int(2, 5)), (3, give_back(2, 1))]),
+        ),
+        Named::new(
+            "known 2,147,483,646 + 1",
+            sum(i32::MAX - 1),
+            rewritten(&[(2, load_int(2, i32::MAX)), (3, give_back(2, 1))]),
+        ),
+        Named::new("known 2,147,483,647 + 1", sum(i32::MAX), Stated::Unchanged),
+        Named::new(
+            "AddF twice",
+            two(add_f, op(AddF, 3, 0, 1)),
+            rewritten(&[(0, add_f), (1, copy(3, 2)), (2, give_back(2, 2))]),
+        ),
+        Named::new("AddF then AddF32", two(add_f, op(AddF32, 3, 0, 1)), Stated::Unchanged),
+        Named::new("operands swapped", two(add_f, op(AddF, 3, 1, 0)), Stated::Unchanged),
+        Named::new(
+            "branch to the new length",
+            function(2, &[jump_if(0, 2), give_back(0, 1), load_int(1, 7)]),
+            rewritten(&[(0, jump_if(0, 2)), (1, give_back(0, 1))]),
+        )
+        .cleaned(refused(8, 0), 2),
+        Named::new("two dead stores", function(1, &[load_int(0, 1), load_int(0, 2)]), rewritten(&[]))
+            .cleaned(rewritten(&[]), 2),
+        Named::new(
+            "loop end removed",
+            with_metadata(
+                function(1, &[loop_hint(2), load_int(0, 0), give_back(0, 0)]),
+                0,
+                Metadata::loop_end(1),
+            ),
+            refused(10, 0),
+        ),
+        Named::new("CopyN of 0, s = 1", nothing(1), rewritten(&[(1, give_back(0, 0))])),
+        Named::new("CopyN of 0, s = 0", nothing(0), Stated::Unchanged),
+    ]
+}
+
+/// "Wrong turns"
+fn wrong_turns() -> Vec<Named> {
+    use Opcode::{ConvI2F, CopyN};
+    let flags_apart = [op(ConvI2F, 1, 0, 0), with_flags(1, op(ConvI2F, 2, 0, 0)), give_back(1, 2)];
+    let one_live = [op(CopyN, 0, 2, 2), give_back(1, 1)];
+    let nested = [jump_if(0, 2), jump(2), jump(1), give_back(0, 1)];
+    vec![
+        Named::new(
+            "float 0.0 is no integer 0",
+            with_constant(
+                function(2, &[load_const(0, 0), jump_if(0, 2), give_back(1, 1), give_back(0, 1)]),
+                CONSTANT_FLOAT,
+                0,
+            ),
+            Stated::Unchanged,
+        ),
+        Named::new("flags are part of an expression", function(3, &flags_apart), Stated::Unchanged),
+        Named::new("CopyN with one dead slot", function(4, &one_live), Stated::Unchanged),
+        // Round 1 drops the jump at 2; the one at 1 goes in round 2, when nothing stands between any more.
+        Named::new(
+            "a round goes by the map of its start",
+            function(1, &nested),
+            rewritten(&[(0, jump_if(0, 1)), (3, give_back(0, 1))]),
+        ),
+    ]
+}
+
+/// The readings that the Rust decides.
+fn readings() -> Vec<Named> {
+    use Opcode::{AddI, Call, ForLoop};
+    let hinted = |end: u32, place: usize, code: &[Instruction]| {
+        with_metadata(function(1, code), place, Metadata::loop_end(end))
+    };
+    let wide = [load_const(0, 0), load_const(1, 0), op(AddI, 0, 0, 1), give_back(0, 1)];
+    let equal = [op(AddI, 1, 0, 0), copy(1, 0), op(AddI, 0, 1, 0), give_back(0, 1)];
+    let mut typed = function(3, &[copy(0, 1), copy(2, 0)]);
+    typed.types[2] = TYPE_GC_BASE;
+    let relocated = with_metadata(function(0, &[HINT, give_back(0, 0)]), 1, Metadata::loop_end(1));
+    vec![
+        Named::new(
+            "a loop hint's exit is unsigned",
+            with_metadata(function(0, &[HINT, loop_hint(0x8000_0000)]), 1, Metadata::loop_end(1)),
+            refused(10, 1),
+        ),
+        Named::new(
+            "ForLoop goes from the next place",
+            function(1, &[op(ForLoop, 0, 0, -2_i16 as u16), give_back(0, 1)]),
+            refused(8, 0),
+        ),
+        Named::new(
+            "ForLoop to itself",
+            function(1, &[op(ForLoop, 0, 0, -1_i16 as u16), give_back(0, 1)]),
+            Stated::Unchanged,
+        ),
+        Named::new(
+            "a dropped store's reads, one block",
+            function(1, &[load_int(0, 0), copy(0, 0)]),
+            rewritten(&[]),
+        ),
+        Named::new(
+            "a dropped store's reads, two blocks",
+            function(1, &[load_int(0, 0), jump(1), copy(0, 0)]),
+            rewritten(&[(0, load_int(0, 0))]),
+        ),
+        Named::new(
+            "blocks of the given code",
+            function(1, &[load_int(0, 0), jump_if(0, 1), copy(0, 0)]),
+            rewritten(&[(0, load_int(0, 0))]),
+        ),
+        Named::new(
+            "a loop hint starts no block",
+            hinted(0, 0, &[loop_hint(0), copy(0, 0)]),
+            rewritten(&[(0, loop_hint(0))]),
+        ),
+        Named::new(
+            "a loop hint adds no liveness edge",
+            hinted(2, 0, &[loop_hint(0), load_int(0, 0), jump_if(0, -2)]),
+            refused(10, 0),
+        ),
+        Named::new("no operand is replaced for a destination that is no scalar", typed, Stated::Unchanged),
+        Named::new(
+            "a wide sum's operands are replaced",
+            with_constant(function(2, &wide), CONSTANT_INT, 1 << 30),
+            rewritten(&[(0, load_const(0, 0)), (2, op(AddI, 0, 0, 0)), (3, give_back(0, 1))]),
+        ),
+        Named::new(
+            "an equal expression that stays has its operands replaced",
+            function(2, &equal),
+            rewritten(&[(2, op(AddI, 0, 0, 0)), (3, give_back(0, 1))]),
+        ),
+        Named::new(
+            "a plain hint clears",
+            function(1, &[load_int(0, 0), HINT, jump_if(0, -2)]),
+            rewritten(&[(0, load_int(0, 0)), (2, jump_if(0, -1))]),
+        ),
+        Named::new(
+            "the end of a hint that is not reached",
+            hinted(0, 2, &[jump(1), jump(0), loop_hint(0)]),
+            rewritten(&[(1, jump(0))]),
+        ),
+        Named::new(
+            "LoadConst of an Int is known",
+            with_constant(
+                function(1, &[load_const(0, 0), op(AddI, 0, 0, 0), give_back(0, 1)]),
+                CONSTANT_INT,
+                0,
+            ),
+            rewritten(&[(1, load_int(0, 0)), (2, give_back(0, 1))]),
+        ),
+        Named::new(
+            "flags do not stop folding",
+            function(1, &[load_int(0, 0), with_flags(1, op(AddI, 0, 0, 0)), give_back(0, 1)]),
+            rewritten(&[(1, load_int(0, 0)), (2, give_back(0, 1))]),
+        ),
+        Named::new("LoopEnd of a Return is not relocated", relocated, rewritten(&[(1, give_back(0, 0))])),
+        Named::new(
+            "pass 2 runs on one instruction",
+            function(1, &[HINT, give_back(0, 1)]),
+            rewritten(&[(1, give_back(0, 1))]),
+        )
+        .cleaned(rewritten(&[(1, give_back(0, 1))]), 2),
+        Named::new(
+            "a call past the section",
+            function(1, &[op(Call, 0, 0, 0), give_back(0, 1)]),
+            refused(6, 0),
+        ),
+        Named::new(
+            "the function under work is no entry",
+            Parts {
+                functions: vec![Function { param_slots: 0, ret_slots: 0 }],
+                ..function(1, &[op(Call, 1, 0, 0), give_back(0, 1)])
+            },
+            refused(6, 0),
+        ),
+    ]
+}
+
+/// Refusals and their order where a reader may doubt them.
+fn refusals() -> Vec<Named> {
+    let with_case = |kind, has_ok| Parts {
+        cases: vec![Case { kind, has_ok, ..Case::default() }],
+        ..function(1, &[HINT, give_back(0, 1)])
+    };
+    let one_too_many = Metadata { first: 1, second: 1, ..Metadata::new(Kind::SelectExecLayout) };
+    // The Rust walks from the branch's target first and gives no place.
+    let unsound = [jump_if(0, 3), loop_hint(0), give_back(0, 1), loop_hint(0)];
+    let behind_jump = [jump(2), loop_hint(0), loop_hint(0), give_back(0, 0)];
+    let removed = |first: u32, second: u32| {
+        let code = [loop_hint(first), loop_hint(second), load_int(0, 0), give_back(0, 0)];
+        let ends = with_metadata(function(1, &code), 0, Metadata::loop_end(3));
+        with_metadata(ends, 1, Metadata::loop_end(2))
+    };
+    vec![
+        Named::new("has_ok of a send case is 0 or 1", with_case(Case::SEND, 2), refused(1, 0))
+            .cleaned(refused(1, 0), 1),
+        Named::new("a case of kind 2", with_case(2, 0), refused(1, 0)),
+        Named::new(
+            "first case plus number one too many",
+            with_metadata(with_case(Case::RECEIVE, 1), 0, one_too_many),
+            refused(1, 0),
+        ),
+        Named::new("no instruction", function(0, &[]), Stated::Unchanged).cleaned(Stated::Unchanged, 1),
+        Named::new(
+            "defer comes before a wrong count of types",
+            Parts { defer: 1, types: vec![], ..function(1, &[HINT, HINT]) },
+            Stated::Unchanged,
+        ),
+        Named::new(
+            "a wrong count of metadata comes before one of types",
+            Parts { metadata: vec![], types: vec![], ..function(1, &[HINT, HINT]) },
+            refused(3, 0),
+        ),
+        Named::new("types are not s", Parts { types: vec![], ..function(1, &[HINT, HINT]) }, refused(4, 0)),
+        Named::new("an unreachable branch leaves", function(0, &[give_back(0, 0), jump(1)]), refused(8, 1)),
+        Named::new("the lowest of two unsound hints", function(1, &unsound), refused(9, 1)),
+        Named::new("an unsound hint that is not reached", function(1, &behind_jump), refused(9, 2)),
+        Named::new("the lowest hint that cannot be moved, by its end", removed(4, 5), refused(10, 1)),
+        Named::new("the lowest hint that cannot be moved, by its exit", removed(5, 4), refused(10, 0)),
+        Named::new("exits at n", removed_nothing(), rewritten(&[(1, loop_hint(2)), (2, give_back(0, 0))])),
+    ]
+}
+
+/// A sound loop hint with its exit at n, and a plain hint that goes.
+fn removed_nothing() -> Parts {
+    with_metadata(function(0, &[HINT, loop_hint(3), give_back(0, 0)]), 1, Metadata::loop_end(2))
+}
+
+/// Examples too large for the recorded answers.
+fn large() -> Vec<Named> {
+    vec![
+        Named::new("sixteen jumps", row_of_jumps(16), row_without_jumps(16, &[])).not_recorded(),
+        Named::new("seventeen jumps: one stays", row_of_jumps(17), row_without_jumps(17, &[17]))
+            .not_recorded(),
+        Named::new("n = 65,536 is worked on", hints(65_536), rewritten(&[])).not_recorded(),
+        Named::new("n = 65,537 is unchanged", hints(65_537), Stated::Unchanged).not_recorded(),
+    ]
+}
+
+fn hints(n: usize) -> Parts {
+    function(0, &vec![HINT; n])
+}
+
+/// "Sixteen jumps in a row to the place after them, each also branched to"
+fn row_of_jumps(jumps: i32) -> Parts {
+    let branches = (0..jumps).map(|_| jump_if(0, jumps));
+    let row = (0..jumps).map(|place| jump(jumps - place));
+    let code: Vec<_> = branches.chain(row).chain([give_back(0, 1)]).collect();
+    function(1, &code)
+}
+
+/// The row's branches and Return, with only the jumps at these old places between them.
+fn row_without_jumps(jumps: i32, kept: &[u32]) -> Stated {
+    let row = jumps;
+    let end = row + kept.len() as i32;
+    let mut retained: Vec<(u32, Instruction)> = (0..jumps)
+        .map(|place| {
+            let jump = (row + place) as u32;
+            let target = row + kept.iter().filter(|&&old| old < jump).count() as i32;
+            (place as u32, jump_if(0, target - place))
+        })
+        .collect();
+    retained.extend(kept.iter().map(|&old| (old, jump(1))));
+    retained.push(((row + jumps) as u32, give_back(0, 1)));
+    assert_eq!(retained.len() as i32, end + 1);
+    Stated::Rewritten(retained)
+}

@@ -1,0 +1,25 @@
+//! The reference: volang's optimize.rs, pc_map.rs, instruction.rs and instruction_effects.rs, compiled
+//! unchanged (build.rs copies them), with stand-ins for the modules that they lean on.
+//!
+//! Document 01: "The reference is `optimize_function`; the wrapper above it is `clean_function`, of which the
+//! up-to-three-pass loop is ported too." What the Rust gives back becomes document 01's answers in `answers`.
+
+// The copied files name both crates; here they are one.
+extern crate self as vo_common_core;
+
+mod answers;
+mod bytecode;
+mod debug_info;
+mod loop_hint;
+mod prepared;
+mod types;
+
+include!(concat!(env!("OUT_DIR"), "/modules.rs"));
+
+// The copied files find these two at the crate's root.
+use bytecode::InstructionMetadata;
+use types::SlotType;
+
+pub use answers::{clean, pass};
+pub use instruction::Opcode;
+pub use prepared::Prepared;

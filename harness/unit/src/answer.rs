@@ -1,0 +1,63 @@
+//! Document 01's answers and their text forms.
+
+use crate::hex;
+use crate::result::Rewritten;
+use std::fmt;
+
+/// The answer of one pass.
+#[derive(Clone, Debug, Eq, PartialEq)]
+pub enum Answer {
+    Unchanged,
+    Refused {
+        number: u32,
+        place: u32,
+    },
+    /// The output's first 16 + 28n' bytes.
+    Rewritten {
+        bytes: Vec<u8>,
+    },
+}
+
+impl Answer {
+    /// "refused 1, place 0: unit not as above"
+    pub const NO_UNIT: Self = Self::Refused { number: 1, place: 0 };
+
+    pub fn rewritten(result: &Rewritten) -> Self {
+        Self::Rewritten { bytes: result.encode() }
+    }
+}
+
+/// The answer of the cleaning: it "adds the number of the last pass run, 1 where none ran".
+#[derive(Clone, Debug, Eq, PartialEq)]
+pub struct Cleaned {
+    pub answer: Answer,
+    pub pass: u32,
+}
+
+/// A rewritten answer's n', the first word of its bytes.
+fn retained(bytes: &[u8]) -> u32 {
+    u32::from_le_bytes(bytes[..4].try_into().unwrap())
+}
+
+/// `unchanged`, `refused K P` or `rewritten N HEX`.
+impl fmt::Display for Answer {
+    fn fmt(&self, f: &mut fmt::Formatter) -> fmt::Result {
+        match self {
+            Self::Unchanged => write!(f, "unchanged"),
+            Self::Refused { number, place } => write!(f, "refused {number} {place}"),
+            Self::Rewritten { bytes } => write!(f, "rewritten {} {}", retained(bytes), hex::encode(bytes)),
+        }
+    }
+}
+
+/// `unchanged J`, `refused K P J` or `rewritten N J HEX`.
+impl fmt::Display for Cleaned {
+    fn fmt(&self, f: &mut fmt::Formatter) -> fmt::Result {
+        match &self.answer {
+            Answer::Rewritten { bytes } => {
+                write!(f, "rewritten {} {} {}", retained(bytes), self.pass, hex::encode(bytes))
+            }
+            answer => write!(f, "{answer} {}", self.pass),
+        }
+    }
+}

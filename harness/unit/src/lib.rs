@@ -1,0 +1,19 @@
+//! Document 01's layout: the unit, the result, the answers and the lent buffers.
+//!
+//! Written from document 01 alone. Everything is little-endian.
+
+mod answer;
+pub mod buffers;
+mod entries;
+pub mod hex;
+mod parts;
+mod result;
+mod section;
+
+pub use answer::{Answer, Cleaned};
+pub use entries::{Case, Constant, Entry, Function, Instruction, Kind, Metadata};
+pub use entries::{CONSTANT_BOOL, CONSTANT_FLOAT, CONSTANT_INT, CONSTANT_NIL, CONSTANT_STRING};
+pub use entries::{TYPE_FLOAT, TYPE_GC_BASE, TYPE_VALUE};
+pub use parts::Parts;
+pub use result::{Retained, Rewritten, RESULT_HEADER_LEN};
+pub use section::{Header, Section, Unit, HEADER_LEN, MAX_LOCAL_SLOTS};

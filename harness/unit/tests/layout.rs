@@ -1,0 +1,172 @@
+//! The unit's and the result's layout, byte by byte, and the sizes of the lent buffers.
+
+use unit::buffers;
+use unit::{
+    Answer, Case, Cleaned, Constant, Function, Instruction, Kind, Metadata, Parts, Retained, Rewritten,
+};
+use unit::{Section, Unit, CONSTANT_BOOL, CONSTANT_NIL, CONSTANT_STRING, HEADER_LEN};
+
+/// A unit with entries in every section, all fields different.
+fn whole() -> Parts {
+    Parts {
+        code: vec![Instruction { op: 1, flags: 2, a: 0x0304, b: 0x0506, c: 0x0708 }; 2],
+        metadata: vec![Metadata { kind: 12, has_ok: 1, array_len: 0x0a0b, first: 1, second: 1, end_pc: 9 }],
+        local_slots: 65_535,
+        types: vec![0, 5, 1],
+        defer: 1,
+        constants: vec![Constant { kind: 1, unread: [1, 2, 3, 4, 5, 6, 7], value: 1 }],
+        functions: vec![Function { param_slots: 0x0102, ret_slots: 0x0304 }],
+        externs: vec![0x0506],
+        cases: vec![Case::default(), Case { kind: 1, has_ok: 1, queue: 2, slot: 3, elem_slots: 4 }],
+    }
+}
+
+fn is_unit(parts: &Parts) -> bool {
+    Unit::check(&parts.encode()).is_some()
+}
+
+#[test]
+fn bytes_of_a_unit() {
+    let bytes = whole().encode();
+    let words: Vec<u32> =
+        bytes[..HEADER_LEN].chunks(4).map(|word| u32::from_le_bytes(word.try_into().unwrap())).collect();
+    assert_eq!(words, [2, 1, 65_535, 3, 1, 1, 1, 1, 2, 64, 80, 96, 99, 115, 119, 121]);
+    assert_eq!(bytes[64..72], [1, 2, 4, 3, 6, 5, 8, 7]);
+    assert_eq!(bytes[80..96], [12, 1, 0x0b, 0x0a, 1, 0, 0, 0, 1, 0, 0, 0, 9, 0, 0, 0]);
+    assert_eq!(bytes[96..99], [0, 5, 1]);
+    assert_eq!(bytes[99..115], [1, 1, 2, 3, 4, 5, 6, 7, 1, 0, 0, 0, 0, 0, 0, 0]);
+    assert_eq!(bytes[115..121], [2, 1, 4, 3, 6, 5]);
+    assert_eq!(bytes[121..], [0, 0, 0, 0, 0, 0, 0, 0, 1, 1, 2, 0, 3, 0, 4, 0]);
+}
+
+#[test]
+fn decoding_undoes_encoding() {
+    let bytes = whole().encode();
+    let unit = Unit::check(&bytes).unwrap();
+    assert_eq!(Parts::decode(&unit), whole());
+    assert_eq!(unit.section(Section::Externs), [6, 5]);
+    assert_eq!(unit.bytes(), bytes);
+}
+
+#[test]
+fn a_unit_ends_where_its_sections_do() {
+    let bytes = whole().encode();
+    assert!(Unit::check(&[]).is_none());
+    for len in 0..bytes.len() {
+        assert!(Unit::check(&bytes[..len]).is_none(), "{len} bytes");
+    }
+    assert!(Unit::check(&[bytes, vec![0]].concat()).is_none());
+    assert!(is_unit(&Parts::default()));
+}
+
+/// Every header word but s and defer, which are free within their limits, is bound by the others.
+#[test]
+fn header_words() {
+    let bytes = whole().encode();
+    for word in 0..16 {
+        for changed in [1, 8, 1 << 28, 1 << 29, 1 << 30, 1 << 31, u32::MAX] {
+            let mut damaged = bytes.clone();
+            let old = u32::from_le_bytes(bytes[4 * word..4 * word + 4].try_into().unwrap());
+            let new = old.wrapping_add(changed);
+            damaged[4 * word..4 * word + 4].copy_from_slice(&new.to_le_bytes());
+            let free = (word == 2 && new <= 65_535) || (word == 4 && new <= 1);
+            assert_eq!(Unit::check(&damaged).is_some(), free, "word {word}: {new}");
+        }
+    }
+}
+
+#[test]
+fn entries() {
+    let with = |change: fn(&mut Parts)| {
+        let mut parts = whole();
+        change(&mut parts);
+        is_unit(&parts)
+    };
+    assert!(!with(|parts| parts.local_slots = 65_536));
+    assert!(!with(|parts| parts.defer = 2));
+    assert!(with(|parts| parts.metadata[0].kind = 15));
+    assert!(!with(|parts| parts.metadata[0].kind = 16));
+    for kind in Kind::ALL {
+        let has_ok = |has_ok| {
+            let mut parts = whole();
+            parts.metadata[0] = Metadata { has_ok, ..Metadata::new(kind) };
+            is_unit(&parts)
+        };
+        assert!(has_ok(1) && !has_ok(2), "{kind:?}");
+    }
+    assert!(!with(|parts| parts.types[2] = 6));
+    assert!(!with(|parts| parts.constants[0].kind = 5));
+    assert!(!with(|parts| parts.constants[0].value = 2));
+    assert!(!with(|parts| parts.constants[0].value = 1 << 63));
+    assert!(with(|parts| parts.constants[0] = Constant::new(CONSTANT_BOOL, 0)));
+    assert!(with(|parts| parts.constants[0] = Constant::new(CONSTANT_NIL, 2)));
+    assert!(with(|parts| parts.constants[0] = Constant::new(CONSTANT_STRING, u64::MAX)));
+    assert!(!with(|parts| parts.cases[0].kind = 2));
+    assert!(!with(|parts| parts.cases[0].has_ok = 2));
+    assert!(!with(|parts| parts.cases[1].has_ok = 2));
+}
+
+#[test]
+fn first_case_plus_number() {
+    let fits = |kind: Kind, first: u32, second: u32| {
+        let mut parts = whole();
+        parts.metadata[0] = Metadata { first, second, ..Metadata::new(kind) };
+        is_unit(&parts)
+    };
+    for (first, second) in [(0, 0), (0, 2), (1, 1), (2, 0)] {
+        assert!(fits(Kind::SelectExecLayout, first, second));
+    }
+    for (first, second) in
+        [(0, 3), (1, 2), (2, 1), (3, 0), (u32::MAX, 1), (1, u32::MAX), (u32::MAX, u32::MAX)]
+    {
+        assert!(!fits(Kind::SelectExecLayout, first, second));
+        assert!(fits(Kind::CallLayout, first, second));
+    }
+}
+
+#[test]
+fn result() {
+    let retained = |old_place| Retained {
+        instruction: Instruction { op: 1, flags: 0, a: 2, b: 3, c: 4 },
+        metadata: Metadata::loop_end(7),
+        old_place,
+    };
+    let result = Rewritten { retained: vec![retained(5), retained(6)] };
+    let bytes = result.encode();
+    assert_eq!(bytes.len() as u64, buffers::output(2));
+    assert_eq!(bytes[..16], [2, 0, 0, 0, 16, 0, 0, 0, 32, 0, 0, 0, 64, 0, 0, 0]);
+    assert_eq!(bytes[64..], [5, 0, 0, 0, 6, 0, 0, 0]);
+    assert_eq!(Rewritten::decode(&bytes), Some(result));
+    assert_eq!(Rewritten::decode(&bytes[1..]), None);
+    let empty = Rewritten { retained: vec![] }.encode();
+    assert_eq!(empty, [0, 0, 0, 0, 16, 0, 0, 0, 16, 0, 0, 0, 16, 0, 0, 0]);
+}
+
+#[test]
+fn texts() {
+    let refused = Answer::Refused { number: 8, place: 3 };
+    let rewritten = Answer::rewritten(&Rewritten { retained: vec![] });
+    let hex = "00000000100000001000000010000000";
+    assert_eq!(Answer::Unchanged.to_string(), "unchanged");
+    assert_eq!(refused.to_string(), "refused 8 3");
+    assert_eq!(rewritten.to_string(), format!("rewritten 0 {hex}"));
+    let cleaned = |answer, pass| Cleaned { answer, pass }.to_string();
+    assert_eq!(cleaned(Answer::Unchanged, 1), "unchanged 1");
+    assert_eq!(cleaned(refused, 2), "refused 8 3 2");
+    assert_eq!(cleaned(rewritten, 3), format!("rewritten 0 3 {hex}"));
+}
+
+#[test]
+fn sizes_of_buffers() {
+    assert_eq!(buffers::output(3), 100);
+    assert_eq!(buffers::work32(3), 64);
+    assert_eq!(buffers::spare(3), 200);
+    assert_eq!(buffers::work64(3, 0), 72);
+    // w = 1: 24 × 3 + 4 × 64 + 1 + 3 × 1 × 3
+    assert_eq!(buffers::work64(3, 64), 338);
+    assert_eq!(buffers::work64(3, 65), 72 + 260 + 2 + 18);
+    // w = 1,024: no more than 2,048 blocks
+    assert_eq!(buffers::work64(65_536, 65_535), 1_572_864 + 262_140 + 1_024 + 3 * 1_024 * 2_048);
+    // w = 1,000: 2,097,152 / 1,000 rounded down
+    assert_eq!(buffers::work64(65_536, 64_000), 1_572_864 + 256_000 + 1_000 + 3 * 1_000 * 2_097);
+}
