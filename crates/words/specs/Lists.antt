@@ -59,3 +59,8 @@ tabulate n f = tabulateFrom 0 n f
 unfoldable pub sum : List ℕ → ℕ
 sum [] = 0
 sum (x ∷ xs) = x + sum xs
+
+-- f at each element and its place, counted from p
+unfoldable pub mapFrom {ℓ ℓ′} : {A : Type ℓ} {B : Type ℓ′} → (ℕ → A → B) → ℕ → List A → List B
+mapFrom f p [] = []
+mapFrom f p (x ∷ xs) = f p x ∷ mapFrom f (suc p) xs

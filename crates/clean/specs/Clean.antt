@@ -1,0 +1,66 @@
+-- "Cleaning stops at the first pass that does not rewrite, or after 3, and adds the number of the last pass run, 1 where none ran."
+-- Assumes nothing.
+use mathlib.Core.Bool.{Bool, true, false, cond, _&&_}
+use mathlib.Core.List.{List, [], _∷_, map}
+use Prim.Native.Nat.{ℕ, zero, suc}
+use lib.Dec.{leb}
+use lib.ListN.{length, getD}
+use Rattle.unit.specs.declared.Header.{Header}
+use Rattle.unit.specs.Refusal.{notUnit, shortBuffer}
+use Rattle.unit.specs.Size.{spareRoom}
+use Rattle.unit.specs.Layout.{headerOf, isUnit}
+use Rattle.unit.specs.Result.{Retained}
+use Rattle.effects.specs.Shape.{Sections, Cell}
+use Rattle.optimize.specs.Pass.{Outcome, unchanged, refused, rewritten, pass, optimized}
+use Rattle.optimize.specs.Answer.{Lent, cellsOf, sectionsOf, roomFor, isLeft, countsChecked}
+
+-- an outcome and the number of the last pass run
+pub record Cleaned : Type 0 where
+  pub outcome : Outcome
+  pub passes : ℕ
+
+abbrev pub cellOf : Retained → Cell
+cellOf r = record { instruction = r .instruction; metadata = r .metadata }
+
+abbrev pub cellsAfter : List Retained → List Cell
+cellsAfter kept = map cellOf kept
+
+-- "with old places in the given unit": the place of a later pass is one of the code before it
+unfoldable pub placedBy : List Retained → List Retained → List Retained
+placedBy before [] = []
+placedBy before (r ∷ rs) =
+    record { instruction = r .instruction; metadata = r .metadata; place = getD (map (λ (x : Retained). x .place) before) (r .place) 0 }
+    ∷ placedBy before rs
+
+-- what pass j made of the code `before`; where it rewrote, the passes after it go on.
+-- "otherwise it gives the last rewritten code"; "A refusal in any pass leaves the output untouched"
+unfoldable pub afterPass : ℕ → List Retained → (List Retained → Cleaned) → Outcome → Cleaned
+afterPass j before later unchanged = record { outcome = rewritten before; passes = j }
+afterPass j before later (refused k p) = record { outcome = refused k p; passes = j }
+afterPass j before later (rewritten kept) = later kept
+
+-- up to k passes more, where pass j retained `before`
+unfoldable pub cleanFrom : Sections → ℕ → ℕ → List Retained → Cleaned
+unfolding afterPass
+cleanFrom S zero j before = record { outcome = rewritten before; passes = j }
+cleanFrom S (suc k) j before =
+    afterPass (suc j) before (λ kept. cleanFrom S k (suc j) (placedBy before kept)) (pass S (cellsAfter before))
+
+-- "It is unchanged if pass 1 is"
+unfoldable pub cleanedFirst : Sections → Outcome → Cleaned
+unfolding cleanFrom
+cleanedFirst S unchanged = record { outcome = unchanged; passes = 1 }
+cleanedFirst S (refused k p) = record { outcome = refused k p; passes = 1 }
+cleanedFirst S (rewritten kept) = cleanFrom S 2 1 kept
+
+-- the cleaning also needs spare bytes
+unfoldable pub cleanAnswer : List ℕ → Lent → ℕ → Cleaned
+unfolding cleanedFirst
+cleanAnswer u l spare =
+    let h = headerOf u in
+    let worked = optimized (sectionsOf u) (cellsOf u) in
+    let counted = countsChecked h worked in
+    let room = roomFor h l && leb (spareRoom (h .counts .instructions)) spare in
+    let lent = cond room counted (refused shortBuffer 0) in
+    let left = cond (isLeft h) unchanged lent in
+    cleanedFirst (sectionsOf u) (cond (isUnit u) left (refused notUnit 0))

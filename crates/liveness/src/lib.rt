@@ -1,0 +1,1 @@
+// Live slots, and stores that nothing reads.

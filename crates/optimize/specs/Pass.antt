@@ -1,0 +1,80 @@
+-- One pass over the cells of a function: the answers from refusal 5 on, in the order of document 01's table.
+-- Assumes nothing.
+use mathlib.Core.Bool.{Bool, true, false, cond, _&&_, not}
+use mathlib.Core.List.{List, [], _∷_}
+use Prim.Native.Nat.{ℕ, suc}
+use lib.Dec.{eqb, ltb}
+use lib.ListN.{length, getD}
+use Rattle.words.specs.Lists.{mapFrom}
+use Rattle.instruction.specs.declared.Instruction.{Instruction}
+use Rattle.instruction.specs.Instruction.{toWord}
+use Rattle.unit.specs.Result.{Retained}
+use Rattle.unit.specs.Size.{maxInstructions}
+use Rattle.effects.specs.declared.Check.{Check}
+use Rattle.effects.specs.declared.Check.the-variants.{Passed, Refused}
+use Rattle.effects.specs.Shape.{Sections, Cell}
+use Rattle.effects.specs.Check.{operandCheck}
+use Rattle.flow.specs.Branch.{branchCheck}
+use Rattle.flow.specs.Block.{leaders}
+use Rattle.flow.specs.Loop.{reachedPlaces, loopCheck, anchors, isPlainHint}
+use Rattle.values.specs.Number.{numberCode}
+use Rattle.pc_map.specs.Relocate.{relocationCheck, retainFrom}
+use Rattle.liveness.specs.Dead.{deadStores}
+use Rattle.optimize.specs.Jump.{jumpRounds}
+
+-- What a pass or the cleaning returns: unchanged, refused with number and place, or the retained instructions.
+pub data Outcome : Type 0 where
+  unchanged : Outcome
+  refused : ℕ → ℕ → Outcome
+  rewritten : List Retained → Outcome
+
+-- go on where a check passed
+unfoldable pub checked : Check → Outcome → Outcome
+checked Passed rest = rest
+checked (Refused k p) rest = refused k p
+
+unfoldable pub sameCode : List Cell → List Cell → Bool
+sameCode [] [] = true
+sameCode [] (y ∷ ys) = false
+sameCode (x ∷ xs) [] = false
+sameCode (x ∷ xs) (y ∷ ys) = eqb (toWord (x .instruction)) (toWord (y .instruction)) && sameCode xs ys
+
+unfoldable pub allKept : List ℕ → Bool
+allKept [] = true
+allKept (k ∷ ks) = eqb k 1 && allKept ks
+
+-- "unreachable code ..; Hint with flags 0"
+unfoldable pub usefulPlaces : List ℕ → List Cell → List ℕ
+usefulPlaces marks cells = mapFrom (λ p x. cond (isPlainHint (x .instruction)) 0 (getD marks p 0)) 0 cells
+
+-- the places that one pass retains, of the numbered code, with the blocks of the given code
+unfoldable pub keptPlaces : Sections → List ℕ → List ℕ → List Cell → List ℕ
+unfolding usefulPlaces
+keptPlaces S leads marks code = jumpRounds 16 (anchors marks code) code (deadStores S leads (usefulPlaces marks code) code)
+
+-- "unchanged: same code, all kept", then refusal 10, then "rewritten, n'"
+unfoldable pub removal : List Cell → List Cell → List ℕ → Outcome
+unfolding sameCode allKept checked
+removal cells code keep =
+    let moved = checked (relocationCheck keep code) (rewritten (retainFrom keep 0 code)) in
+    cond (sameCode cells code && allKept keep) unchanged moved
+
+-- refusals 5 to 10, unchanged and rewritten, of a function that is worked on
+unfoldable pub optimized : Sections → List Cell → Outcome
+unfolding checked removal keptPlaces
+optimized S cells =
+    let leads = leaders cells in
+    let code = numberCode S leads cells in
+    let marks = reachedPlaces code in
+    let swept = removal cells code (keptPlaces S leads marks code) in
+    let sound = checked (loopCheck marks code) swept in
+    let inside = checked (branchCheck cells) sound in
+    checked (operandCheck S cells) inside
+
+-- "unchanged: n under 2, above 65,536" comes before all of them
+unfoldable pub isWorkedOn : ℕ → Bool
+isWorkedOn n = ltb 1 n && not (ltb maxInstructions n)
+
+unfoldable pub pass : Sections → List Cell → Outcome
+unfolding isWorkedOn optimized
+pass S cells = let worked = optimized S cells in cond (isWorkedOn (length cells)) worked unchanged

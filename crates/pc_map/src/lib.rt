@@ -1,0 +1,1 @@
+// Places of the retained instructions, and relocation.

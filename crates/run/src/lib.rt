@@ -1,0 +1,1 @@
+// How a function runs, and that optimized functions run alike.
