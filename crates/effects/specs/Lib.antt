@@ -2,3 +2,5 @@ pub mod Shape
 pub mod Table
 pub mod Effects
 pub mod Check
+pub mod Cells
+pub mod Laws

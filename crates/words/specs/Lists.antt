@@ -1,11 +1,15 @@
 -- Tests over lists and over the numbers below a bound.
 -- Assumes nothing.
-use mathlib.Core.Path.{_≡_, refl}
+use mathlib.Core.Path.{_≡_, refl, ap, _∙_}
 use mathlib.Core.Bool.{Bool, true, false, cond}
-use mathlib.Core.List.{List, [], _∷_}
+use mathlib.Core.List.{List, [], _∷_, _++_}
 use Prim.Native.Nat.{ℕ, zero, suc, _+_, _<_}
 use native.Mathlib.Omega.{arith}
+use native.Mathlib.Nat.{add-zero, zero-add, add-suc, suc-add, add-assoc}
+use native.Mathlib.Numerals.{add-one}
 use lib.Dec.{eqb}
+use lib.ListN.{length, getD, take}
+use lib.Seq.{take-suc}
 use borrow.Author.Tests.{eqb-true, eqb-false}
 
 -- is x among these?
@@ -64,3 +68,47 @@ sum (x ∷ xs) = x + sum xs
 unfoldable pub mapFrom {ℓ ℓ′} : {A : Type ℓ} {B : Type ℓ′} → (ℕ → A → B) → ℕ → List A → List B
 mapFrom f p [] = []
 mapFrom f p (x ∷ xs) = f p x ∷ mapFrom f (suc p) xs
+
+-- ---- laws
+
+module _ {A B : Type 0} where
+  pub length-mapFrom : (f : ℕ → A → B) (p : ℕ) (l : List A) → length (mapFrom f p l) ≡ length l
+  unfolding mapFrom
+  length-mapFrom f p [] = refl
+  length-mapFrom f p (x ∷ xs) = ap suc (length-mapFrom f (suc p) xs)
+
+  pub getD-mapFrom : (f : ℕ → A → B) (p : ℕ) (l : List A) (k : ℕ) (d : A) (e : B) → k < length l → getD (mapFrom f p l) k e ≡ f (p + k) (getD l k d)
+  unfolding mapFrom
+  getD-mapFrom f p [] k d e h = absurd (omega arith)
+  getD-mapFrom f p (x ∷ xs) zero d e h = rw add-zero
+  getD-mapFrom f p (x ∷ xs) (suc k) d e h = getD-mapFrom f (suc p) xs k d e (omega arith) ∙ rw (suc-add p k, add-suc p k)
+
+module _ {A : Type 0} where
+  pub length-tabulateFrom : (p k : ℕ) (f : ℕ → A) → length (tabulateFrom p k f) ≡ k
+  unfolding tabulateFrom
+  length-tabulateFrom p zero f = refl
+  length-tabulateFrom p (suc k) f = ap suc (length-tabulateFrom (suc p) k f)
+
+  pub getD-tabulateFrom : (p k : ℕ) (f : ℕ → A) (i : ℕ) (d : A) → i < k → getD (tabulateFrom p k f) i d ≡ f (p + i)
+  unfolding tabulateFrom
+  getD-tabulateFrom p zero f i d h = absurd (omega arith)
+  getD-tabulateFrom p (suc k) f zero d h = rw add-zero
+  getD-tabulateFrom p (suc k) f (suc i) d h = getD-tabulateFrom (suc p) k f i d (omega arith) ∙ rw (suc-add p i, add-suc p i)
+
+  pub length-tabulate : (n : ℕ) (f : ℕ → A) → length (tabulate n f) ≡ n
+  unfolding tabulate
+  length-tabulate n f = length-tabulateFrom 0 n f
+
+  pub getD-tabulate : (n : ℕ) (f : ℕ → A) (i : ℕ) (d : A) → i < n → getD (tabulate n f) i d ≡ f i
+  unfolding tabulate
+  getD-tabulate n f i d h = getD-tabulateFrom 0 n f i d h ∙ rw zero-add
+
+pub sum-append : (xs ys : List ℕ) → sum (xs ++ ys) ≡ sum xs + sum ys
+unfolding sum
+sum-append [] ys = rw zero-add
+sum-append (x ∷ xs) ys = rw (sum-append xs ys, add-assoc)
+
+-- one element more
+pub sum-take : (l : List ℕ) (p : ℕ) → p < length l → sum (take (p + 1) l) ≡ sum (take p l) + getD l p 0
+unfolding sum
+sum-take l p h = rw (add-one p, take-suc l p 0 h) (sum-append (take p l) (getD l p 0 ∷ []) ∙ rw add-zero)
