@@ -1,7 +1,9 @@
 // The unit: its header, its sections and their entries; the result's layout; the sizes of lent buffers.
 pub mod entry;
+pub mod parse;
 pub mod refusal;
 pub mod result;
+pub mod section;
 pub mod size;
 
 // How many entries each section has, and the function's local slots and defer flag.

@@ -1,12 +1,11 @@
 use native.Mathlib.Omega.{arith}
-use Rattle.unit.proofs.Writing.{four-words, head-bytes}
-use Rattle.unit.specs.Entry.{metadataBytes}
+use Rattle.unit.proofs.Writing.{four-words}
+use Rattle.unit.specs.Laws.{metadata-words}
 use borrow.Author.Needs.{needs}
 use Rattle.unit.proofs.entry.write_metadata.Statement.{statement}
 use Rattle.unit.proofs.entry.write_metadata.Tie as tie
 
 returns : tie.Need-returns
-unfolding metadataBytes
 returns c =
     let fourth = c .before .before in
     let third = fourth .before .before .before .before in
@@ -15,7 +14,7 @@ returns c =
     let known = first .before .before in
     let a = known .before .before .before .before .args in
     let m = a .m in
-    rw (← head-bytes (m .kind) (m .ok) (m .array) (omega arith) (omega arith) (omega arith))
+    rw (metadata-words m (omega arith) (omega arith) (omega arith))
     (four-words (a .at) _ (m .first) (m .second) (m .end) (a .d .now) (omega arith)
     (first .write-u32 .ensures)
     (second .write-u322 .ensures)
