@@ -1,3 +1,4 @@
 pub mod Opcode
 pub mod Class
 pub mod Instruction
+pub mod Laws

@@ -1,9 +1,10 @@
 // The unit: its header, its sections and their entries; the result's layout; the sizes of lent buffers.
-ghost use mathlib.Core.Path.{_≡_};
-ghost use mathlib.Core.Bool.{true};
-ghost use Prim.Native.Nat.{_+_, _*_, _≤_, _<_};
-ghost use lib.ListN.{length};
-ghost use Rattle.unit.specs.Layout.{headerOf, layoutOf, isUnit};
+pub mod entry;
+pub mod parse;
+pub mod refusal;
+pub mod result;
+pub mod section;
+pub mod size;
 
 // How many entries each section has, and the function's local slots and defer flag.
 pub struct Counts {

@@ -1,4 +1,5 @@
 pub mod Regions
+pub mod Inside
 pub mod Le
 pub mod Word
 pub mod Bits

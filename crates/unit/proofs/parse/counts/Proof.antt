@@ -1,0 +1,32 @@
+use Rattle.unit.specs.Layout.{headerOf}
+use borrow.Author.Needs.{needs}
+use Rattle.unit.proofs.parse.counts.Statement.{statement}
+use Rattle.unit.proofs.parse.counts.Tie as tie
+
+returns : tie.Need-returns
+unfolding headerOf
+returns c = cc
+
+pub counts-spec : {M : Type 1} → statement M
+counts-spec =
+    tie.close
+    (tie.spec
+    (λ c κs. search needs)
+    (λ c. search needs)
+    (λ c κs. search needs)
+    (λ c. search needs)
+    (λ c κs. search needs)
+    (λ c. search needs)
+    (λ c κs. search needs)
+    (λ c. search needs)
+    (λ c κs. search needs)
+    (λ c. search needs)
+    (λ c κs. search needs)
+    (λ c. search needs)
+    (λ c κs. search needs)
+    (λ c. search needs)
+    (λ c κs. search needs)
+    (λ c. search needs)
+    (λ c κs. search needs)
+    (λ c. search needs)
+    returns)

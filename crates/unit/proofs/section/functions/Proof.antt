@@ -1,0 +1,19 @@
+use native.Mathlib.Omega.{arith}
+use Rattle.unit.specs.Layout.{headerOf}
+use Rattle.unit.specs.Laws.{unit-laid}
+use borrow.Author.Needs.{needs}
+use Rattle.unit.proofs.section.functions.Statement.{statement}
+use Rattle.unit.proofs.section.functions.Tie as tie
+
+part-requires : tie.Need-part-requires
+unfolding headerOf
+part-requires c κs =
+    let l = unit-laid (c .before .args .unit .now) (c .before .pre) in
+    (l .header, omega arith, omega arith, omega arith, l .within .functions)
+
+returns : tie.Need-returns
+unfolding headerOf
+returns c = c .part .ensures
+
+pub functions-spec : {M : Type 1} → statement M
+functions-spec = tie.close (tie.spec part-requires returns)

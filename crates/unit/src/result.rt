@@ -1,0 +1,33 @@
+// The result: its header, and where its sections start.
+ghost use mathlib.Core.Path.{_≡_};
+ghost use Prim.Native.Nat.{_≤_};
+ghost use lib.ListN.{length};
+ghost use borrow.Rule.Slice.PartMut.{putMid};
+ghost use Rattle.unit.specs.Size.{maxInstructions, resultHeaderSize};
+ghost use Rattle.unit.specs.Result.{resultHeader, resultMetadataAt, resultPlacesAt};
+use words::le;
+
+pub fn metadata_at(k: usize) -> usize
+    requires { ⌜ k ≤ maxInstructions ⌝ }
+    ensures { λ r. ⌜ r ≡ resultMetadataAt k ⌝ }
+{
+    16 + 8 * k
+}
+
+pub fn places_at(k: usize) -> usize
+    requires { ⌜ k ≤ maxInstructions ⌝ }
+    ensures { λ r. ⌜ r ≡ resultPlacesAt k ⌝ }
+{
+    metadata_at(k) + 16 * k
+}
+
+// The header of a result of k instructions.
+pub fn write_header(out: &mut [u8], k: usize)
+    requires { ⌜ (resultHeaderSize ≤ length (now out)) × (k ≤ maxInstructions) ⌝ }
+    ensures { λ _. ⌜ now (out .exit) ≡ putMid 0 resultHeaderSize (now (out .entry)) (resultHeader k) ⌝ }
+{
+    le::write_u32(out, 0, k as u32);
+    le::write_u32(out, 4, 16);
+    le::write_u32(out, 8, metadata_at(k) as u32);
+    le::write_u32(out, 12, places_at(k) as u32);
+}

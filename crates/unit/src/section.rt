@@ -1,0 +1,77 @@
+// The sections, each handed back as a part of the unit.
+ghost use mathlib.Core.Path.{_≡_};
+ghost use mathlib.Core.Bool.{true};
+ghost use Prim.Native.Nat.{_+_, _*_, _≤_};
+ghost use lib.ListN.{length};
+ghost use borrow.Rule.Slice.PartMut.{midOf};
+ghost use Rattle.words.specs.Le.{u32At};
+ghost use Rattle.unit.specs.Size.{headerSize};
+ghost use Rattle.unit.specs.Layout.{isUnit, codeOf, metadataOf, typesOf, constantsOf, functionsOf, externsOf, casesOf};
+use words::le;
+
+// The byte past a section: the header has its start at byte `offset`, and its number of entries, of `size` bytes, at byte `count`.
+pub fn past(unit: &[u8], offset: usize, count: usize, size: usize) -> usize
+    requires { ⌜ (headerSize ≤ length (now unit)) × (offset ≤ 60) × (count ≤ 60) × (size ≤ 16) ⌝ }
+    ensures { λ r. ⌜ r ≡ u32At (now (unit .entry)) offset + size * u32At (now (unit .entry)) count ⌝ }
+{
+    (le::read_u32(unit, offset) as usize) + size * (le::read_u32(unit, count) as usize)
+}
+
+// That section.
+pub fn part(unit: &[u8], offset: usize, count: usize, size: usize) -> &[u8]
+    requires { ⌜ (headerSize ≤ length (now unit)) × (offset ≤ 60) × (count ≤ 60) × (size ≤ 16) × (u32At (now unit) offset + size * u32At (now unit) count ≤ length (now unit)) ⌝ }
+    ensures { λ r. ⌜ now r ≡ midOf (u32At (now (unit .entry)) offset) (size * u32At (now (unit .entry)) count) (now (unit .entry)) ⌝ }
+{
+    let start = le::read_u32(unit, offset) as usize;
+    let end = past(unit, offset, count, size);
+    &unit[start..end]
+}
+
+pub fn code(unit: &[u8]) -> &[u8]
+    requires { ⌜ isUnit (now unit) ≡ true ⌝ }
+    ensures { λ r. ⌜ now r ≡ codeOf (now (unit .entry)) ⌝ }
+{
+    part(unit, 36, 0, 8)
+}
+
+pub fn metadata(unit: &[u8]) -> &[u8]
+    requires { ⌜ isUnit (now unit) ≡ true ⌝ }
+    ensures { λ r. ⌜ now r ≡ metadataOf (now (unit .entry)) ⌝ }
+{
+    part(unit, 40, 4, 16)
+}
+
+pub fn types(unit: &[u8]) -> &[u8]
+    requires { ⌜ isUnit (now unit) ≡ true ⌝ }
+    ensures { λ r. ⌜ now r ≡ typesOf (now (unit .entry)) ⌝ }
+{
+    part(unit, 44, 12, 1)
+}
+
+pub fn constants(unit: &[u8]) -> &[u8]
+    requires { ⌜ isUnit (now unit) ≡ true ⌝ }
+    ensures { λ r. ⌜ now r ≡ constantsOf (now (unit .entry)) ⌝ }
+{
+    part(unit, 48, 20, 16)
+}
+
+pub fn functions(unit: &[u8]) -> &[u8]
+    requires { ⌜ isUnit (now unit) ≡ true ⌝ }
+    ensures { λ r. ⌜ now r ≡ functionsOf (now (unit .entry)) ⌝ }
+{
+    part(unit, 52, 24, 4)
+}
+
+pub fn externs(unit: &[u8]) -> &[u8]
+    requires { ⌜ isUnit (now unit) ≡ true ⌝ }
+    ensures { λ r. ⌜ now r ≡ externsOf (now (unit .entry)) ⌝ }
+{
+    part(unit, 56, 28, 2)
+}
+
+pub fn cases(unit: &[u8]) -> &[u8]
+    requires { ⌜ isUnit (now unit) ≡ true ⌝ }
+    ensures { λ r. ⌜ now r ≡ casesOf (now (unit .entry)) ⌝ }
+{
+    part(unit, 60, 32, 8)
+}
