@@ -8,7 +8,7 @@ use Rattle.instruction.specs.Opcode as op
 use Rattle.unit.specs.Refusal.{invalidOpcode, effectError, slotOutside}
 use Rattle.effects.specs.declared.Check.{Check}
 use Rattle.effects.specs.declared.Check.the-variants.{Passed, Refused}
-use Rattle.effects.specs.Shape.{Sections, Cell}
+use Rattle.effects.specs.Shape.{Tables, Cell}
 use Rattle.effects.specs.Effects.{allReads, writes, demandsMet, rangeFits, rangeWithin, allOf}
 
 -- the lowest place whose test is no 0, with that number: every refusal "at the lowest place" is one of these
@@ -17,17 +17,17 @@ lowest test p [] = Passed
 lowest test p (x ∷ xs) = let rest = lowest test (suc p) xs in cond (eqb (test p x) 0) rest (Refused (test p x) p)
 
 -- an instruction's effects are no error
-unfoldable pub effectsSound : Sections → Cell → Bool
-effectsSound S x =
-    let fit = allOf rangeFits (allReads S x ++ writes S x) in
-    cond (demandsMet S x) fit false
+unfoldable pub effectsSound : Tables → Cell → Bool
+effectsSound T x =
+    let fit = allOf rangeFits (allReads T x ++ writes T x) in
+    cond (demandsMet T x) fit false
 
--- the refusal of one instruction's operands, or 0
-unfoldable pub operandRefusal : Sections → Cell → ℕ
-operandRefusal S x =
-    let within = cond (allOf (rangeWithin (S .locals)) (allReads S x ++ writes S x)) 0 slotOutside in
-    let sound = cond (effectsSound S x) within effectError in
+-- the refusal of one instruction's operands, or 0; s is the number of local slots
+unfoldable pub operandRefusal : ℕ → Tables → Cell → ℕ
+operandRefusal s T x =
+    let within = cond (allOf (rangeWithin s) (allReads T x ++ writes T x)) 0 slotOutside in
+    let sound = cond (effectsSound T x) within effectError in
     cond (ltb op.maxValid (x .instruction .op)) invalidOpcode sound
 
-unfoldable pub operandCheck : Sections → List Cell → Check
-operandCheck S = lowest (λ p x. operandRefusal S x) 0
+unfoldable pub operandCheck : ℕ → Tables → List Cell → Check
+operandCheck s T = lowest (λ p x. operandRefusal s T x) 0

@@ -8,7 +8,7 @@ use Rattle.instruction.specs.Opcode as op
 use Rattle.unit.specs.declared.SelectCase.{SelectCase}
 use Rattle.unit.specs.Entry.{caseAt}
 use Rattle.effects.specs.declared.Range.{Range}
-use Rattle.effects.specs.Shape.{Sections, Cell, Shape, met, rangeOf}
+use Rattle.effects.specs.Shape.{Tables, Cell, Shape, met, rangeOf}
 use Rattle.effects.specs.Table.{readShape, writeShape, arrayShape}
 
 -- k cases of a select from case j on: the queue of each is read, and the values that a send case sends
@@ -28,16 +28,16 @@ caseWrites cases j (suc k) =
     record { start = x .slot; count = cond (eqb (x .kind) 0) 0 (x .elements + x .ok) }
     ∷ caseWrites cases (suc j) k
 
-module _ (S : Sections) (x : Cell) where
+module _ (T : Tables) (x : Cell) where
   abbrev pub isSelect : Bool
   isSelect = eqb (x .instruction .op) op.SelectExec
 
   abbrev pub ranges : Shape → List Range
-  ranges s = map (rangeOf S x) (s .parts)
+  ranges s = map (rangeOf T x) (s .parts)
 
   unfoldable pub reads : List Range
   reads =
-      let selected = caseReads (S .cases) (x .metadata .first) (x .metadata .second) in
+      let selected = caseReads (T .cases) (x .metadata .first) (x .metadata .second) in
       cond isSelect selected (ranges (readShape (x .instruction .op)))
 
   unfoldable pub arrays : List Range
@@ -45,7 +45,7 @@ module _ (S : Sections) (x : Cell) where
 
   unfoldable pub writes : List Range
   writes =
-      let selected = caseWrites (S .cases) (x .metadata .first) (x .metadata .second) in
+      let selected = caseWrites (T .cases) (x .metadata .first) (x .metadata .second) in
       ranges (writeShape (x .instruction .op)) ++ cond isSelect selected []
 
   -- all that is read, the array range with it
@@ -56,9 +56,9 @@ module _ (S : Sections) (x : Cell) where
   -- what the three effects need to be told is there
   unfoldable pub demandsMet : Bool
   demandsMet =
-      met S x (readShape (x .instruction .op) .demand)
-      && met S x (arrayShape (x .instruction .op) .demand)
-      && met S x (writeShape (x .instruction .op) .demand)
+      met T x (readShape (x .instruction .op) .demand)
+      && met T x (arrayShape (x .instruction .op) .demand)
+      && met T x (writeShape (x .instruction .op) .demand)
 
 -- "An empty range is skipped. Ranges longer than 65,535, or starting (even empty) or ending past slot 65,535, are effect errors"
 unfoldable pub rangeFits : Range → Bool

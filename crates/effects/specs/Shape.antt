@@ -16,14 +16,21 @@ use Rattle.unit.specs.declared.Extern.the-variants.{Returns, Missing as NoExter
 use Rattle.unit.specs.Entry.{functionAt, externAt, kindCallLayout, kindCallIfaceLayout, kindCallExternLayout}
 use Rattle.effects.specs.declared.Range.{Range}
 
--- The sections of a unit that stay as they are while its code and metadata change.
+-- The sections that effects look at.
+pub record Tables : Type 0 where
+  pub functions : List ℕ
+  pub externs : List ℕ
+  pub cases : List ℕ
+
+abbrev pub tablesOf : List ℕ → List ℕ → List ℕ → Tables
+tablesOf functions externs cases = record { functions = functions; externs = externs; cases = cases }
+
+-- All of a unit that stays as it is while its code and metadata change.
 pub record Sections : Type 0 where
   pub locals : ℕ
   pub types : List ℕ
   pub constants : List ℕ
-  pub functions : List ℕ
-  pub externs : List ℕ
-  pub cases : List ℕ
+  pub tables : Tables
 
 -- an instruction with its metadata
 pub record Cell : Type 0 where
@@ -112,15 +119,15 @@ unfoldable pub externSlots : Extern → ℕ
 externSlots (Returns r) = r
 externSlots NoExtern = 0
 
-module _ (S : Sections) (x : Cell) where
+module _ (T : Tables) (x : Cell) where
   abbrev pub function : Function
-  function = functionAt (S .functions) (staticCallFuncId (x .instruction))
+  function = functionAt (T .functions) (staticCallFuncId (x .instruction))
 
   abbrev pub shapeFunction : Function
-  shapeFunction = functionAt (S .functions) (callShapeStaticFuncId (x .instruction))
+  shapeFunction = functionAt (T .functions) (callShapeStaticFuncId (x .instruction))
 
   abbrev pub externDef : Extern
-  externDef = externAt (S .externs) (x .instruction .b)
+  externDef = externAt (T .externs) (x .instruction .b)
 
   unfoldable pub isKind : ℕ → Bool
   isKind k = eqb (x .metadata .kind) k

@@ -21,7 +21,7 @@ unread S after r = every (r .count) (λ k. isScalar S (r .start + k) && not (get
 
 unfoldable pub isDead : Sections → Cell → Row → Bool
 unfolding unread
-isDead S x after = let free = allOf (unread S after) (writes S x) in cond (isPure (class (x .instruction))) free false
+isDead S x after = let free = allOf (unread S after) (writes (S .tables) x) in cond (isPure (class (x .instruction))) free false
 
 -- the kept places of the cells from p on without the dead stores, and what is live before p; a dropped store's reads do not count
 pub record Swept : Type 0 where
@@ -31,7 +31,7 @@ pub record Swept : Type 0 where
 module _ (S : Sections) (n : ℕ) (leaders keep : List ℕ) (rows : List Row) where
   sweptAt : Cell → Bool → Row → Swept → Swept
   sweptAt x kept after r =
-      let stays : Swept = record { keep = 1 ∷ r .keep; before = liveBefore S x after } in
+      let stays : Swept = record { keep = 1 ∷ r .keep; before = liveBefore (S .tables) x after } in
       let goes : Swept = record { keep = 0 ∷ r .keep; before = after } in
       cond kept (cond (isDead S x after) goes stays) goes
 

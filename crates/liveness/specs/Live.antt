@@ -10,7 +10,7 @@ use lib.ListN.{length, getD, set, replicate}
 use Rattle.words.specs.Lists.{mapFrom}
 use Rattle.instruction.specs.Instruction.{class}
 use Rattle.unit.specs.Size.{setWords, maxSetWords}
-use Rattle.effects.specs.Shape.{Sections, Cell}
+use Rattle.effects.specs.Shape.{Tables, Sections, Cell}
 use Rattle.effects.specs.Effects.{allReads, writes, rangeHas, anyOf}
 use Rattle.flow.specs.Branch.{falls, branches, target}
 use Rattle.flow.specs.Block.{blockOf, blockCount}
@@ -20,10 +20,10 @@ abbrev pub Row : Type 0
 Row = List Bool
 
 -- what is live before an instruction, of what is live after it
-unfoldable pub liveBefore : Sections → Cell → Row → Row
-liveBefore S x row =
-    let reads = allReads S x in
-    let written = writes S x in
+unfoldable pub liveBefore : Tables → Cell → Row → Row
+liveBefore T x row =
+    let reads = allReads T x in
+    let written = writes T x in
     mapFrom (λ t live. anyOf (rangeHas t) reads || (live && not (anyOf (rangeHas t) written))) 0 row
 
 unfoldable pub union : Row → Row → Row
@@ -79,7 +79,7 @@ module _ (S : Sections) (n : ℕ) (leaders keep : List ℕ) where
   roundFrom p (x ∷ xs) rows =
       let r = roundFrom (suc p) xs rows in
       let after = liveAfter (r .rows) p x (r .before) in
-      let before = cond (isKept keep p) (liveBefore S x after) after in
+      let before = cond (isKept keep p) (liveBefore (S .tables) x after) after in
       record { rows = cond (eqb (getD leaders p 0) 1) (set (r .rows) (blockOf leaders p) before) (r .rows); before = before }
 
   -- at most k rounds, "until one changes nothing"

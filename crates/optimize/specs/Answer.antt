@@ -12,7 +12,7 @@ use Rattle.unit.specs.Refusal.{notUnit, shortBuffer, metadataCount, typeCount}
 use Rattle.unit.specs.Size.{outputRoom, work32Room, work64Room}
 use Rattle.unit.specs.Entry.{metadataAt}
 use Rattle.unit.specs.Layout.{headerOf, codeOf, metadataOf, typesOf, constantsOf, functionsOf, externsOf, casesOf, isUnit}
-use Rattle.effects.specs.Shape.{Sections, Cell}
+use Rattle.effects.specs.Shape.{Sections, Cell, tablesOf}
 use Rattle.optimize.specs.Pass.{Outcome, unchanged, refused, rewritten, isWorkedOn, optimized}
 
 -- the function of a unit: its cells, and the sections that stay
@@ -28,9 +28,7 @@ sectionsOf u =
       locals = headerOf u .counts .locals;
       types = typesOf u;
       constants = constantsOf u;
-      functions = functionsOf u;
-      externs = externsOf u;
-      cases = casesOf u;
+      tables = tablesOf (functionsOf u) (externsOf u) (casesOf u);
     }
 
 -- the lengths of the lent buffers

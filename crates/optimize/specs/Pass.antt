@@ -69,7 +69,7 @@ optimized S cells =
     let swept = removal cells code (keptPlaces S leads marks code) in
     let sound = checked (loopCheck marks code) swept in
     let inside = checked (branchCheck cells) sound in
-    checked (operandCheck S cells) inside
+    checked (operandCheck (S .locals) (S .tables) cells) inside
 
 -- "unchanged: n under 2, above 65,536" comes before all of them
 unfoldable pub isWorkedOn : ℕ → Bool
