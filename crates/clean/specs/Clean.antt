@@ -41,21 +41,18 @@ afterPass j before later (rewritten kept) = later kept
 
 -- up to k passes more, where pass j retained `before`
 unfoldable pub cleanFrom : Sections → ℕ → ℕ → List Retained → Cleaned
-unfolding afterPass
 cleanFrom S zero j before = record { outcome = rewritten before; passes = j }
 cleanFrom S (suc k) j before =
     afterPass (suc j) before (λ kept. cleanFrom S k (suc j) (placedBy before kept)) (pass S (cellsAfter before))
 
 -- "It is unchanged if pass 1 is"
 unfoldable pub cleanedFirst : Sections → Outcome → Cleaned
-unfolding cleanFrom
 cleanedFirst S unchanged = record { outcome = unchanged; passes = 1 }
 cleanedFirst S (refused k p) = record { outcome = refused k p; passes = 1 }
 cleanedFirst S (rewritten kept) = cleanFrom S 2 1 kept
 
 -- the cleaning also needs spare bytes
 unfoldable pub cleanAnswer : List ℕ → Lent → ℕ → Cleaned
-unfolding cleanedFirst
 cleanAnswer u l spare =
     let h = headerOf u in
     let worked = optimized (sectionsOf u) (cellsOf u) in

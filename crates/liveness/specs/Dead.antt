@@ -20,7 +20,6 @@ unfoldable pub unread : Sections → Row → Range → Bool
 unread S after r = every (r .count) (λ k. isScalar S (r .start + k) && not (getD after (r .start + k) false))
 
 unfoldable pub isDead : Sections → Cell → Row → Bool
-unfolding unread
 isDead S x after = let free = allOf (unread S after) (writes (S .tables) x) in cond (isPure (class (x .instruction))) free false
 
 -- the kept places of the cells from p on without the dead stores, and what is live before p; a dropped store's reads do not count
@@ -29,14 +28,13 @@ pub record Swept : Type 0 where
   pub before : Row
 
 module _ (S : Sections) (n : ℕ) (leaders keep : List ℕ) (rows : List Row) where
-  sweptAt : Cell → Bool → Row → Swept → Swept
+  unfoldable pub sweptAt : Cell → Bool → Row → Swept → Swept
   sweptAt x kept after r =
       let stays : Swept = record { keep = 1 ∷ r .keep; before = liveBefore (S .tables) x after } in
       let goes : Swept = record { keep = 0 ∷ r .keep; before = after } in
       cond kept (cond (isDead S x after) goes stays) goes
 
   unfoldable pub sweepFrom : ℕ → List Cell → Swept
-  unfolding sweptAt isDead liveAfter liveBefore
   sweepFrom p [] = record { keep = []; before = [] }
   sweepFrom p (x ∷ xs) =
       let r = sweepFrom (suc p) xs in
@@ -44,10 +42,8 @@ module _ (S : Sections) (n : ℕ) (leaders keep : List ℕ) (rows : List Row) wh
 
 -- the kept places without dead stores, or as they were where dead stores are skipped
 unfoldable pub withoutDead : Sections → List ℕ → List ℕ → List Cell → Option (List Row) → List ℕ
-unfolding sweepFrom
 withoutDead S leaders keep cells none = keep
 withoutDead S leaders keep cells (some rows) = sweepFrom S (length cells) leaders keep rows 0 cells .keep
 
 unfoldable pub deadStores : Sections → List ℕ → List ℕ → List Cell → List ℕ
-unfolding withoutDead liveRows
 deadStores S leaders keep cells = withoutDead S leaders keep cells (liveRows S leaders keep cells)

@@ -54,17 +54,15 @@ abbrev pub isLast : ℕ → List ℕ → ℕ → Bool
 isLast n leaders p = eqb (suc p) n || eqb (getD leaders (suc p) 0) 1
 
 module _ (S : Sections) (n : ℕ) (leaders keep : List ℕ) where
-  noRow : Row
+  unfoldable pub noRow : Row
   noRow = replicate (S .locals) false
 
   unfoldable pub joined : List Row → List ℕ → Row
-  unfolding noRow
   joined rows [] = noRow
   joined rows (q ∷ qs) = union (getD rows (blockOf leaders q) noRow) (joined rows qs)
 
   -- what is live after place p, of what is live before the next one: at a block's end, what is live at its successors' starts
   unfoldable pub liveAfter : List Row → ℕ → Cell → Row → Row
-  unfolding joined
   liveAfter rows p x next = let out = joined rows (edges n p x) in cond (isLast n leaders p) out next
 
   -- what is known after the cells from place p on were walked, from the end: the rows, and what is live before p
@@ -74,7 +72,6 @@ module _ (S : Sections) (n : ℕ) (leaders keep : List ℕ) where
 
   -- one round: "last block to first", each block's row made anew of the rows as they are
   unfoldable pub roundFrom : ℕ → List Cell → List Row → Walked
-  unfolding liveAfter liveBefore noRow
   roundFrom p [] rows = record { rows = rows; before = noRow }
   roundFrom p (x ∷ xs) rows =
       let r = roundFrom (suc p) xs rows in
@@ -84,7 +81,6 @@ module _ (S : Sections) (n : ℕ) (leaders keep : List ℕ) where
 
   -- at most k rounds, "until one changes nothing"
   unfoldable pub solveIn : ℕ → List Cell → List Row → Option (List Row)
-  unfolding roundFrom
   solveIn zero cells rows = none
   solveIn (suc k) cells rows =
       let next = roundFrom 0 cells rows .rows in
@@ -97,7 +93,6 @@ maxLivenessWork = 16777216
 
 -- "dead stores are skipped when w = 0, when w × blocks exceeds 2,097,152, or when liveness work passes 16,777,216"
 unfoldable pub liveRows : Sections → List ℕ → List ℕ → List Cell → Option (List Row)
-unfolding solveIn noRow
 liveRows S leaders keep cells =
     let w = setWords (S .locals) in
     let size = w * blockCount leaders in

@@ -46,7 +46,6 @@ roomFor h l =
 
 -- "unchanged: n under 2, above 65,536, or defer"
 unfoldable pub isLeft : Header → Bool
-unfolding isWorkedOn
 isLeft h = not (isWorkedOn (h .counts .instructions)) || eqb (h .counts .defer) 1
 
 -- refusals 3 and 4, then `go`
@@ -57,7 +56,6 @@ countsChecked h go =
     (refused metadataCount 0)
 
 unfoldable pub passAnswer : List ℕ → Lent → Outcome
-unfolding isLeft roomFor countsChecked
 passAnswer u l =
     let h = headerOf u in
     let worked = optimized (sectionsOf u) (cellsOf u) in

@@ -18,11 +18,9 @@ isIdle anchors keep p x =
     cond (isKept keep p && not (eqb (getD anchors p 0) 1) && eqb (x .instruction .op) op.Jump) near false
 
 unfoldable pub dropIdle : List ℕ → List Cell → List ℕ → List ℕ
-unfolding isIdle
 dropIdle anchors cells keep = mapFrom (λ p x. cond (isIdle anchors keep p x) 0 (getD keep p 0)) 0 cells
 
 -- a round that drops nothing leaves all as it is, so that 16 rounds and "up to 16" are the same
 unfoldable pub jumpRounds : ℕ → List ℕ → List Cell → List ℕ → List ℕ
-unfolding dropIdle
 jumpRounds zero anchors cells keep = keep
 jumpRounds (suc k) anchors cells keep = jumpRounds k anchors cells (dropIdle anchors cells keep)

@@ -49,19 +49,16 @@ usefulPlaces marks cells = mapFrom (λ p x. cond (isPlainHint (x .instruction)) 
 
 -- the places that one pass retains, of the numbered code, with the blocks of the given code
 unfoldable pub keptPlaces : Sections → List ℕ → List ℕ → List Cell → List ℕ
-unfolding usefulPlaces
 keptPlaces S leads marks code = jumpRounds 16 (anchors marks code) code (deadStores S leads (usefulPlaces marks code) code)
 
 -- "unchanged: same code, all kept", then refusal 10, then "rewritten, n'"
 unfoldable pub removal : List Cell → List Cell → List ℕ → Outcome
-unfolding sameCode allKept checked
 removal cells code keep =
     let moved = checked (relocationCheck keep code) (rewritten (retainFrom keep 0 code)) in
     cond (sameCode cells code && allKept keep) unchanged moved
 
 -- refusals 5 to 10, unchanged and rewritten, of a function that is worked on
 unfoldable pub optimized : Sections → List Cell → Outcome
-unfolding checked removal keptPlaces
 optimized S cells =
     let leads = leaders cells in
     let code = numberCode S leads cells in
@@ -76,5 +73,4 @@ unfoldable pub isWorkedOn : ℕ → Bool
 isWorkedOn n = ltb 1 n && not (ltb maxInstructions n)
 
 unfoldable pub pass : Sections → List Cell → Outcome
-unfolding isWorkedOn optimized
 pass S cells = let worked = optimized S cells in cond (isWorkedOn (length cells)) worked unchanged

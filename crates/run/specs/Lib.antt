@@ -1,0 +1,4 @@
+pub mod System
+pub mod Machine
+pub mod Program
+pub mod Returned

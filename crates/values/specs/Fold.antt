@@ -42,7 +42,6 @@ unfoldable pub lowBits : ℕ → ℕ → ℕ → ℕ
 lowBits k flags x = cond (leb 128 flags) (signExtend k (x % 2 ^ k)) (x % 2 ^ k)
 
 unfoldable pub trunc : ℕ → ℕ → ℕ
-unfolding lowBits
 trunc flags x =
     cond (eqb (flags % 128) 1) (lowBits 8 flags x)
     (cond (eqb (flags % 128) 2) (lowBits 16 flags x) (cond (eqb (flags % 128) 4) (lowBits 32 flags x) x))
@@ -58,7 +57,6 @@ foldingBinary =
 
 -- the word that a folding opcode gives; its right word is unread where it is unary
 unfoldable pub foldWord : ℕ → ℕ → ℕ → ℕ → ℕ
-unfolding trunc bitwise differ
 foldWord o flags x y =
     cond (eqb o op.AddI) ((x + y) % 2 ^ 64)
     (cond (eqb o op.SubI) ((x + (2 ^ 64 - y)) % 2 ^ 64)

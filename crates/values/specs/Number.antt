@@ -46,13 +46,11 @@ constantAtom Missing = none
 
 -- the known integer that an expression folds to
 unfoldable pub foldUnary : Expression → Atom → Option ℕ
-unfolding foldWord
 foldUnary e (Integer x) = cond (isIn (e .opcode) foldingUnary) (some (foldWord (e .opcode) (e .flags) x 0)) none
 foldUnary e (Float x) = none
 foldUnary e (Definition p s) = none
 
 unfoldable pub foldBinary : Expression → Atom → Atom → Option ℕ
-unfolding foldWord
 foldBinary e (Integer x) (Integer y) = cond (isIn (e .opcode) foldingBinary) (some (foldWord (e .opcode) (e .flags) x y)) none
 foldBinary e (Integer x) (Float y) = none
 foldBinary e (Integer x) (Definition q t) = none
@@ -61,7 +59,6 @@ foldBinary e (Definition p s) y = none
 
 -- "A folded result becomes LoadInt exactly if its signed reading fits 32 bits; otherwise the instruction stays"
 unfoldable pub loadOrStay : Instruction → ℕ → Instruction
-unfolding fitsImm32
 loadOrStay i v = cond (fitsImm32 v) (withImm32 (plain op.LoadInt (i .a) 0 0) (v % 2 ^ 32)) i
 
 module _ (S : Sections) where
@@ -71,7 +68,6 @@ module _ (S : Sections) where
 
   -- a store of a known value: the instruction and the value of its destination
   unfoldable pub stored : Instruction → Values → Atom → Numbered
-  unfolding store
   stored i t v = record { instruction = i; table = store (S .types) t (i .a) v }
 
   -- "An equal expression .. becomes Copy from the recorded slot under the same two conditions, the type being the destination's;
@@ -81,18 +77,15 @@ module _ (S : Sections) where
   copyOrStay i none = i
 
   unfoldable pub byExpression : ℕ → Instruction → Values → Expression → Option Atom → Numbered
-  unfolding stored copyOrStay recordedSlot learn
   byExpression p i t e (some v) = stored (copyOrStay i (recordedSlot (S .types) t v (getD (S .types) (i .a) 0))) t v
   byExpression p i t e none = stored i (learn t e (Definition p (i .a))) (Definition p (i .a))
 
   -- folded, or looked up
   unfoldable pub byValue : ℕ → Instruction → Values → Expression → Option ℕ → Numbered
-  unfolding byExpression stored loadOrStay expressionIn
   byValue p i t e (some v) = stored (loadOrStay i v) t (Integer v)
   byValue p i t e none = byExpression p i t e (expressionIn (t .expressions) e)
 
   unfoldable pub numberUnary : ℕ → Instruction → Values → Numbered
-  unfolding byValue foldUnary representative
   numberUnary p i t =
       let r = representative (S .types) t (i .b) in
       let left = valueOf (r .table) (r .slot) in
@@ -101,7 +94,6 @@ module _ (S : Sections) where
 
   -- "(left first)"
   unfoldable pub numberBinary : ℕ → Instruction → Values → Numbered
-  unfolding byValue foldBinary representative
   numberBinary p i t =
       let l = representative (S .types) t (i .b) in
       let r = representative (S .types) (l .table) (i .c) in
@@ -111,19 +103,16 @@ module _ (S : Sections) where
       byValue p (setBC i (l .slot) (r .slot)) (r .table) e (foldBinary e left right)
 
   unfoldable pub numberCopy : Instruction → Values → Numbered
-  unfolding stored representative
   numberCopy i t =
       let r = representative (S .types) t (i .b) in
       stored (setB i (r .slot)) (r .table) (valueOf (r .table) (r .slot))
 
   unfoldable pub numberConstant : Instruction → Values → Option Atom → Numbered
-  unfolding stored
   numberConstant i t (some v) = stored i t v
   numberConstant i t none = record { instruction = i; table = empty }
 
   -- an operand a that is read: of "an undecided conditional jump on a scalar and of a one-scalar Return"
   unfoldable pub numberRead : Instruction → Values → Numbered
-  unfolding representative
   numberRead i t =
       let r = representative (S .types) t (i .a) in
       record { instruction = setA i (r .slot); table = r .table }
@@ -133,7 +122,6 @@ module _ (S : Sections) where
   decided i taken = cond taken (plain op.Jump 0 (i .b) (i .c)) (plain op.Hint 0 0 0)
 
   unfoldable pub numberJump : (ℕ → Bool) → Instruction → Values → Atom → Numbered
-  unfolding decided numberRead
   numberJump takes i t (Integer v) = record { instruction = decided i (takes v); table = t }
   numberJump takes i t (Float v) = cond (isScalar (i .a)) (numberRead i t) (record { instruction = i; table = t })
   numberJump takes i t (Definition p s) = cond (isScalar (i .a)) (numberRead i t) (record { instruction = i; table = t })
@@ -144,7 +132,6 @@ module _ (S : Sections) where
   -- "CopyN, a non-scalar destination, LoadConst of a String or a missing constant, and every impure opcode clear all values, except
   -- JumpIf, JumpIfNot, and a Return of one scalar."
   unfoldable pub numberBy : Class → ℕ → Instruction → Values → Numbered
-  unfolding stored numberConstant constantAtom numberCopy numberUnary numberBinary numberJump numberRead
   numberBy Hint p i t = cleared i
   numberBy LoadInt p i t = let r = stored i t (Integer (imm32 i)) in cond (isScalar (i .a)) r (cleared i)
   numberBy LoadConst p i t =
@@ -167,12 +154,10 @@ module _ (S : Sections) where
 
   -- the code rewritten from place p on, the table being cleared where a block starts
   unfoldable pub numberFrom : List ℕ → ℕ → Values → List Cell → List Cell
-  unfolding numberBy
   numberFrom leaders p t [] = []
   numberFrom leaders p t (x ∷ xs) =
       let r = number p (x .instruction) (cond (eqb (getD leaders p 0) 1) empty t) in
       record { instruction = r .instruction; metadata = x .metadata } ∷ numberFrom leaders (suc p) (r .table) xs
 
   unfoldable pub numberCode : List ℕ → List Cell → List Cell
-  unfolding numberFrom
   numberCode leaders cells = numberFrom leaders 0 empty cells

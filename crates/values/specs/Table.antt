@@ -29,7 +29,6 @@ pub record Expression : Type 0 where
   pub right : Atom
 
 unfoldable pub sameExpression : Expression → Expression → Bool
-unfolding sameAtom
 sameExpression d e =
     let values = sameAtom (d .left) (e .left) && sameAtom (d .right) (e .right) in
     cond (eqb (d .opcode) (e .opcode) && eqb (d .flags) (e .flags)) values false
@@ -60,12 +59,10 @@ valueIn [] s = Definition atStart s
 valueIn (e ∷ es) s = let rest = valueIn es s in cond (eqb (e .slot) s) (e .value) rest
 
 unfoldable pub slotIn : List SlotEntry → Atom → Option ℕ
-unfolding sameAtom
 slotIn [] v = none
 slotIn (e ∷ es) v = let rest = slotIn es v in cond (sameAtom (e .value) v) (some (e .slot)) rest
 
 unfoldable pub expressionIn : List ExpressionEntry → Expression → Option Atom
-unfolding sameExpression
 expressionIn [] d = none
 expressionIn (e ∷ es) d = let rest = expressionIn es d in cond (sameExpression (e .expression) d) (some (e .value)) rest
 
@@ -76,12 +73,10 @@ valueOf t s = valueIn (t .slots) s
 -- The slot that stands for a value at a slot of this type: "the recorded slot if it still holds the value and has the same type".
 -- The tie rule is here alone.
 unfoldable pub usable : List ℕ → Values → Atom → ℕ → Option ℕ → Option ℕ
-unfolding sameAtom valueIn
 usable types t v type none = none
 usable types t v type (some r) = cond (sameAtom (valueOf t r) v && eqb (getD types r 0) type) (some r) none
 
 unfoldable pub recordedSlot : List ℕ → Values → Atom → ℕ → Option ℕ
-unfolding usable slotIn
 recordedSlot types t v type = usable types t v type (slotIn (t .recorded) v)
 
 -- "otherwise the operand stays and is recorded instead": the slot to use for the value of slot s, and the table after it
@@ -90,7 +85,6 @@ pub record Represented : Type 0 where
   pub table : Values
 
 unfoldable pub orItself : Values → ℕ → Option ℕ → Represented
-unfolding valueIn
 orItself t s (some r) = record { slot = r; table = t }
 orItself t s none =
     record {
@@ -103,12 +97,10 @@ orItself t s none =
     }
 
 unfoldable pub representative : List ℕ → Values → ℕ → Represented
-unfolding orItself recordedSlot valueIn
 representative types t s = orItself t s (recordedSlot types t (valueOf t s) (getD types s 0))
 
 -- "A store then treats its destination likewise"
 unfoldable pub store : List ℕ → Values → ℕ → Atom → Values
-unfolding representative
 store types t s v =
     representative types (record { slots = record { slot = s; value = v } ∷ t .slots; recorded = t .recorded; expressions = t .expressions }) s .table
 
