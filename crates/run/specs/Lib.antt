@@ -5,3 +5,4 @@ pub mod Returned
 pub mod Simulation
 pub mod LockStep
 pub mod Removal
+pub mod Shapes
