@@ -6,3 +6,4 @@ pub mod Simulation
 pub mod LockStep
 pub mod Removal
 pub mod Shapes
+pub mod Operands

@@ -1,0 +1,169 @@
+-- What it says of an instruction's slots that its operands are not refused, and back.
+-- Assumes nothing.
+use mathlib.Core.Path.{_≡_, refl, sym, ap, _∙_}
+use mathlib.Core.Bool.{Bool, true, false, cond, _&&_, _||_, false≢true}
+use mathlib.Core.List.{List, [], _∷_, _++_, map}
+use Prim.Native.Nat.{ℕ, _+_, _<_, _≤_}
+use native.Mathlib.Omega.{arith}
+use lib.Dec.{eqb, leb, ltb}
+use borrow.Author.Tests.{leb-true, le-leb, le-ltb}
+use Rattle.instruction.specs.Opcode as op
+use Rattle.instruction.specs.declared.Instruction.{Instruction}
+use Rattle.instruction.specs.declared.Class.{Class}
+use Rattle.instruction.specs.declared.Class.the-variants.{Hint, LoadInt, LoadConst, Copy, CopyN, Unary, Binary, Jump, JumpIf, JumpIfNot, ForLoop, Return, Panic, Outside, Invalid}
+use Rattle.instruction.specs.Instruction.{class}
+use Rattle.effects.specs.declared.Range.{Range}
+use Rattle.effects.specs.Shape.{Tables, Cell, rangeOf, value, applies}
+use Rattle.effects.specs.Effects.{writes, allReads, demandsMet, rangeFits, rangeWithin, allOf}
+use Rattle.effects.specs.Check.{operandRefusal, effectsSound}
+use Rattle.run.specs.Shapes.{readParts, writeParts, byFields, valid-opcode, reads-by, writes-by, demands-by}
+
+pub and-left : (a b : Bool) → (a && b) ≡ true → a ≡ true
+and-left true b e = refl
+and-left false b e = e
+
+pub and-right : (a b : Bool) → (a && b) ≡ true → b ≡ true
+and-right true b e = e
+and-right false b e = absurd (false≢true e)
+
+-- every range lies within the frame
+pub refusal-within : (s : ℕ) (T : Tables) (x : Cell) → operandRefusal s T x ≡ 0 → allOf (rangeWithin s) (allReads T x ++ writes T x) ≡ true
+unfolding operandRefusal
+refusal-within s T x e =
+    go (ltb op.maxValid (x .instruction .op)) (effectsSound T x) (allOf (rangeWithin s) (allReads T x ++ writes T x)) e
+  where
+    go : (a b c : Bool) → _≡_ {A = ℕ} (cond a 5 (cond b (cond c 0 7) 6)) 0 → c ≡ true
+    go true b c e = absurd (omega arith)
+    go false true true e = refl
+    go false true false e = absurd (omega arith)
+    go false false c e = absurd (omega arith)
+
+pub refusal-none : (s : ℕ) (T : Tables) (x : Cell) → byFields (class (x .instruction)) ≡ true → allOf rangeFits (allReads T x ++ writes T x) ≡ true
+    → allOf (rangeWithin s) (allReads T x ++ writes T x) ≡ true → operandRefusal s T x ≡ 0
+unfolding operandRefusal effectsSound
+refusal-none s T x f fit within =
+    let h = valid-opcode (x .instruction .op) f in
+    rw (le-ltb op.maxValid (x .instruction .op) (omega arith), demands-by T x f, fit, within)
+
+-- the slots that an instruction names one by one, all below s
+unfoldable pub Named : Class → ℕ → Instruction → Type 0
+Named Hint s i = Unit {0}
+Named LoadInt s i = i .a < s
+Named LoadConst s i = i .a < s
+Named Copy s i = (i .b < s) × (i .a < s)
+Named CopyN s i = Unit {0}
+Named Unary s i = (i .b < s) × (i .a < s)
+Named Binary s i = (i .b < s) × (i .c < s) × (i .a < s)
+Named Jump s i = Unit {0}
+Named JumpIf s i = i .a < s
+Named JumpIfNot s i = i .a < s
+Named ForLoop s i = Unit {0}
+Named Return s i = i .b ≡ 1 → i .a < s
+Named Panic s i = Unit {0}
+Named Outside s i = Unit {0}
+Named Invalid s i = Unit {0}
+
+-- the classes that do so; Return where it returns one slot
+unfoldable pub oneByOne : Class → Bool
+oneByOne Hint = true
+oneByOne LoadInt = true
+oneByOne LoadConst = true
+oneByOne Copy = true
+oneByOne CopyN = false
+oneByOne Unary = true
+oneByOne Binary = true
+oneByOne Jump = true
+oneByOne JumpIf = true
+oneByOne JumpIfNot = true
+oneByOne ForLoop = false
+oneByOne Return = true
+oneByOne Panic = false
+oneByOne Outside = false
+oneByOne Invalid = false
+
+abbrev one : ℕ → Range
+one a = record { start = a + 0; count = 1 }
+
+one-within : (s a : ℕ) → rangeWithin s (one a) ≡ true → a < s
+unfolding rangeWithin
+one-within s a e = let h : a + 0 + 1 ≤ s = leb-true (a + 0 + 1) s e in omega arith
+
+within-one : (s a : ℕ) → a < s → rangeWithin s (one a) ≡ true
+unfolding rangeWithin
+within-one s a h = le-leb (a + 0 + 1) s (omega arith)
+
+fits-one : (s a : ℕ) → s ≤ 65535 → a < s → rangeFits (one a) ≡ true
+unfolding rangeFits
+fits-one s a l h = rw (le-leb (a + 0) 65535 (omega arith), le-leb (a + 0 + 1) 65536 (omega arith))
+
+module _ (s : ℕ) (T : Tables) (x : Cell) where
+  -- by the class's parts
+  within-parts : (k : Class) → class (x .instruction) ≡ k → byFields k ≡ true → operandRefusal s T x ≡ 0
+      → allOf (rangeWithin s) (map (rangeOf T x) (readParts k) ++ map (rangeOf T x) (writeParts k)) ≡ true
+  within-parts k e f z =
+      let g : byFields (class (x .instruction)) ≡ true = rw e f in
+      let w = refusal-within s T x z in
+      rw (reads-by T x g, writes-by T x g, e) at w
+
+  pub named-of : (k : Class) → class (x .instruction) ≡ k → operandRefusal s T x ≡ 0 → Named k s (x .instruction)
+  unfolding Named readParts writeParts byFields allOf rangeOf value applies
+  named-of Hint e z = tt
+  named-of LoadInt e z = one-within s _ (and-left _ _ (within-parts LoadInt e refl z))
+  named-of LoadConst e z = one-within s _ (and-left _ _ (within-parts LoadConst e refl z))
+  named-of Copy e z = let w = within-parts Copy e refl z in (one-within s _ (and-left _ _ w), one-within s _ (and-left _ _ (and-right _ _ w)))
+  named-of CopyN e z = tt
+  named-of Unary e z = let w = within-parts Unary e refl z in (one-within s _ (and-left _ _ w), one-within s _ (and-left _ _ (and-right _ _ w)))
+  named-of Binary e z =
+      let w = within-parts Binary e refl z in
+      let v = and-right _ _ w in
+      (one-within s _ (and-left _ _ w), one-within s _ (and-left _ _ v), one-within s _ (and-left _ _ (and-right _ _ v)))
+  named-of Jump e z = tt
+  named-of JumpIf e z = one-within s _ (and-left _ _ (within-parts JumpIf e refl z))
+  named-of JumpIfNot e z = one-within s _ (and-left _ _ (within-parts JumpIfNot e refl z))
+  named-of ForLoop e z = tt
+  named-of Return e z = λ b.
+      let w : rangeWithin s (record { start = x .instruction .a + 0; count = x .instruction .b }) ≡ true = and-left _ _ (within-parts Return e refl z) in
+      one-within s _ (rw b at w)
+  named-of Panic e z = tt
+  named-of Outside e z = tt
+  named-of Invalid e z = tt
+
+  from-parts : (k : Class) → class (x .instruction) ≡ k → byFields k ≡ true
+      → allOf rangeFits (map (rangeOf T x) (readParts k) ++ map (rangeOf T x) (writeParts k)) ≡ true
+      → allOf (rangeWithin s) (map (rangeOf T x) (readParts k) ++ map (rangeOf T x) (writeParts k)) ≡ true
+      → operandRefusal s T x ≡ 0
+  from-parts k e f fit within =
+      let g : byFields (class (x .instruction)) ≡ true = rw e f in
+      refusal-none s T x g (rw (reads-by T x g, writes-by T x g, e) fit) (rw (reads-by T x g, writes-by T x g, e) within)
+
+  -- an instruction whose class names its slots one by one is not refused where they are below s
+  pub named-refusal : (k : Class) → class (x .instruction) ≡ k → oneByOne k ≡ true → s ≤ 65535 → (k ≡ Return → x .instruction .b ≡ 1) → Named k s (x .instruction)
+      → operandRefusal s T x ≡ 0
+  unfolding Named readParts writeParts byFields allOf rangeOf value applies oneByOne
+  named-refusal Hint e o l r n = from-parts Hint e refl refl refl
+  named-refusal LoadInt e o l r n = from-parts LoadInt e refl (rw (fits-one s (x .instruction .a) l n)) (rw (within-one s (x .instruction .a) n))
+  named-refusal LoadConst e o l r n = from-parts LoadConst e refl (rw (fits-one s (x .instruction .a) l n)) (rw (within-one s (x .instruction .a) n))
+  named-refusal Copy e o l r n =
+      from-parts Copy e refl
+      (rw (fits-one s (x .instruction .b) l (n .0), fits-one s (x .instruction .a) l (n .1)))
+      (rw (within-one s (x .instruction .b) (n .0), within-one s (x .instruction .a) (n .1)))
+  named-refusal CopyN e o l r n = absurd (false≢true o)
+  named-refusal Unary e o l r n =
+      from-parts Unary e refl
+      (rw (fits-one s (x .instruction .b) l (n .0), fits-one s (x .instruction .a) l (n .1)))
+      (rw (within-one s (x .instruction .b) (n .0), within-one s (x .instruction .a) (n .1)))
+  named-refusal Binary e o l r n =
+      from-parts Binary e refl
+      (rw (fits-one s (x .instruction .b) l (n .0), fits-one s (x .instruction .c) l (n .1), fits-one s (x .instruction .a) l (n .2)))
+      (rw (within-one s (x .instruction .b) (n .0), within-one s (x .instruction .c) (n .1), within-one s (x .instruction .a) (n .2)))
+  named-refusal Jump e o l r n = from-parts Jump e refl refl refl
+  named-refusal JumpIf e o l r n = from-parts JumpIf e refl (rw (fits-one s (x .instruction .a) l n)) (rw (within-one s (x .instruction .a) n))
+  named-refusal JumpIfNot e o l r n = from-parts JumpIfNot e refl (rw (fits-one s (x .instruction .a) l n)) (rw (within-one s (x .instruction .a) n))
+  named-refusal ForLoop e o l r n = absurd (false≢true o)
+  named-refusal Return e o l r n =
+      from-parts Return e refl
+      (rw (r refl, fits-one s (x .instruction .a) l (n (r refl))))
+      (rw (r refl, within-one s (x .instruction .a) (n (r refl))))
+  named-refusal Panic e o l r n = absurd (false≢true o)
+  named-refusal Outside e o l r n = absurd (false≢true o)
+  named-refusal Invalid e o l r n = absurd (false≢true o)
