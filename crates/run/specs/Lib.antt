@@ -7,3 +7,4 @@ pub mod LockStep
 pub mod Removal
 pub mod Shapes
 pub mod Operands
+pub mod Valuation

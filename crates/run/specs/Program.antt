@@ -47,11 +47,11 @@ constantWord W b Missing = W .lost b
 
 -- "integer opcodes the word they would fold to"; "The other unary and binary opcodes give some word fixed by opcode, flags and
 -- operand words"
-unfoldable pub unaryWord : World → Instruction → ℕ → ℕ
-unaryWord W i x = cond (isIn (i .op) foldingUnary) (foldWord (i .op) (i .flags) x 0) (W .free (i .op) (i .flags) x 0)
+unfoldable pub unaryWord : World → ℕ → ℕ → ℕ → ℕ
+unaryWord W o flags x = cond (isIn o foldingUnary) (foldWord o flags x 0) (W .free o flags x 0)
 
-unfoldable pub binaryWord : World → Instruction → ℕ → ℕ → ℕ
-binaryWord W i x y = cond (isIn (i .op) foldingBinary) (foldWord (i .op) (i .flags) x y) (W .free (i .op) (i .flags) x y)
+unfoldable pub binaryWord : World → ℕ → ℕ → ℕ → ℕ → ℕ
+binaryWord W o flags x y = cond (isIn o foldingBinary) (foldWord o flags x y) (W .free o flags x y)
 
 -- "metadata without end_pc"
 unfoldable pub recordedMetadata : Metadata → Metadata
@@ -78,8 +78,8 @@ module _ (S : Sections) (W : World) (x : Cell) where
   actBy Copy σ = silent (λ t. σ (x .instruction .b)) false
   -- "CopyN reads all before writing"
   actBy CopyN σ = silent (λ t. σ (x .instruction .b + (t - x .instruction .a))) false
-  actBy Unary σ = silent (λ t. unaryWord W (x .instruction) (σ (x .instruction .b))) false
-  actBy Binary σ = silent (λ t. binaryWord W (x .instruction) (σ (x .instruction .b)) (σ (x .instruction .c))) false
+  actBy Unary σ = silent (λ t. unaryWord W (x .instruction .op) (x .instruction .flags) (σ (x .instruction .b))) false
+  actBy Binary σ = silent (λ t. binaryWord W (x .instruction .op) (x .instruction .flags) (σ (x .instruction .b)) (σ (x .instruction .c))) false
   actBy Jump σ = silent (λ t. 0) true
   -- "JumpIf jumps on a nonzero word, JumpIfNot on 0"
   actBy JumpIf σ = silent (λ t. 0) (not (eqb (σ (x .instruction .a)) 0))
