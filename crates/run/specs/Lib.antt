@@ -8,3 +8,4 @@ pub mod Removal
 pub mod Shapes
 pub mod Operands
 pub mod Valuation
+pub mod Justified

@@ -96,6 +96,19 @@ fits-one : (s a : ℕ) → s ≤ 65535 → a < s → rangeFits (one a) ≡ true
 unfolding rangeFits
 fits-one s a l h = rw (le-leb (a + 0) 65535 (omega arith), le-leb (a + 0 + 1) 65536 (omega arith))
 
+two-within : (s a b : ℕ) → allOf (rangeWithin s) (one a ∷ one b ∷ []) ≡ true → (a < s) × (b < s)
+unfolding allOf
+two-within s a b e =
+    let r = and-right (rangeWithin s (one a)) (rangeWithin s (one b) && true) e in
+    (one-within s a (and-left (rangeWithin s (one a)) (rangeWithin s (one b) && true) e), one-within s b (and-left (rangeWithin s (one b)) true r))
+
+three-within : (s a b c : ℕ) → allOf (rangeWithin s) (one a ∷ one b ∷ one c ∷ []) ≡ true → (a < s) × (b < s) × (c < s)
+unfolding allOf
+three-within s a b c e =
+    let rest = rangeWithin s (one b) && (rangeWithin s (one c) && true) in
+    let w = two-within s b c (and-right (rangeWithin s (one a)) rest e) in
+    (one-within s a (and-left (rangeWithin s (one a)) rest e), w .0, w .1)
+
 module _ (s : ℕ) (T : Tables) (x : Cell) where
   -- by the class's parts
   within-parts : (k : Class) → class (x .instruction) ≡ k → byFields k ≡ true → operandRefusal s T x ≡ 0
@@ -110,13 +123,10 @@ module _ (s : ℕ) (T : Tables) (x : Cell) where
   named-of Hint e z = tt
   named-of LoadInt e z = one-within s _ (and-left _ _ (within-parts LoadInt e refl z))
   named-of LoadConst e z = one-within s _ (and-left _ _ (within-parts LoadConst e refl z))
-  named-of Copy e z = let w = within-parts Copy e refl z in (one-within s _ (and-left _ _ w), one-within s _ (and-left _ _ (and-right _ _ w)))
+  named-of Copy e z = two-within s (x .instruction .b) (x .instruction .a) (within-parts Copy e refl z)
   named-of CopyN e z = tt
-  named-of Unary e z = let w = within-parts Unary e refl z in (one-within s _ (and-left _ _ w), one-within s _ (and-left _ _ (and-right _ _ w)))
-  named-of Binary e z =
-      let w = within-parts Binary e refl z in
-      let v = and-right _ _ w in
-      (one-within s _ (and-left _ _ w), one-within s _ (and-left _ _ v), one-within s _ (and-left _ _ (and-right _ _ v)))
+  named-of Unary e z = two-within s (x .instruction .b) (x .instruction .a) (within-parts Unary e refl z)
+  named-of Binary e z = three-within s (x .instruction .b) (x .instruction .c) (x .instruction .a) (within-parts Binary e refl z)
   named-of Jump e z = tt
   named-of JumpIf e z = one-within s _ (and-left _ _ (within-parts JumpIf e refl z))
   named-of JumpIfNot e z = one-within s _ (and-left _ _ (within-parts JumpIfNot e refl z))
