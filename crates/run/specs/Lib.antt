@@ -9,3 +9,4 @@ pub mod Shapes
 pub mod Operands
 pub mod Valuation
 pub mod Justified
+pub mod Small

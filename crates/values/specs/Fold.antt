@@ -55,6 +55,17 @@ foldingBinary =
     op.AddI ∷ op.SubI ∷ op.MulI ∷ op.And ∷ op.Or ∷ op.Xor ∷ op.AndNot ∷ op.EqI ∷ op.NeI ∷ op.LtI ∷ op.LtU ∷ op.LeI ∷
     op.LeU ∷ op.GtI ∷ op.GtU ∷ op.GeI ∷ op.GeU ∷ []
 
+-- the words of the bitwise opcodes, BoolNot and Trunc
+unfoldable pub bitWord : ℕ → ℕ → ℕ → ℕ → ℕ
+bitWord o flags x y =
+    cond (eqb o op.And) (wordAnd x y)
+    (cond (eqb o op.Or) (wordOr x y)
+    (cond (eqb o op.Xor) (wordXor x y)
+    (cond (eqb o op.AndNot) (wordAnd x (wordNot y))
+    (cond (eqb o op.Not) (wordNot x)
+    (cond (eqb o op.BoolNot) (bool (eqb x 0))
+    (trunc flags x))))))
+
 -- the word that a folding opcode gives; its right word is unread where it is unary
 unfoldable pub foldWord : ℕ → ℕ → ℕ → ℕ → ℕ
 foldWord o flags x y =
@@ -73,16 +84,6 @@ foldWord o flags x y =
     (cond (eqb o op.GeI) (bool (not (signedLess x y)))
     (cond (eqb o op.GeU) (bool (leb y x))
     (bitWord o flags x y))))))))))))))
-  where
-    bitWord : ℕ → ℕ → ℕ → ℕ → ℕ
-    bitWord o flags x y =
-        cond (eqb o op.And) (wordAnd x y)
-        (cond (eqb o op.Or) (wordOr x y)
-        (cond (eqb o op.Xor) (wordXor x y)
-        (cond (eqb o op.AndNot) (wordAnd x (wordNot y))
-        (cond (eqb o op.Not) (wordNot x)
-        (cond (eqb o op.BoolNot) (bool (eqb x 0))
-        (trunc flags x))))))
 
 -- "its signed reading fits 32 bits"
 unfoldable pub fitsImm32 : ℕ → Bool
