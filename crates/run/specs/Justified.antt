@@ -313,11 +313,11 @@ module _ (F : Function) (W : World) (p : ℕ) (σ : Words) (R : List Event) wher
     stores-word x v (equalsTwo e q) = word-two x e ∙ sym (H .expression= _ v q)
 
     -- the slots of an instruction that has a meaning
-    named : (k : Class) (x : Cell) → class (x .instruction) ≡ k → Meant x → Named k (S .locals) (x .instruction)
+    pub named : (k : Class) (x : Cell) → class (x .instruction) ≡ k → Meant x → Named k (S .locals) (x .instruction)
     named k x e m = named-of (S .locals) T x k e (m .1)
 
     -- a single instruction's destination is one of the function's slots
-    single-slot : (k : Class) (x : Cell) → class (x .instruction) ≡ k → isSingle k ≡ true → Meant x → x .instruction .a < S .locals
+    pub single-slot : (k : Class) (x : Cell) → class (x .instruction) ≡ k → isSingle k ≡ true → Meant x → x .instruction .a < S .locals
     unfolding isSingle Named
     single-slot Hint x e s m = absurd (false≢true s)
     single-slot LoadInt x e s m = named LoadInt x e m

@@ -10,3 +10,4 @@ pub mod Operands
 pub mod Valuation
 pub mod Justified
 pub mod Small
+pub mod Numbering
