@@ -56,6 +56,23 @@ isSingle Panic = false
 isSingle Outside = false
 isSingle Invalid = false
 
+isReturn : Class → Bool
+isReturn Hint = false
+isReturn LoadInt = false
+isReturn LoadConst = false
+isReturn Copy = false
+isReturn CopyN = false
+isReturn Unary = false
+isReturn Binary = false
+isReturn Jump = false
+isReturn JumpIf = false
+isReturn JumpIfNot = false
+isReturn ForLoop = false
+isReturn Return = true
+isReturn Panic = false
+isReturn Outside = false
+isReturn Invalid = false
+
 -- the expression of a unary and of a binary instruction, by the values of its operands
 abbrev pub unaryExpression : Instruction → Atom → Expression
 unaryExpression i v = record { opcode = i .op; flags = i .flags; left = v; right = Integer 0 }
@@ -273,7 +290,58 @@ module _ (F : Function) (W : World) (p : ℕ) (σ : Words) (R : List Event) wher
   unfolding doAt actBy
   do-return x e m = rw (meant x m, e)
 
-  module _ (ρ : Valuation) (t : Values) (H : Valid W (S .locals) ρ t p σ) where
+  -- the slots of an instruction that has a meaning
+  pub named : (k : Class) (x : Cell) → class (x .instruction) ≡ k → Meant x → Named k (S .locals) (x .instruction)
+  named k x e m = named-of (S .locals) T x k e (m .1)
+
+  -- a single instruction's destination is one of the function's slots
+  pub single-slot : (k : Class) (x : Cell) → class (x .instruction) ≡ k → isSingle k ≡ true → Meant x → x .instruction .a < S .locals
+  unfolding isSingle Named
+  single-slot Hint x e s m = absurd (false≢true s)
+  single-slot LoadInt x e s m = named LoadInt x e m
+  single-slot LoadConst x e s m = named LoadConst x e m
+  single-slot Copy x e s m = named Copy x e m .1
+  single-slot CopyN x e s m = absurd (false≢true s)
+  single-slot Unary x e s m = named Unary x e m .1
+  single-slot Binary x e s m = named Binary x e m .2
+  single-slot Jump x e s m = absurd (false≢true s)
+  single-slot JumpIf x e s m = absurd (false≢true s)
+  single-slot JumpIfNot x e s m = absurd (false≢true s)
+  single-slot ForLoop x e s m = absurd (false≢true s)
+  single-slot Return x e s m = absurd (false≢true s)
+  single-slot Panic x e s m = absurd (false≢true s)
+  single-slot Outside x e s m = absurd (false≢true s)
+  single-slot Invalid x e s m = absurd (false≢true s)
+
+  -- ---- a justified instruction has a meaning, whatever the slots hold
+
+  module _ (small : S .locals ≤ 65535) (x : Cell) (m : Meant x) where
+    meaning : (k : Class) (j : Instruction) → class j ≡ k → oneByOne k ≡ true → (k ≡ Return → j .b ≡ 1) → Named k (S .locals) j → Meant (rewrite x j)
+    meaning k j e o r n = (m .0, named-refusal (S .locals) T (rewrite x j) k e o small r n)
+
+    no-return : {b : ℕ} (k : Class) → isReturn k ≡ false → k ≡ Return → b ≡ 1
+    unfolding isReturn
+    no-return k s e = let z : true ≡ false = rw e at s in absurd (false≢true (sym z))
+
+    pub justified-meant : (t : Values) (j : Instruction) → Justified S t (x .instruction) j → Meant (rewrite x j)
+    unfolding oneByOne Named isReturn classOf single
+    justified-meant t j stays = m
+    justified-meant t j (operand (inl e) v l) = meaning Copy j e refl (no-return Copy refl) (l, named Copy x e m .1)
+    justified-meant t j (operand (inr e) v l) = meaning Unary j e refl (no-return Unary refl) (l, named Unary x e m .1)
+    justified-meant t j (operands e v w l k) = meaning Binary j e refl (no-return Binary refl) (l, k, named Binary x e m .2)
+    justified-meant t j (tested (inl e) v l) = meaning JumpIf j e refl (no-return JumpIf refl) l
+    justified-meant t j (tested (inr e) v l) = meaning JumpIfNot j e refl (no-return JumpIfNot refl) l
+    justified-meant t j (returned e b v l) = meaning Return j e refl (λ z. b) (λ z. l)
+    justified-meant t j (loaded s st f h) = meaning LoadInt j refl refl (no-return LoadInt refl) (single-slot (class (x .instruction)) x refl s m)
+    justified-meant t j (copied s st q l) = meaning Copy j refl refl (no-return Copy refl) (l, single-slot (class (x .instruction)) x refl s m)
+    justified-meant t j (takenIf e v z) = meaning Jump j refl refl (no-return Jump refl) tt
+    justified-meant t j (takenIfNot e v z) = meaning Jump j refl refl (no-return Jump refl) tt
+    justified-meant t j (passedIf e v z) = meaning Hint j refl refl (no-return Hint refl) tt
+    justified-meant t j (passedIfNot e v z) = meaning Hint j refl refl (no-return Hint refl) tt
+
+  -- ---- and does the same, where the table is true
+
+  module _ (ρ : Valuation) (t : Values) (H : Valid W ρ t σ) where
     -- slots of one value have one word
     same-word : {r s : ℕ} → valueOf t r ≡ valueOf t s → σ r ≡ σ s
     same-word {r} {s} e = sym (H .slot= r) ∙ ap (wordOf ρ) e ∙ H .slot= s
@@ -312,138 +380,58 @@ module _ (F : Function) (W : World) (p : ℕ) (σ : Words) (R : List Event) wher
     stores-word x v (equalsOne e q) = word-one x e ∙ sym (H .expression= _ v q)
     stores-word x v (equalsTwo e q) = word-two x e ∙ sym (H .expression= _ v q)
 
-    -- the slots of an instruction that has a meaning
-    pub named : (k : Class) (x : Cell) → class (x .instruction) ≡ k → Meant x → Named k (S .locals) (x .instruction)
-    named k x e m = named-of (S .locals) T x k e (m .1)
-
-    -- a single instruction's destination is one of the function's slots
-    pub single-slot : (k : Class) (x : Cell) → class (x .instruction) ≡ k → isSingle k ≡ true → Meant x → x .instruction .a < S .locals
-    unfolding isSingle Named
-    single-slot Hint x e s m = absurd (false≢true s)
-    single-slot LoadInt x e s m = named LoadInt x e m
-    single-slot LoadConst x e s m = named LoadConst x e m
-    single-slot Copy x e s m = named Copy x e m .1
-    single-slot CopyN x e s m = absurd (false≢true s)
-    single-slot Unary x e s m = named Unary x e m .1
-    single-slot Binary x e s m = named Binary x e m .2
-    single-slot Jump x e s m = absurd (false≢true s)
-    single-slot JumpIf x e s m = absurd (false≢true s)
-    single-slot JumpIfNot x e s m = absurd (false≢true s)
-    single-slot ForLoop x e s m = absurd (false≢true s)
-    single-slot Return x e s m = absurd (false≢true s)
-    single-slot Panic x e s m = absurd (false≢true s)
-    single-slot Outside x e s m = absurd (false≢true s)
-    single-slot Invalid x e s m = absurd (false≢true s)
-
-    module _ (small : S .locals ≤ 65535) (x : Cell) (m : Meant x) where
+    module _ (x : Cell) (m : Meant x) where
       abbrev i : Instruction
       i = x .instruction
-
-      -- the cell y has a meaning and does what x does
-      abbrev pub Alike : Cell → Type 0
-      Alike y = Meant y × (doAt y ≡ doAt x)
-
-      meaning : (k : Class) (j : Instruction) → class j ≡ k → oneByOne k ≡ true → (k ≡ Return → j .b ≡ 1) → Named k (S .locals) j → Meant (rewrite x j)
-      meaning k j e o r n = (m .0, named-refusal (S .locals) T (rewrite x j) k e o small r n)
-
-      no-return : {b : ℕ} (k : Class) → isSingle k ≡ true → k ≡ Return → b ≡ 1
-      unfolding isSingle
-      no-return k s e = let z : false ≡ true = rw e at s in absurd (false≢true z)
 
       -- both give slot a one word
       both-single : (k l : Class) (y : Cell) → class i ≡ k → isSingle k ≡ true → class (y .instruction) ≡ l → isSingle l ≡ true → y .instruction .a ≡ i .a → Meant y
           → gave l y ≡ gave k x → doAt y ≡ doAt x
       both-single k l y e s f u a n g = do-single l y f u n ∙ ap₂ Sets a g ∙ sym (do-single k x e s m)
 
-      alike-one : (k : Class) (r : ℕ) → class i ≡ k → (k ≡ Copy) ⊎ (k ≡ Unary) → valueOf t r ≡ valueOf t (i .b) → r < S .locals → Alike (rewrite x (setB i r))
-      unfolding isSingle oneByOne Named gave
-      alike-one k r e (inl c) v l =
-          let e′ : class i ≡ Copy = e ∙ c in
-          let n : Meant (rewrite x (setB i r)) = meaning Copy (setB i r) e′ refl (no-return Copy refl) (l, named Copy x e′ m .1) in
-          (n, both-single Copy Copy (rewrite x (setB i r)) e′ refl e′ refl refl n (same-word v))
-      alike-one k r e (inr c) v l =
-          let e′ : class i ≡ Unary = e ∙ c in
-          let n : Meant (rewrite x (setB i r)) = meaning Unary (setB i r) e′ refl (no-return Unary refl) (l, named Unary x e′ m .1) in
-          (n, both-single Unary Unary (rewrite x (setB i r)) e′ refl e′ refl refl n (rw (same-word v)))
-
-      alike-two : (q r : ℕ) → class i ≡ Binary → valueOf t q ≡ valueOf t (i .b) → valueOf t r ≡ valueOf t (i .c) → q < S .locals → r < S .locals → Alike (rewrite x (setBC i q r))
-      unfolding isSingle oneByOne Named gave
-      alike-two q r e v w l k =
-          let n : Meant (rewrite x (setBC i q r)) = meaning Binary (setBC i q r) e refl (no-return Binary refl) (l, k, named Binary x e m .2) in
-          (n, both-single Binary Binary (rewrite x (setBC i q r)) e refl e refl refl n (rw (same-word v, same-word w)))
-
-      -- LoadInt of the known integer
-      alike-load : (v : ℕ) → isSingle (class i) ≡ true → Stores S t i (Integer v) → fitsImm32 v ≡ true → v < 2 ^ 64
-          → Alike (rewrite x (withImm32 (plain op.LoadInt (i .a) 0 0) (v % 2 ^ 32)))
-      unfolding isSingle oneByOne Named gave wordOf classOf single
-      alike-load v s st f h =
-          let j : Instruction = withImm32 (plain op.LoadInt (i .a) 0 0) (v % 2 ^ 32) in
-          let n : Meant (rewrite x j) = meaning LoadInt j refl refl (no-return LoadInt refl) (single-slot (class i) x refl s m) in
-          (n, both-single (class i) LoadInt (rewrite x j) refl s refl refl refl n (imm-fits (i .a) v f h ∙ sym (stores-word x (Integer v) st)))
-
-      -- Copy from a slot that holds the value
-      alike-copy : (v : Atom) (r : ℕ) → isSingle (class i) ≡ true → Stores S t i v → valueOf t r ≡ v → r < S .locals → Alike (rewrite x (plain op.Copy (i .a) r 0))
-      unfolding isSingle oneByOne Named gave classOf single
-      alike-copy v r s st q l =
-          let j : Instruction = plain op.Copy (i .a) r 0 in
-          let n : Meant (rewrite x j) = meaning Copy j refl refl (no-return Copy refl) (l, single-slot (class i) x refl s m) in
-          (n, both-single (class i) Copy (rewrite x j) refl s refl refl refl n (holds-word q ∙ sym (stores-word x v st)))
-
       -- both move alike
       both-quiet : (k l : Class) (y : Cell) → class i ≡ k → Quiet k → class (y .instruction) ≡ l → Quiet l → Meant y → jumps l y ≡ jumps k x
           → Moves (jumps k x) (targetBy l p (y .instruction)) ≡ Moves (jumps k x) (targetBy k p i) → doAt y ≡ doAt x
       both-quiet k l y e q f u n j g = do-quiet l y f u n ∙ ap (λ (b : Bool). Moves b (targetBy l p (y .instruction))) j ∙ g ∙ sym (do-quiet k x e q m)
 
-      alike-test : (r : ℕ) → (class i ≡ JumpIf) ⊎ (class i ≡ JumpIfNot) → valueOf t r ≡ valueOf t (i .a) → r < S .locals → Alike (rewrite x (setA i r))
-      unfolding isSingle oneByOne Named jumps targetBy
-      alike-test r (inl e) v l =
-          let n : Meant (rewrite x (setA i r)) = meaning JumpIf (setA i r) e refl (λ z. let y : _≡_ {A = ℕ} 0 1 = cc in absurd (omega arith)) l in
-          (n, both-quiet JumpIf JumpIf (rewrite x (setA i r)) e jumpIf e jumpIf n (rw (same-word v)) refl)
-      alike-test r (inr e) v l =
-          let n : Meant (rewrite x (setA i r)) = meaning JumpIfNot (setA i r) e refl (λ z. let y : _≡_ {A = ℕ} 0 1 = cc in absurd (omega arith)) l in
-          (n, both-quiet JumpIfNot JumpIfNot (rewrite x (setA i r)) e jumpIfNot e jumpIfNot n (rw (same-word v)) refl)
+      -- both return one word
+      both-return : (y : Cell) (r : ℕ) → y ≡ rewrite x (setA i r) → class i ≡ Return → i .b ≡ 1 → σ r ≡ σ (i .a) → Meant y → doAt y ≡ doAt x
+      unfolding perform event
+      both-return y r y= e b v n =
+          let f : class (y .instruction) ≡ Return = rw y= e in
+          let c : y .instruction .b ≡ 1 = rw y= b in
+          let a : σ (y .instruction .a) ≡ σ (i .a) = rw y= v in
+          let w : map σ (slotsOf (allReads T y)) ≡ map σ (slotsOf (allReads T x)) = words-one y f c ∙ ap (λ (u : ℕ). u ∷ []) a ∙ sym (words-one x e b) in
+          do-return y f n ∙ rw (w, y=) (sym (do-return x e m))
 
       -- the word of a tested slot that holds a known integer
       known : (v : ℕ) → valueOf t (i .a) ≡ Integer v → σ (i .a) ≡ v
       unfolding wordOf
       known v e = holds-word e
 
-      alike-taken : (k : Class) → class i ≡ k → (k ≡ JumpIf) ⊎ (k ≡ JumpIfNot) → jumps k x ≡ true → Alike (rewrite x (plain op.Jump 0 (i .b) (i .c)))
-      unfolding oneByOne Named jumps targetBy classOf single
-      alike-taken k e (inl c) j =
-          let n : Meant (rewrite x (plain op.Jump 0 (i .b) (i .c))) = meaning Jump (plain op.Jump 0 (i .b) (i .c)) refl refl (λ z. let y : _≡_ {A = ℕ} 0 1 = cc in absurd (omega arith)) tt in
-          (n, both-quiet JumpIf Jump (rewrite x (plain op.Jump 0 (i .b) (i .c))) (e ∙ c) jumpIf refl jump n (sym (rw c at j)) refl)
-      alike-taken k e (inr c) j =
-          let n : Meant (rewrite x (plain op.Jump 0 (i .b) (i .c))) = meaning Jump (plain op.Jump 0 (i .b) (i .c)) refl refl (λ z. let y : _≡_ {A = ℕ} 0 1 = cc in absurd (omega arith)) tt in
-          (n, both-quiet JumpIfNot Jump (rewrite x (plain op.Jump 0 (i .b) (i .c))) (e ∙ c) jumpIfNot refl jump n (sym (rw c at j)) refl)
+      taken : (k : Class) → class i ≡ k → Quiet k → jumps k x ≡ true → targetBy Jump p (plain op.Jump 0 (i .b) (i .c)) ≡ targetBy k p i
+          → Meant (rewrite x (plain op.Jump 0 (i .b) (i .c))) → doAt (rewrite x (plain op.Jump 0 (i .b) (i .c))) ≡ doAt x
+      unfolding jumps classOf single
+      taken k e q j g n = both-quiet k Jump (rewrite x (plain op.Jump 0 (i .b) (i .c))) e q refl jump n (sym j) (ap (Moves (jumps k x)) g)
 
-      alike-passed : (k : Class) → class i ≡ k → Quiet k → jumps k x ≡ false → Alike (rewrite x (plain op.Hint 0 0 0))
-      unfolding oneByOne Named jumps classOf single
-      alike-passed k e q j =
-          let n : Meant (rewrite x (plain op.Hint 0 0 0)) = meaning Hint (plain op.Hint 0 0 0) refl refl (λ z. let y : _≡_ {A = ℕ} 0 1 = cc in absurd (omega arith)) tt in
-          (n, both-quiet k Hint (rewrite x (plain op.Hint 0 0 0)) e q refl hint n (sym j) (rw j))
-
-      -- a Return of one slot
-      alike-return : (r : ℕ) → class i ≡ Return → i .b ≡ 1 → valueOf t r ≡ valueOf t (i .a) → r < S .locals → Alike (rewrite x (setA i r))
-      unfolding oneByOne Named perform event
-      alike-return r e b v l =
-          let y : Cell = rewrite x (setA i r) in
-          let n : Meant y = meaning Return (setA i r) e refl (λ z. b) (λ z. l) in
-          let w : map σ (slotsOf (allReads T y)) ≡ map σ (slotsOf (allReads T x)) = words-one y e b ∙ ap (λ (u : ℕ). u ∷ []) (same-word v) ∙ sym (words-one x e b) in
-          (n, do-return y e n ∙ rw w (sym (do-return x e m)))
+      passed : (k : Class) → class i ≡ k → Quiet k → jumps k x ≡ false → Meant (rewrite x (plain op.Hint 0 0 0)) → doAt (rewrite x (plain op.Hint 0 0 0)) ≡ doAt x
+      unfolding jumps classOf single
+      passed k e q j n = both-quiet k Hint (rewrite x (plain op.Hint 0 0 0)) e q refl hint n (sym j) (rw j)
 
       -- An instruction that is justified does the same.
-      pub justified-same : (j : Instruction) → Justified S t i j → Alike (rewrite x j)
-      unfolding jumps
-      justified-same j stays = (m, refl)
-      justified-same j (operand (inl e) v l) = alike-one Copy _ e (inl refl) v l
-      justified-same j (operand (inr e) v l) = alike-one Unary _ e (inr refl) v l
-      justified-same j (operands e v w l k) = alike-two _ _ e v w l k
-      justified-same j (tested e v l) = alike-test _ e v l
-      justified-same j (returned e b v l) = alike-return _ e b v l
-      justified-same j (loaded s st f h) = alike-load _ s st f h
-      justified-same j (copied s st q l) = alike-copy _ _ s st q l
-      justified-same j (takenIf e v z) = alike-taken JumpIf e (inl refl) (rw (known _ v, z))
-      justified-same j (takenIfNot e v z) = alike-taken JumpIfNot e (inr refl) (rw (known _ v, z))
-      justified-same j (passedIf e v z) = alike-passed JumpIf e jumpIf (rw (known _ v, z))
-      justified-same j (passedIfNot e v z) = alike-passed JumpIfNot e jumpIfNot (rw (known _ v, z))
+      pub justified-same : (j : Instruction) → Justified S t i j → Meant (rewrite x j) → doAt (rewrite x j) ≡ doAt x
+      unfolding isSingle gave jumps targetBy classOf single wordOf
+      justified-same j stays n = refl
+      justified-same j (operand (inl e) v l) n = both-single Copy Copy (rewrite x j) e refl e refl refl n (same-word v)
+      justified-same j (operand (inr e) v l) n = both-single Unary Unary (rewrite x j) e refl e refl refl n (rw (same-word v))
+      justified-same j (operands e v w l k) n = both-single Binary Binary (rewrite x j) e refl e refl refl n (rw (same-word v, same-word w))
+      justified-same j (tested (inl e) v l) n = both-quiet JumpIf JumpIf (rewrite x j) e jumpIf e jumpIf n (rw (same-word v)) refl
+      justified-same j (tested (inr e) v l) n = both-quiet JumpIfNot JumpIfNot (rewrite x j) e jumpIfNot e jumpIfNot n (rw (same-word v)) refl
+      justified-same j (returned {r = r} e b v l) n = both-return (rewrite x j) r refl e b (same-word v) n
+      justified-same j (loaded {v = v} s st f h) n =
+          both-single (class i) LoadInt (rewrite x j) refl s refl refl refl n (imm-fits (i .a) v f h ∙ sym (stores-word x (Integer v) st))
+      justified-same j (copied {v = v} s st q l) n = both-single (class i) Copy (rewrite x j) refl s refl refl refl n (holds-word q ∙ sym (stores-word x v st))
+      justified-same j (takenIf e v z) n = taken JumpIf e jumpIf (rw (known _ v, z)) refl n
+      justified-same j (takenIfNot e v z) n = taken JumpIfNot e jumpIfNot (rw (known _ v, z)) refl n
+      justified-same j (passedIf e v z) n = passed JumpIf e jumpIf (rw (known _ v, z)) n
+      justified-same j (passedIfNot e v z) n = passed JumpIfNot e jumpIfNot (rw (known _ v, z)) n

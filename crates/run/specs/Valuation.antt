@@ -120,85 +120,108 @@ pub word-new : (ρ : Valuation) (p s w : ℕ) → p < atStart → wordOf (define
 unfolding wordOf define
 word-new ρ p s w h = rw (ne-eqb p atStart (λ e. omega arith), eq-eqb p p refl)
 
--- the table of a block's start: each slot holds the word that it has
-module _ (W : World) (width : ℕ) where
-  -- the table before place p is true of the words of the slots
-  pub record Valid (ρ : Valuation) (t : Values) (p : ℕ) (σ : Words) : Type 0 where
-    pub slot= : (s : ℕ) → wordOf ρ (valueOf t s) ≡ σ s
-    pub slot< : (s : ℕ) → Below p (valueOf t s)
-    pub expression= : (e : Expression) (v : Atom) → expressionIn (t .expressions) e ≡ some v → wordOf ρ v ≡ wordOfExpression W ρ e
-    pub expression< : (e : Expression) (v : Atom) → expressionIn (t .expressions) e ≡ some v → Below p v × BelowBoth p e
-    -- a recorded slot is one of the function's
-    pub recorded< : (v : Atom) (r : ℕ) → slotIn (t .recorded) v ≡ some r → r < width
+-- ---- tables
 
-  pub valid-empty : (p : ℕ) (σ : Words) → Valid (record { defined = λ q. 0; initial = σ }) empty p σ
-  unfolding valueIn slotIn expressionIn wordOf
-  valid-empty p σ = record {
-    slot= = λ s. refl;
+-- What holds of the table before place p whatever the slots hold: it names no later definition, and a recorded slot is one of the
+-- function's.
+pub record Static (width : ℕ) (t : Values) (p : ℕ) : Type 0 where
+  pub slot< : (s : ℕ) → Below p (valueOf t s)
+  pub expression< : (e : Expression) (v : Atom) → expressionIn (t .expressions) e ≡ some v → Below p v × BelowBoth p e
+  pub recorded< : (v : Atom) (r : ℕ) → slotIn (t .recorded) v ≡ some r → r < width
+
+-- It is true of the words of the slots.
+pub record Valid (W : World) (ρ : Valuation) (t : Values) (σ : Words) : Type 0 where
+  pub slot= : (s : ℕ) → wordOf ρ (valueOf t s) ≡ σ s
+  pub expression= : (e : Expression) (v : Atom) → expressionIn (t .expressions) e ≡ some v → wordOf ρ v ≡ wordOfExpression W ρ e
+
+-- slot a holds value v
+unfoldable pub hold : Values → ℕ → Atom → Values
+hold t a v = record { slots = record { slot = a; value = v } ∷ t .slots; recorded = t .recorded; expressions = t .expressions }
+
+-- slot s is recorded for value v
+unfoldable pub recorded : Values → ℕ → Atom → Values
+recorded t s v = record { slots = t .slots; recorded = record { slot = s; value = v } ∷ t .recorded; expressions = t .expressions }
+
+module _ {width : ℕ} where
+  pub static-empty : (p : ℕ) → Static width empty p
+  unfolding valueIn slotIn expressionIn
+  static-empty p = record {
     slot< = λ s. initially;
-    expression= = λ e v q. let z : _≡_ {A = ℕ} 0 1 = cc in absurd (omega arith);
     expression< = λ e v q. let z : _≡_ {A = ℕ} 0 1 = cc in absurd (omega arith);
     recorded< = λ v r q. let z : _≡_ {A = ℕ} 0 1 = cc in absurd (omega arith)
   }
 
-  pub valid-suc : {ρ : Valuation} {t : Values} {p : ℕ} {σ : Words} → Valid ρ t p σ → Valid ρ t (suc p) σ
-  valid-suc h = record {
-    slot= = h .slot=;
+  pub static-suc : {t : Values} {p : ℕ} → Static width t p → Static width t (suc p)
+  static-suc h = record {
     slot< = λ s. below-suc (h .slot< s);
-    expression= = h .expression=;
     expression< = λ e v q. let b = h .expression< e v q in (below-suc (b .0), below-both-suc (b .1));
     recorded< = h .recorded<
   }
 
-  -- slot a holds value v, whose word it is given
-  unfoldable pub hold : Values → ℕ → Atom → Values
-  hold t a v = record { slots = record { slot = a; value = v } ∷ t .slots; recorded = t .recorded; expressions = t .expressions }
-
-  pub valid-hold : {ρ : Valuation} {t : Values} {p : ℕ} {σ : Words} (g : ℕ → Bool) (a : ℕ) (v : Atom) (w : ℕ) → ((s : ℕ) → g s ≡ eqb a s)
-      → Valid ρ t p σ → Below p v → wordOf ρ v ≡ w → Valid ρ (hold t a v) p (put g (λ s. w) σ)
-  unfolding hold put valueIn
-  valid-hold {ρ} {t} {p} {σ} g a v w is h b e = record {
-    slot= = λ s. rw (is s) (same s (eqb a s));
-    slot< = λ s. under s (eqb a s);
-    expression= = h .expression=;
-    expression< = h .expression<;
-    recorded< = h .recorded<
-  }
+  pub static-hold : {t : Values} {p : ℕ} (a : ℕ) (v : Atom) → Static width t p → Below p v → Static width (hold t a v) p
+  unfolding hold valueIn
+  static-hold {t} {p} a v h b = record { slot< = λ s. under s (eqb a s); expression< = h .expression<; recorded< = h .recorded< }
     where
-      same : (s : ℕ) (u : Bool) → wordOf ρ (cond u v (valueIn (t .slots) s)) ≡ cond u w (σ s)
-      same s true = e
-      same s false = h .slot= s
-
       under : (s : ℕ) (u : Bool) → Below p (cond u v (valueIn (t .slots) s))
       under s true = b
       under s false = h .slot< s
 
-  -- a slot recorded for a value changes nothing that is true
-  pub valid-record : {ρ : Valuation} {t : Values} {p : ℕ} {σ : Words} (s : ℕ) (v : Atom) → s < width → Valid ρ t p σ
-      → Valid ρ (record { slots = t .slots; recorded = record { slot = s; value = v } ∷ t .recorded; expressions = t .expressions }) p σ
-  unfolding slotIn
-  valid-record {ρ} {t} {p} {σ} s v l h = record {
-    slot= = h .slot=;
-    slot< = h .slot<;
-    expression= = h .expression=;
-    expression< = h .expression<;
-    recorded< = λ u r q. go u r (sameAtom v u) q
-  }
+  pub static-record : {t : Values} {p : ℕ} (s : ℕ) (v : Atom) → s < width → Static width t p → Static width (recorded t s v) p
+  unfolding recorded slotIn
+  static-record {t} s v l h = record { slot< = h .slot<; expression< = h .expression<; recorded< = λ u r q. go u r (sameAtom v u) q }
     where
       go : (u : Atom) (r : ℕ) (b : Bool) → cond b (some s) (slotIn (t .recorded) u) ≡ some r → r < width
       go u r true q = let z : s ≡ r = cc in rw z at l
       go u r false q = h .recorded< u r q
 
-  -- a fresh definition at place p: its word is the expression's
-  pub valid-learn : {ρ : Valuation} {t : Values} {p : ℕ} {σ : Words} (e : Expression) (a w : ℕ) → p < atStart → Valid ρ t p σ → BelowBoth p e → wordOfExpression W ρ e ≡ w
-      → Valid (define ρ p w) (learn t e (Definition p a)) (suc p) σ
+  -- a fresh definition at place p
+  pub static-learn : {t : Values} {p : ℕ} (e : Expression) (a : ℕ) → Static width t p → BelowBoth p e → Static width (learn t e (Definition p a)) (suc p)
   unfolding learn expressionIn
-  valid-learn {ρ} {t} {p} {σ} e a w l h be q = record {
-    slot= = λ s. word-old ρ w (h .slot< s) ∙ h .slot= s;
+  static-learn {t} {p} e a h be = record {
     slot< = λ s. below-suc (h .slot< s);
-    expression= = λ d v m. eq d v (sameExpression e d) refl m;
-    expression< = λ d v m. lt d v (sameExpression e d) refl m;
+    expression< = λ d v m. go d v (sameExpression e d) refl m;
     recorded< = h .recorded<
+  }
+    where
+      go : (d : Expression) (v : Atom) (u : Bool) → sameExpression e d ≡ u → cond u (some (Definition p a)) (expressionIn (t .expressions) d) ≡ some v
+          → Below (suc p) v × BelowBoth (suc p) d
+      go d v true i m =
+          let d= : e ≡ d = same-expression e d i in
+          let v= : Definition p a ≡ v = cc in
+          let k : p < suc p = omega arith in
+          rw (← d=, ← v=) (before k, below-both-suc be)
+      go d v false i m = let b = h .expression< d v m in (below-suc (b .0), below-both-suc (b .1))
+
+module _ {W : World} where
+  -- each slot holds the word that it has
+  pub valid-empty : (σ : Words) → Valid W (record { defined = λ q. 0; initial = σ }) empty σ
+  unfolding valueIn expressionIn wordOf
+  valid-empty σ = record {
+    slot= = λ s. refl;
+    expression= = λ e v q. let z : _≡_ {A = ℕ} 0 1 = cc in absurd (omega arith)
+  }
+
+  -- the slots that g names are slot a alone, which is given the word of v
+  pub valid-hold : {ρ : Valuation} {t : Values} {σ : Words} (g : ℕ → Bool) (a : ℕ) (v : Atom) (w : ℕ) → ((s : ℕ) → g s ≡ eqb a s)
+      → Valid W ρ t σ → wordOf ρ v ≡ w → Valid W ρ (hold t a v) (put g (λ s. w) σ)
+  unfolding hold put valueIn
+  valid-hold {ρ} {t} {σ} g a v w is h e = record { slot= = λ s. rw (is s) (same s (eqb a s)); expression= = h .expression= }
+    where
+      same : (s : ℕ) (u : Bool) → wordOf ρ (cond u v (valueIn (t .slots) s)) ≡ cond u w (σ s)
+      same s true = e
+      same s false = h .slot= s
+
+  pub valid-record : {ρ : Valuation} {t : Values} {σ : Words} (s : ℕ) (v : Atom) → Valid W ρ t σ → Valid W ρ (recorded t s v) σ
+  unfolding recorded
+  valid-record s v h = record { slot= = h .slot=; expression= = h .expression= }
+
+  -- a fresh definition: its word is the expression's
+  pub valid-learn : {width : ℕ} {ρ : Valuation} {t : Values} {p : ℕ} {σ : Words} (e : Expression) (a w : ℕ) → p < atStart → Static width t p → Valid W ρ t σ → BelowBoth p e
+      → wordOfExpression W ρ e ≡ w → Valid W (define ρ p w) (learn t e (Definition p a)) σ
+  unfolding learn expressionIn
+  valid-learn {width} {ρ} {t} {p} {σ} e a w l k h be q = record {
+    slot= = λ s. word-old ρ w (k .slot< s) ∙ h .slot= s;
+    expression= = λ d v m. eq d v (sameExpression e d) refl m
   }
     where
       old-expression : (d : Expression) → BelowBoth p d → wordOfExpression W (define ρ p w) d ≡ wordOfExpression W ρ d
@@ -211,14 +234,5 @@ module _ (W : World) (width : ℕ) where
           let v= : Definition p a ≡ v = cc in
           rw (← d=, ← v=) (word-new ρ p a w l ∙ sym q ∙ sym (old-expression e be))
       eq d v false i m =
-          let b = h .expression< d v m in
+          let b = k .expression< d v m in
           word-old ρ w (b .0) ∙ h .expression= d v m ∙ sym (old-expression d (b .1))
-
-      lt : (d : Expression) (v : Atom) (u : Bool) → sameExpression e d ≡ u → cond u (some (Definition p a)) (expressionIn (t .expressions) d) ≡ some v
-          → Below (suc p) v × BelowBoth (suc p) d
-      lt d v true i m =
-          let d= : e ≡ d = same-expression e d i in
-          let v= : Definition p a ≡ v = cc in
-          let k : p < suc p = omega arith in
-          rw (← d=, ← v=) (before k, below-both-suc be)
-      lt d v false i m = let b = h .expression< d v m in (below-suc (b .0), below-both-suc (b .1))
