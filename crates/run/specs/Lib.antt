@@ -11,3 +11,5 @@ pub mod Valuation
 pub mod Justified
 pub mod Small
 pub mod Numbering
+pub mod Step
+pub mod Numbered
