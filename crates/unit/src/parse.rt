@@ -8,7 +8,7 @@ ghost use Rattle.words.specs.Le.{u32At};
 ghost use Rattle.words.specs.Lists.{every};
 ghost use Rattle.unit.specs.Size.{headerSize, metadataSize, constantSize, caseSize};
 ghost use Rattle.unit.specs.Entry.{metadataAt, goodMetadata, typeAt, goodType, goodConstant, caseAt, goodCase};
-ghost use Rattle.unit.specs.Layout.{headerOf, sectionsFollow, goodCounts, goodEntries, layoutOf};
+ghost use Rattle.unit.specs.Layout.{headerOf, sectionsFollow, goodCounts, goodEntries, isUnit, layoutOf};
 ghost use Rattle.unit.specs.Laws.{Sections};
 use crate::Counts;
 use crate::Header;
@@ -89,4 +89,138 @@ fn good_counts(unit: &[u8]) -> bool
     ensures { λ r. ⌜ r ≡ goodCounts (headerOf (now (unit .entry))) ⌝ }
 {
     (le::read_u32(unit, 8) <= 65535) & (le::read_u32(unit, 16) <= 1)
+}
+
+// A kind of 0 to 15, an ok flag, and a select's cases within the section of cases.
+fn good_metadata(d: Metadata, cases: usize) -> bool
+    ensures { λ r. ⌜ r ≡ goodMetadata cases d ⌝ }
+{
+    if d.kind > 15 {
+        return false;
+    }
+    if d.ok > 1 {
+        return false;
+    }
+    if d.kind == 12 {
+        (d.first as usize) + (d.second as usize) <= cases
+    } else {
+        true
+    }
+}
+
+fn every_metadata(section: &[u8], cases: usize) -> bool
+    ensures { λ r. ⌜ r ≡ every (length (now (section .entry)) / metadataSize) (λ k. goodMetadata cases (metadataAt (now (section .entry)) k)) ⌝ }
+{
+    let n = section.len() / 16;
+    let mut k = 0;
+    while k < n {
+        if !good_metadata(entry::metadata(section, k), cases) {
+            return false;
+        }
+        k += 1;
+    }
+    true
+}
+
+fn every_type(section: &[u8]) -> bool
+    ensures { λ r. ⌜ r ≡ every (length (now (section .entry))) (λ k. goodType (typeAt (now (section .entry)) k)) ⌝ }
+{
+    let mut k = 0;
+    while k < section.len() {
+        if section[k] > 5 {
+            return false;
+        }
+        k += 1;
+    }
+    true
+}
+
+// A kind of 0 to 4, and a Bool of 0 or 1.
+fn good_constant(section: &[u8], k: usize) -> bool
+    requires { ⌜ constantSize * k + constantSize ≤ length (now section) ⌝ }
+    ensures { λ r. ⌜ r ≡ goodConstant (now (section .entry)) k ⌝ }
+{
+    let at = 16 * k;
+    if section[at] > 4 {
+        return false;
+    }
+    if section[at] == 1 {
+        le::read_u64(section, at + 8) <= 1
+    } else {
+        true
+    }
+}
+
+fn every_constant(section: &[u8]) -> bool
+    ensures { λ r. ⌜ r ≡ every (length (now (section .entry)) / constantSize) (λ k. goodConstant (now (section .entry)) k) ⌝ }
+{
+    let n = section.len() / 16;
+    let mut k = 0;
+    while k < n {
+        if !good_constant(section, k) {
+            return false;
+        }
+        k += 1;
+    }
+    true
+}
+
+fn good_case(x: SelectCase) -> bool
+    ensures { λ r. ⌜ r ≡ goodCase x ⌝ }
+{
+    if x.kind > 1 {
+        return false;
+    }
+    x.ok <= 1
+}
+
+fn every_case(section: &[u8]) -> bool
+    ensures { λ r. ⌜ r ≡ every (length (now (section .entry)) / caseSize) (λ k. goodCase (caseAt (now (section .entry)) k)) ⌝ }
+{
+    let n = section.len() / 8;
+    let mut k = 0;
+    while k < n {
+        if !good_case(entry::select_case(section, k)) {
+            return false;
+        }
+        k += 1;
+    }
+    true
+}
+
+fn good_entries(unit: &[u8]) -> bool
+    requires { ⌜ Sections (headerOf (now unit)) (length (now unit)) ⌝ }
+    ensures { λ r. ⌜ r ≡ goodEntries (now (unit .entry)) ⌝ }
+{
+    let cases = le::read_u32(unit, 32) as usize;
+    every_metadata(section::part(unit, 40, 4, 16), cases)
+        & every_type(section::part(unit, 44, 12, 1))
+        & every_constant(section::part(unit, 48, 20, 16))
+        & every_case(section::part(unit, 60, 32, 8))
+}
+
+fn is_unit(unit: &[u8]) -> bool
+    ensures { λ r. ⌜ r ≡ isUnit (now (unit .entry)) ⌝ }
+{
+    if unit.len() < 64 {
+        return false;
+    }
+    if !sections_follow(unit) {
+        return false;
+    }
+    if !good_counts(unit) {
+        return false;
+    }
+    good_entries(unit)
+}
+
+// The header of a unit, or refusal 1 at place 0.
+pub fn check(unit: &[u8]) -> Layout
+    ensures { λ r. ⌜ r ≡ layoutOf (now (unit .entry)) ⌝ }
+{
+    if is_unit(unit) {
+        Layout::Unit(header(unit))
+    } else {
+        Layout::Refused(refusal::NOT_UNIT, 0)
+    }
 }
