@@ -26,15 +26,15 @@ fn counts(unit: &[u8]) -> Counts
     ensures { λ r. ⌜ r ≡ headerOf (now (unit .entry)) .counts ⌝ }
 {
     Counts {
-        instructions: le::read_u32(unit, 0) as usize,
-        metadata: le::read_u32(unit, 4) as usize,
-        locals: le::read_u32(unit, 8) as usize,
-        types: le::read_u32(unit, 12) as usize,
-        defer: le::read_u32(unit, 16) as usize,
-        constants: le::read_u32(unit, 20) as usize,
-        functions: le::read_u32(unit, 24) as usize,
-        externs: le::read_u32(unit, 28) as usize,
-        cases: le::read_u32(unit, 32) as usize,
+        instructions: section::word(unit, 0),
+        metadata: section::word(unit, 4),
+        locals: section::word(unit, 8),
+        types: section::word(unit, 12),
+        defer: section::word(unit, 16),
+        constants: section::word(unit, 20),
+        functions: section::word(unit, 24),
+        externs: section::word(unit, 28),
+        cases: section::word(unit, 32),
     }
 }
 
@@ -43,13 +43,13 @@ fn offsets(unit: &[u8]) -> Offsets
     ensures { λ r. ⌜ r ≡ headerOf (now (unit .entry)) .offsets ⌝ }
 {
     Offsets {
-        code: le::read_u32(unit, 36) as usize,
-        metadata: le::read_u32(unit, 40) as usize,
-        types: le::read_u32(unit, 44) as usize,
-        constants: le::read_u32(unit, 48) as usize,
-        functions: le::read_u32(unit, 52) as usize,
-        externs: le::read_u32(unit, 56) as usize,
-        cases: le::read_u32(unit, 60) as usize,
+        code: section::word(unit, 36),
+        metadata: section::word(unit, 40),
+        types: section::word(unit, 44),
+        constants: section::word(unit, 48),
+        functions: section::word(unit, 52),
+        externs: section::word(unit, 56),
+        cases: section::word(unit, 60),
     }
 }
 
@@ -67,14 +67,14 @@ fn meets(unit: &[u8], offset: usize, count: usize, size: usize, next: usize) -> 
     requires { ⌜ (headerSize ≤ length (now unit)) × (offset ≤ 60) × (count ≤ 60) × (size ≤ 16) × (next ≤ 60) ⌝ }
     ensures { λ r. ⌜ r ≡ eqb (u32At (now (unit .entry)) next) (u32At (now (unit .entry)) offset + size * u32At (now (unit .entry)) count) ⌝ }
 {
-    (le::read_u32(unit, next) as usize) == section::past(unit, offset, count, size)
+    section::word(unit, next) == section::past(unit, offset, count, size)
 }
 
 fn sections_follow(unit: &[u8]) -> bool
     requires { ⌜ headerSize ≤ length (now unit) ⌝ }
     ensures { λ r. ⌜ r ≡ sectionsFollow (headerOf (now (unit .entry))) (length (now (unit .entry))) ⌝ }
 {
-    (le::read_u32(unit, 36) == 64)
+    (section::word(unit, 36) == 64)
         & meets(unit, 36, 0, 8, 40)
         & meets(unit, 40, 4, 16, 44)
         & meets(unit, 44, 12, 1, 48)
@@ -88,7 +88,7 @@ fn good_counts(unit: &[u8]) -> bool
     requires { ⌜ headerSize ≤ length (now unit) ⌝ }
     ensures { λ r. ⌜ r ≡ goodCounts (headerOf (now (unit .entry))) ⌝ }
 {
-    (le::read_u32(unit, 8) <= 65535) & (le::read_u32(unit, 16) <= 1)
+    (section::word(unit, 8) <= 65535) & (section::word(unit, 16) <= 1)
 }
 
 // A kind of 0 to 15, an ok flag, and a select's cases within the section of cases.
@@ -192,7 +192,7 @@ fn good_entries(unit: &[u8]) -> bool
     requires { ⌜ Sections (headerOf (now unit)) (length (now unit)) ⌝ }
     ensures { λ r. ⌜ r ≡ goodEntries (now (unit .entry)) ⌝ }
 {
-    let cases = le::read_u32(unit, 32) as usize;
+    let cases = section::word(unit, 32);
     every_metadata(section::part(unit, 40, 4, 16), cases)
         & every_type(section::part(unit, 44, 12, 1))
         & every_constant(section::part(unit, 48, 20, 16))

@@ -65,7 +65,7 @@ returns c =
       c .before .before .before .before .before .part2 .ensures,
       c .before .before .before .part3 .ensures,
       c .before .part4 .ensures,
-      c .before .before .before .before .before .before .before .before .read-u32 .ensures,
+      c .before .before .before .before .before .before .before .before .word .ensures .0,
       one-mul,
     )
     (by-lengths u (lengths u (within _ _ (c .before .before .before .before .before .before .before .before .before .before .pre))))
@@ -75,7 +75,6 @@ good-entries-spec =
     tie.close
     (tie.spec
     (λ c κs. search needs)
-    (λ c. search needs)
     part-requires
     (λ c κs. search needs)
     part-requires-2
