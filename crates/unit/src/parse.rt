@@ -1,6 +1,5 @@
 // The unit's header, and the check that bytes are a unit.
 ghost use mathlib.Core.Path.{_≡_};
-ghost use mathlib.Core.Bool.{true};
 ghost use Prim.Native.Nat.{_+_, _*_, _/_, _≤_};
 ghost use lib.Dec.{eqb};
 ghost use lib.ListN.{length};
@@ -62,7 +61,7 @@ pub fn header(unit: &[u8]) -> Header
     Header { counts, offsets }
 }
 
-// Does the section at `next` start right after that one?
+// Does the section whose start stands at byte `next` follow the one of `offset`, `count` and `size`?
 fn meets(unit: &[u8], offset: usize, count: usize, size: usize, next: usize) -> bool
     requires { ⌜ (headerSize ≤ length (now unit)) × (offset ≤ 60) × (count ≤ 60) × (size ≤ 16) × (next ≤ 60) ⌝ }
     ensures { λ r. ⌜ r ≡ eqb (u32At (now (unit .entry)) next) (u32At (now (unit .entry)) offset + size * u32At (now (unit .entry)) count) ⌝ }
@@ -70,6 +69,7 @@ fn meets(unit: &[u8], offset: usize, count: usize, size: usize, next: usize) -> 
     section::word(unit, next) == section::past(unit, offset, count, size)
 }
 
+// The tests are cheap, so that all are made.
 fn sections_follow(unit: &[u8]) -> bool
     requires { ⌜ headerSize ≤ length (now unit) ⌝ }
     ensures { λ r. ⌜ r ≡ sectionsFollow (headerOf (now (unit .entry))) (length (now (unit .entry))) ⌝ }

@@ -1,5 +1,4 @@
 use borrow.Author.Tests.{not-true, not-false}
-use mathlib.Core.Path.{_≡_}
 use Prim.Native.Nat.{_-_}
 use Rattle.unit.proofs.Every.{Passed, none-passed, more-passed, all-passed, one-failed}
 use Rattle.unit.specs.Entry.{goodCase, caseAt}
@@ -8,7 +7,7 @@ use Rattle.unit.proofs.parse.every_case.Statement.{statement}
 use Rattle.unit.proofs.parse.every_case.Tie as tie
 
 abbrev Inv-loop : tie.InvT-loop
-Inv-loop section n k₀ k = Passed (n) (λ j. goodCase (caseAt section j)) k
+Inv-loop section n k₀ k = Passed n (λ j. goodCase (caseAt section j)) k
 
 abbrev μ-loop : tie.MeasureT-loop
 μ-loop section n k₀ k = n - k

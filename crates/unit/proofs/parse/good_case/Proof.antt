@@ -1,6 +1,5 @@
 use borrow.Author.Tests.{le-leb, lt-leb}
 use Rattle.unit.specs.Entry.{goodCase}
-use borrow.Author.Needs.{needs}
 use Rattle.unit.proofs.parse.good_case.Statement.{statement}
 use Rattle.unit.proofs.parse.good_case.Tie as tie
 

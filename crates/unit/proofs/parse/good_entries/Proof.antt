@@ -55,20 +55,24 @@ part-requires-4 c κs =
 returns : tie.Need-returns
 unfolding headerOf
 returns c =
-    let u = c .before .before .before .before .before .before .before .before .before .before .args .unit .now in
+    let constants = c .before .before in
+    let types = constants .before .before in
+    let metadata = types .before .before in
+    let word = metadata .before .before in
+    let start = word .before .before in
     rw (
-      c .before .before .before .before .before .before .every-metadata .ensures,
-      c .before .before .before .before .every-type .ensures,
-      c .before .before .every-constant .ensures,
+      metadata .every-metadata .ensures,
+      types .every-type .ensures,
+      constants .every-constant .ensures,
       c .every-case .ensures,
-      c .before .before .before .before .before .before .before .part .ensures,
-      c .before .before .before .before .before .part2 .ensures,
-      c .before .before .before .part3 .ensures,
+      metadata .before .part .ensures,
+      types .before .part2 .ensures,
+      constants .before .part3 .ensures,
       c .before .part4 .ensures,
-      c .before .before .before .before .before .before .before .before .word .ensures .0,
+      word .word .ensures .0,
       one-mul,
     )
-    (by-lengths u (lengths u (within _ _ (c .before .before .before .before .before .before .before .before .before .before .pre))))
+    (by-lengths (start .args .unit .now) (lengths _ (within _ _ (start .pre))))
 
 pub good-entries-spec : {M : Type 1} → statement M
 good-entries-spec =
