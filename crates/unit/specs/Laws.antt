@@ -6,11 +6,11 @@ use mathlib.Core.List.{List, [], _∷_, _++_}
 use Prim.Native.Nat.{ℕ, _+_, _*_, _/_, _%_, _^_, _≤_, _<_}
 use native.Mathlib.Nat.{add-zero, mul-zero, mul-suc}
 use native.Mathlib.Omega.{arith}
-use lib.Dec.{lit<, eqb, leb}
+use lib.Dec.{leb}
 use lib.ListN.{length, getD, length-append}
 use borrow.Author.Tests.{eqb-true, leb-true}
 use Rattle.words.specs.Inside.{get-inside, mid-inside}
-use Rattle.words.specs.Le.{fromLe, toLe, from-to, length-toLe}
+use Rattle.words.specs.Le.{toLe, from-to}
 use Rattle.words.specs.Lists.{every, every-at}
 use Rattle.words.specs.Regions.{mid-long}
 use Rattle.unit.specs.Entry.{metadataAt, metadataBytes, goodMetadata, typeAt, goodType, goodConstant, caseAt, goodCase}
@@ -19,7 +19,6 @@ use Rattle.unit.specs.Refusal.{notUnit}
 use Rattle.unit.specs.Result.{Retained, resultHeader, codeBytes, metadataBytesAll, placeBytes, resultBytes}
 use Rattle.unit.specs.Size.{headerSize, instructionSize, metadataSize, constantSize, functionSize, externSize, caseSize, maxLocalSlots, resultSize}
 use Rattle.unit.specs.declared.Header.{Header}
-use Rattle.unit.specs.declared.Layout.{Layout}
 use Rattle.unit.specs.declared.Layout.the-variants.{Unit, Refused}
 use Rattle.unit.specs.declared.Metadata.{Metadata}
 

@@ -1,7 +1,7 @@
 // The sections, each handed back as a part of the unit.
 ghost use mathlib.Core.Path.{_≡_};
 ghost use mathlib.Core.Bool.{true};
-ghost use Prim.Native.Nat.{_+_, _*_, _≤_};
+ghost use Prim.Native.Nat.{_+_, _*_, _^_, _≤_, _<_};
 ghost use lib.ListN.{length};
 ghost use borrow.Rule.Slice.PartMut.{midOf};
 ghost use Rattle.words.specs.Le.{u32At};
@@ -9,12 +9,20 @@ ghost use Rattle.unit.specs.Size.{headerSize};
 ghost use Rattle.unit.specs.Layout.{isUnit, codeOf, metadataOf, typesOf, constantsOf, functionsOf, externsOf, casesOf};
 use words::le;
 
+// The header's number at a byte.
+pub fn word(unit: &[u8], at: usize) -> usize
+    requires { ⌜ (headerSize ≤ length (now unit)) × (at ≤ 60) ⌝ }
+    ensures { λ r. ⌜ (r ≡ u32At (now (unit .entry)) at) × (r < 2 ^ 32) ⌝ }
+{
+    le::read_u32(unit, at) as usize
+}
+
 // The byte past a section: the header has its start at byte `offset`, and its number of entries, of `size` bytes, at byte `count`.
 pub fn past(unit: &[u8], offset: usize, count: usize, size: usize) -> usize
     requires { ⌜ (headerSize ≤ length (now unit)) × (offset ≤ 60) × (count ≤ 60) × (size ≤ 16) ⌝ }
     ensures { λ r. ⌜ r ≡ u32At (now (unit .entry)) offset + size * u32At (now (unit .entry)) count ⌝ }
 {
-    (le::read_u32(unit, offset) as usize) + size * (le::read_u32(unit, count) as usize)
+    word(unit, offset) + size * word(unit, count)
 }
 
 // That section.
@@ -22,7 +30,7 @@ pub fn part(unit: &[u8], offset: usize, count: usize, size: usize) -> &[u8]
     requires { ⌜ (headerSize ≤ length (now unit)) × (offset ≤ 60) × (count ≤ 60) × (size ≤ 16) × (u32At (now unit) offset + size * u32At (now unit) count ≤ length (now unit)) ⌝ }
     ensures { λ r. ⌜ now r ≡ midOf (u32At (now (unit .entry)) offset) (size * u32At (now (unit .entry)) count) (now (unit .entry)) ⌝ }
 {
-    let start = le::read_u32(unit, offset) as usize;
+    let start = word(unit, offset);
     let end = past(unit, offset, count, size);
     &unit[start..end]
 }

@@ -1,10 +1,10 @@
 -- Reading within one part of a list that is joined of three.
 -- Assumes nothing.
-use mathlib.Core.Path.{_≡_, _∙_, ap}
+use mathlib.Core.Path.{_≡_, _∙_}
 use mathlib.Core.List.{List, _++_, append-assoc}
-use Prim.Native.Nat.{ℕ, _+_, _≤_, _<_, _^_}
+use Prim.Native.Nat.{ℕ, _+_, _≤_, _<_}
 use native.Mathlib.Omega.{arith}
-use lib.ListN.{length, getD, take, drop, length-drop, List·getD-append}
+use lib.ListN.{length, getD, drop, length-drop, List·getD-append}
 use lib.Seq.{drop-append-add, drop-append-le, take-append-le, getD-append-add}
 use borrow.Rule.Slice.PartMut.{midOf}
 

@@ -1,6 +1,5 @@
 use borrow.Author.Tests.{ne-eqb}
 use Rattle.unit.specs.Entry.{constantOf}
-use borrow.Author.Needs.{needs}
 use Rattle.unit.proofs.entry.constant_of.Statement.{statement}
 use Rattle.unit.proofs.entry.constant_of.Tie as tie
 

@@ -6,4 +6,4 @@ returns : tie.Need-returns
 returns c = cc
 
 pub meets-spec : {M : Type 1} → statement M
-meets-spec = tie.close (tie.spec (λ c κs. search needs) (λ c. search needs) (λ c κs. search needs) returns)
+meets-spec = tie.close (tie.spec (λ c κs. search needs) (λ c κs. search needs) returns)

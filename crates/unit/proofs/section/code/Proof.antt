@@ -1,7 +1,6 @@
 use native.Mathlib.Omega.{arith}
 use Rattle.unit.specs.Layout.{headerOf}
 use Rattle.unit.specs.Laws.{unit-laid}
-use borrow.Author.Needs.{needs}
 use Rattle.unit.proofs.section.code.Statement.{statement}
 use Rattle.unit.proofs.section.code.Tie as tie
 

@@ -3,7 +3,6 @@ use native.Mathlib.Nat.{one-mul}
 use native.Mathlib.Omega.{arith}
 use Rattle.unit.specs.Layout.{headerOf}
 use Rattle.unit.specs.Laws.{unit-laid}
-use borrow.Author.Needs.{needs}
 use Rattle.unit.proofs.section.types.Statement.{statement}
 use Rattle.unit.proofs.section.types.Tie as tie
 
