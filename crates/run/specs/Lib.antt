@@ -13,3 +13,4 @@ pub mod Small
 pub mod Numbering
 pub mod Step
 pub mod Numbered
+pub mod Retained
