@@ -14,3 +14,4 @@ pub mod Numbering
 pub mod Step
 pub mod Numbered
 pub mod Retained
+pub mod Relocated
