@@ -15,3 +15,4 @@ pub mod Step
 pub mod Numbered
 pub mod Retained
 pub mod Relocated
+pub mod Frame
