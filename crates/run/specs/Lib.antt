@@ -16,3 +16,4 @@ pub mod Numbered
 pub mod Retained
 pub mod Relocated
 pub mod Frame
+pub mod Removed
