@@ -17,3 +17,4 @@ pub mod Retained
 pub mod Relocated
 pub mod Frame
 pub mod Removed
+pub mod Jumps
