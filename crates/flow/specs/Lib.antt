@@ -1,4 +1,9 @@
 pub mod Branch
+pub mod BranchLaws
 pub mod Block
 pub mod Reach
 pub mod Loop
+pub mod Checking
+pub mod Marks
+pub mod Closure
+pub mod Walking
