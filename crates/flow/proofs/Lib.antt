@@ -1,1 +1,2 @@
 mod Classes
+mod Numbering

@@ -5,5 +5,9 @@ pub mod Reach
 pub mod Loop
 pub mod Checking
 pub mod Marks
+pub mod Flags
+pub mod Marking
+pub mod Leaders
+pub mod Blocks
 pub mod Closure
 pub mod Walking

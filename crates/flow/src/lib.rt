@@ -2,4 +2,5 @@
 pub mod block;
 pub mod branch;
 pub mod hint;
+mod mark;
 pub mod reach;
