@@ -8,6 +8,7 @@ pub mod Marks
 pub mod Flags
 pub mod Marking
 pub mod Leaders
+pub mod Hints
 pub mod Blocks
 pub mod Closure
 pub mod Walking
