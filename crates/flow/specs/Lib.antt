@@ -12,3 +12,5 @@ pub mod Hints
 pub mod Blocks
 pub mod Closure
 pub mod Walking
+pub mod Stack
+pub mod Successors

@@ -26,6 +26,11 @@ unfoldable pub pushAll : ℕ → List ℕ → List ℕ → List ℕ
 pushAll n [] st = st
 pushAll n (v ∷ vs) st = pushAll n vs (pushIf (ltb v n) v st)
 
+pub push-append : (n : ℕ) (us vs st : List ℕ) → pushAll n (us ++ vs) st ≡ pushAll n vs (pushAll n us st)
+unfolding pushAll
+push-append n [] vs st = refl
+push-append n (u ∷ us) vs st = push-append n us vs (pushIf (ltb u n) u st)
+
 module _ (v : ℕ) (st : List ℕ) where
   push-old : (t : Bool) {q : ℕ} → In q st → In q (pushIf t v st)
   push-old true i = Memᴰ·append-left (v ∷ []) i
