@@ -102,10 +102,10 @@ leaders-marked cells =
     let first : List ℕ = set (replicate n 0) 0 1 in
     let long : length first ≡ n = simp (length-set, length-replicate) in
     ext-getD 0 (leaders cells) (markAll first (startsFrom 0 cells)) (leaders-long cells ∙ sym (mark-long first (startsFrom 0 cells) ∙ long)) (λ q h.
-      let lt : q < n = rw leaders-long at h in
-      let z : _≡_ {A = ℕ} (getD (replicate n 0) q 0) 0 = getD-replicate n q 0 0 lt in
-      leaders-at cells q lt
-      ∙ sym (mark-at first (startsFrom 0 cells) q (rw long lt) ∙ rw (in-starts q 0 cells, set-at-is (replicate n 0) 0 q (rw (length-replicate {A = ℕ} n 0) lt), z) (either (eqb q 0) (isIn q (branchTargets 0 cells)) (isIn q (blockEnds 0 cells)))))
+    let lt : q < n = rw leaders-long at h in
+    let z : _≡_ {A = ℕ} (getD (replicate n 0) q 0) 0 = getD-replicate n q 0 0 lt in
+    leaders-at cells q lt
+    ∙ sym (mark-at first (startsFrom 0 cells) q (rw long lt) ∙ rw (in-starts q 0 cells, set-at-is (replicate n 0) 0 q (rw (length-replicate {A = ℕ} n 0) lt), z) (either (eqb q 0) (isIn q (branchTargets 0 cells)) (isIn q (blockEnds 0 cells)))))
   where
     either : (t u v : Bool) → _≡_ {A = ℕ} (cond (u || v) 1 (cond t 1 0)) (cond (t || u || v) 1 0)
     either true true v = refl

@@ -14,3 +14,4 @@ pub mod Closure
 pub mod Walking
 pub mod Stack
 pub mod Successors
+pub mod Reached

@@ -82,7 +82,13 @@ pub fn mark_anchors(words: &[u64], metadata: &[u8], marks: &[u32], ends: &mut [u
     let n = words.len();
     let mut p: usize = 0;
     while p < n {
-        mark_end(metadata, ends, marks[p], p, Instruction::from_word(words[p]));
+        mark_end(
+            metadata,
+            ends,
+            marks[p],
+            p,
+            Instruction::from_word(words[p]),
+        );
         p += 1;
     }
 }

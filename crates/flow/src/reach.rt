@@ -40,7 +40,14 @@ fn push_near(stack: &mut [u32], n: usize, sp: usize, p: usize, i: Instruction) -
 }
 
 // A sound loop hint's end and exit.
-fn push_loop(metadata: &[u8], stack: &mut [u32], n: usize, sp: usize, p: usize, i: Instruction) -> usize
+fn push_loop(
+    metadata: &[u8],
+    stack: &mut [u32],
+    n: usize,
+    sp: usize,
+    p: usize,
+    i: Instruction,
+) -> usize
     requires { ⌜ (n ≤ maxInstructions) × (metadataSize * p + metadataSize ≤ length (now metadata)) × (sp + 2 ≤ length (now stack)) ⌝ }
     ensures { λ r. ⌜ Pushed n sp (loopSuccessorsOf n i (now (metadata .entry)) p) (now (stack .entry)) (now (stack .exit)) r ⌝ }
 {

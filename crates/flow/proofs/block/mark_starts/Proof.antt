@@ -31,7 +31,6 @@ returns c =
     let k = b .before .before in
     two-marks _ _ _ _ _ _ _ _ _ (k .class .ensures) (b .branches .ensures) (t .target .ensures) (first .mark-if .ensures) (ends .ends-block .ensures) (second .mark-if2 .ensures)
 
-
 pub mark-starts-spec : {M : Type 1} → statement M
 mark-starts-spec =
     tie.close
