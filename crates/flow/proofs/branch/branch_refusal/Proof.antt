@@ -1,7 +1,9 @@
 use mathlib.Core.Path.{_≡_}
 use mathlib.Core.Bool.{Bool}
+use Prim.Native.Nat.{_≤_, _<_}
+use native.Mathlib.Omega.{arith}
 use Rattle.instruction.specs.declared.Class.{Class}
-use Rattle.flow.specs.Branch.{branches}
+use Rattle.flow.specs.Branch.{branches, target}
 use Rattle.flow.specs.BranchLaws.{inside-none, inside-yes, inside-no}
 use borrow.Author.Needs.{needs}
 use Rattle.flow.proofs.branch.branch_refusal.Statement.{statement}
@@ -13,14 +15,18 @@ branches-as e f g = rw (← e, ← f, g)
 
 returns : tie.Need-returns
 returns c =
-    let n = c .before .before in
-    let outside = inside-no _ _ _ (branches-as (n .before .before .class .ensures) (n .before .branches .ensures) (n .if1 .taken)) (rw (c .before .target .ensures) at (c .if2 .taken)) in
+    let t = c .before .before in
+    let a = t .before .before .before .args in
+    let far : a .n ≤ target (a .p) (a .i) = omega (arith, c .before .target .ensures) in
+    let outside = inside-no (a .n) (a .p) (a .i) (branches-as (t .before .before .class .ensures) (t .before .branches .ensures) (t .if1 .taken)) far in
     rw outside
 
 returns-2 : tie.Need-returns-2
 returns-2 c =
-    let n = c .before .before in
-    let inside = inside-yes _ _ _ (branches-as (n .before .before .class .ensures) (n .before .branches .ensures) (n .if1 .taken)) (rw (c .before .target .ensures) at (c .if2 .left)) in
+    let t = c .before .before in
+    let a = t .before .before .before .args in
+    let near : target (a .p) (a .i) < a .n = omega (arith, c .before .target .ensures) in
+    let inside = inside-yes (a .n) (a .p) (a .i) (branches-as (t .before .before .class .ensures) (t .before .branches .ensures) (t .if1 .taken)) near in
     rw inside
 
 returns-3 : tie.Need-returns-3

@@ -5,7 +5,7 @@ use Rattle.flow.proofs.reach.push_if.Statement.{statement}
 use Rattle.flow.proofs.reach.push_if.Tie as tie
 
 returns : tie.Need-returns
-returns c = rw (c .before .if1 .taken) (push-yes _ _ _ _ (c .if2 .taken) (omega arith))
+returns c = rw (c .before .if1 .taken) (let a = c .before .before .args in push-yes (a .n) (a .sp) (a .stack .now) (a .v) (omega arith) (omega arith))
 
 returns-2 : tie.Need-returns-2
 returns-2 c = rw (c .before .if1 .taken) (push-no _ _ _ _ (c .if2 .left))
