@@ -1,2 +1,4 @@
 pub mod Boundary
 pub mod Relocate
+pub mod Boundaries
+pub mod Moved

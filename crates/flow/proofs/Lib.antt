@@ -1,0 +1,3 @@
+mod Classes
+mod Numbering
+mod Pushing
