@@ -18,3 +18,4 @@ pub mod Relocated
 pub mod Frame
 pub mod Removed
 pub mod Jumps
+pub mod Solved
