@@ -19,3 +19,4 @@ pub mod Frame
 pub mod Removed
 pub mod Jumps
 pub mod Solved
+pub mod Rows
