@@ -20,3 +20,4 @@ pub mod Removed
 pub mod Jumps
 pub mod Solved
 pub mod Rows
+pub mod Alive
