@@ -21,3 +21,4 @@ pub mod Jumps
 pub mod Solved
 pub mod Rows
 pub mod Alive
+pub mod Optimized
