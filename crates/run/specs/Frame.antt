@@ -1,21 +1,22 @@
 -- What a step reads decides what it does.
 -- Assumes nothing.
 use mathlib.Core.Path.{_≡_, refl, sym, ap, ap₂, _∙_}
-use mathlib.Core.Bool.{Bool, true, false, cond, not, _&&_, _||_, or-false, false≢true}
+use mathlib.Core.Logic.{_⊎_, inl, inr}
+use mathlib.Core.Bool.{Bool, true, false, cond, not, _&&_, _||_, or-false, or-true, false≢true}
 use mathlib.Core.List.{List, [], _∷_, _++_, map, append-nil}
 use Prim.Native.Nat.{ℕ, zero, suc, _+_, _-_, _≤_, _<_}
 use native.Mathlib.Nat.{add-zero}
 use native.Mathlib.Decide.{ℕ-discrete}
 use native.Mathlib.Omega.{arith}
 use lib.Dec.{eqb, leb, ltb}
-use borrow.Author.Tests.{leb-true, ltb-true}
+use borrow.Author.Tests.{eqb-true, leb-true, ltb-true, le-leb, lt-ltb}
 use Rattle.instruction.specs.declared.Instruction.{Instruction}
 use Rattle.instruction.specs.declared.Class.{Class}
 use Rattle.instruction.specs.declared.Class.the-variants.{Hint, LoadInt, LoadConst, Copy, CopyN, Unary, Binary, Jump, JumpIf, JumpIfNot, ForLoop, Return, Panic, Outside, Invalid}
 use Rattle.instruction.specs.Instruction.{class}
 use Rattle.effects.specs.declared.Range.{Range}
 use Rattle.effects.specs.Shape.{Tables, Sections, Cell, rangeOf, value, applies}
-use Rattle.effects.specs.Effects.{allReads, rangeHas, anyOf}
+use Rattle.effects.specs.Effects.{allReads, rangeHas, rangeWithin, allOf, anyOf}
 use Rattle.run.specs.Machine.{Words, World}
 use Rattle.run.specs.Removal.{Agree, SameAct, silent=, ask=, stop=, fail=}
 use Rattle.run.specs.Program.{actBy, event, givenRanges, slotsOf, slotsFrom}
@@ -96,3 +97,67 @@ module _ (S : Sections) (W : World) (x : Cell) (σ σ′ : Words) where
   frame Panic e ag = rw (map-agree (slotsOf (allReads T x)) σ σ′ ag) stop=
   frame Outside e ag = rw (map-agree (slotsOf (allReads T x)) σ σ′ ag) ask=
   frame Invalid e ag = fail=
+
+-- ---- slots of ranges, by test
+
+split-in : (s : ℕ) (l m : List ℕ) → In s (l ++ m) → In s l ⊎ In s m
+split-in s [] m i = inr i
+split-in s (x ∷ l) m here = inl here
+split-in s (x ∷ l) m (there i) = elim (split-in s l m i) [ inl j ↦ inl (there j) | inr j ↦ inr j ]
+
+in-slots : (a n s : ℕ) → In s (slotsFrom a n) → (a ≤ s) × (s < a + n)
+unfolding slotsFrom
+in-slots a zero s i = absurd (none-in i)
+  where
+    none-in : {s : ℕ} → In s [] → ⊥
+    none-in = elim [ ]
+in-slots a (suc n) s i = go s n a (i) (in-slots (suc a) n s)
+  where
+    go : (s n a : ℕ) → In s (a ∷ slotsFrom (suc a) n) → (In s (slotsFrom (suc a) n) → (suc a ≤ s) × (s < suc a + n)) → (a ≤ s) × (s < a + suc n)
+    go s n a here f = (omega arith, omega arith)
+    go s n a (there i) f = let r = f i in (omega arith, omega arith)
+
+pub slots-any : (rs : List Range) (s : ℕ) → In s (slotsOf rs) → anyOf (rangeHas s) rs ≡ true
+unfolding slotsOf anyOf rangeHas
+slots-any [] s i = absurd (none-in i)
+  where
+    none-in : {s : ℕ} → In s [] → ⊥
+    none-in = elim [ ]
+slots-any (r ∷ rs) s i = go (split-in s (slotsFrom (r .start) (r .count)) (slotsOf rs) i) (slots-any rs s)
+  where
+    go : In s (slotsFrom (r .start) (r .count)) ⊎ In s (slotsOf rs) → (In s (slotsOf rs) → anyOf (rangeHas s) rs ≡ true)
+        → ((leb (r .start) s && ltb s (r .start + r .count)) || anyOf (rangeHas s) rs) ≡ true
+    go (inl j) f = let h = in-slots (r .start) (r .count) s j in rw (le-leb (r .start) s (h .0), lt-ltb s (r .start + r .count) (h .1))
+    go (inr j) f = rw (f j) (or-true (leb (r .start) s && ltb s (r .start + r .count)))
+
+pub slots-within : (w : ℕ) (rs : List Range) (s : ℕ) → allOf (rangeWithin w) rs ≡ true → In s (slotsOf rs) → s < w
+unfolding slotsOf allOf rangeWithin
+slots-within w [] s e i = absurd (none-in i)
+  where
+    none-in : {s : ℕ} → In s [] → ⊥
+    none-in = elim [ ]
+slots-within w (r ∷ rs) s e i =
+    go (split-in s (slotsFrom (r .start) (r .count)) (slotsOf rs) i) (slots-within w rs s (and-right (eqb (r .count) 0 || leb (r .start + r .count) w) (allOf (rangeWithin w) rs) e))
+    (and-left (eqb (r .count) 0 || leb (r .start + r .count) w) (allOf (rangeWithin w) rs) e)
+  where
+    go : In s (slotsFrom (r .start) (r .count)) ⊎ In s (slotsOf rs) → (In s (slotsOf rs) → s < w) → (eqb (r .count) 0 || leb (r .start + r .count) w) ≡ true → s < w
+    go (inl j) f b = within (eqb (r .count) 0) refl b (in-slots (r .start) (r .count) s j)
+      where
+        within : (t : Bool) → eqb (r .count) 0 ≡ t → (t || leb (r .start + r .count) w) ≡ true → (r .start ≤ s) × (s < r .start + r .count) → s < w
+        within true z b h = let c : r .count ≡ 0 = eqb-true (r .count) 0 z in absurd (omega arith)
+        within false z b h = let k = leb-true (r .start + r .count) w b in omega arith
+    go (inr j) f b = f j
+
+pub allOf-left : (f : Range → Bool) (xs ys : List Range) → allOf f (xs ++ ys) ≡ true → allOf f xs ≡ true
+unfolding allOf
+allOf-left f [] ys e = refl
+allOf-left f (x ∷ xs) ys e = rw (and-left (f x) (allOf f (xs ++ ys)) e) (allOf-left f xs ys (and-right (f x) (allOf f (xs ++ ys)) e))
+
+pub any-left : (f : Range → Bool) (xs ys : List Range) → anyOf f xs ≡ true → anyOf f (xs ++ ys) ≡ true
+unfolding anyOf
+any-left f [] ys e = absurd (false≢true e)
+any-left f (x ∷ xs) ys e = go (f x) e (any-left f xs ys)
+  where
+    go : (t : Bool) → (t || anyOf f xs) ≡ true → (anyOf f xs ≡ true → anyOf f (xs ++ ys) ≡ true) → (t || anyOf f (xs ++ ys)) ≡ true
+    go true e ih = refl
+    go false e ih = ih e

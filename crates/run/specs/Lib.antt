@@ -22,3 +22,4 @@ pub mod Solved
 pub mod Rows
 pub mod Alive
 pub mod Optimized
+pub mod Kept

@@ -91,7 +91,7 @@ module _ (G : Function) (leaders : List ℕ) (N : Removing G leaders) where
 
   -- ---- what is useful
 
-  useful-long : length useful ≡ n
+  pub useful-long : length useful ≡ n
   unfolding usefulPlaces
   useful-long = length-mapFrom _ 0 code
 
@@ -99,7 +99,7 @@ module _ (G : Function) (leaders : List ℕ) (N : Removing G leaders) where
   unfolding usefulPlaces
   useful-at p h = getD-mapFrom (λ p x. cond (isPlainHint (x .instruction)) 0 (getD marks p 0)) 0 code p noCell 0 h ∙ rw zero-add
 
-  useful-bits : Bits useful
+  pub useful-bits : Bits useful
   useful-bits p = elim (decLe n p) [
     | yes h ↦ (let l : length useful ≤ p = rw useful-long h in inl (List·getD-eq-default useful 0 l))
     | no h ↦ rw (useful-at p (omega arith)) (go (isPlainHint (cell p .instruction)) (bits-of marks (places-flags code) p))
@@ -110,14 +110,14 @@ module _ (G : Function) (leaders : List ℕ) (N : Removing G leaders) where
       go false b = b
 
   -- a reached place that is not useful is a plain hint
-  not-useful : (p : ℕ) → p < n → Marked marks p → isKept useful p ≡ false → isPlainHint (cell p .instruction) ≡ true
+  pub not-useful : (p : ℕ) → p < n → Marked marks p → isKept useful p ≡ false → isPlainHint (cell p .instruction) ≡ true
   not-useful p h m e = go (isPlainHint (cell p .instruction)) refl (rw (useful-at p h) at e)
     where
       go : (t : Bool) → isPlainHint (cell p .instruction) ≡ t → eqb (cond t 0 (getD marks p 0)) 1 ≡ false → isPlainHint (cell p .instruction) ≡ true
       go true q r = q
       go false q r = absurd (true≢false (sym (eq-eqb (getD marks p 0) 1 m) ∙ r))
 
-  hint-class : (p : ℕ) → isPlainHint (cell p .instruction) ≡ true → class (cell p .instruction) ≡ Hint
+  pub hint-class : (p : ℕ) → isPlainHint (cell p .instruction) ≡ true → class (cell p .instruction) ≡ Hint
   unfolding classOf single
   hint-class p e = let o : cell p .instruction .op ≡ op.Hint = eqb-true _ _ (and-left (eqb (cell p .instruction .op) op.Hint) (eqb (cell p .instruction .flags) 0) e) in rw o
 
@@ -126,7 +126,7 @@ module _ (G : Function) (leaders : List ℕ) (N : Removing G leaders) where
   jump-class p e = rw e
 
   -- a hint gives no slot a word
-  hint-gives : (p s : ℕ) → class (cell p .instruction) ≡ Hint → anyOf (rangeHas s) (givenRanges T (cell p)) ≡ false
+  pub hint-gives : (p s : ℕ) → class (cell p .instruction) ≡ Hint → anyOf (rangeHas s) (givenRanges T (cell p)) ≡ false
   unfolding byFields writeParts anyOf
   hint-gives p s k =
       let f : byFields (class (cell p .instruction)) ≡ true = rw k refl in
@@ -169,7 +169,7 @@ module _ (G : Function) (leaders : List ℕ) (N : Removing G leaders) where
   onward p h r q (branch f) = (target-le p h, λ l. places-target code p h (r .1 h) f l)
 
   -- a block's inner places do not branch
-  inner : (p : ℕ) → p < n → isLast n leaders p ≡ false → branches (class (cell p .instruction)) ≡ false
+  pub inner : (p : ℕ) → p < n → isLast n leaders p ≡ false → branches (class (cell p .instruction)) ≡ false
   inner p h e = go (branches (class (cell p .instruction))) refl
     where
       next-marked : branches (class (cell p .instruction)) ≡ true → isLast n leaders p ≡ true
@@ -238,7 +238,7 @@ module _ (G : Function) (leaders : List ℕ) (N : Removing G leaders) where
         go Invalid c = stays
 
     -- a place that the rounds dropped
-    skipped : (live : ℕ → ℕ → Type 0) (p : ℕ) → p < n → isKept keep p ≡ true → isKept final p ≡ false
+    pub skipped : (live : ℕ → ℕ → Type 0) (p : ℕ) → p < n → isKept keep p ≡ true → isKept final p ≡ false
         → ((s : ℕ) → class (cell p .instruction) ≡ Jump → live (target p (cell p .instruction)) s → live p s) → Dropped G final Reach live p
     skipped live p h k e l+ =
         let w : Skips (anchors marks code) code final p = rounds-why (anchors marks code) code 16 keep b l p h (target-le p h) k e in
@@ -252,7 +252,7 @@ module _ (G : Function) (leaders : List ℕ) (N : Removing G leaders) where
         (flows : (p : ℕ) → p < n → Reach p → isKept final p ≡ true → (q : ℕ) → Succ (class (cell p .instruction)) p (cell p .instruction) q
           → (s : ℕ) → live q s → anyOf (rangeHas s) (givenRanges T (cell p)) ≡ false → live p s)
         (drops : (p : ℕ) → p < n → Reach p → isKept final p ≡ false → Dropped G final Reach live p) where
-      removable : Removable G final Reach live
+      pub removable : Removable G final Reach live
       removable = record {
         described = N .described;
         bits = final-bits;

@@ -88,6 +88,18 @@ module _ (S : Sections) (leaders keep : List ℕ) (cells : List Cell) where
   rows-long p [] rows = refl
   rows-long p (x ∷ xs) rows = perhaps-long (eqb (getD leaders p 0) 1) (roundFrom S n leaders keep (suc p) xs rows .rows) (blockOf leaders p) _ ∙ rows-long (suc p) xs rows
 
+  -- so it does over all rounds
+  pub solve-long : (k : ℕ) (rows found : List Row) → solveIn S n leaders keep k cells rows ≡ some found → length found ≡ length rows
+  unfolding solveIn
+  solve-long zero rows found e = let z : _≡_ {A = ℕ} 0 1 = cc in absurd (omega arith)
+  solve-long (suc k) rows found e = go (sameRows rows (roundFrom S n leaders keep 0 cells rows .rows)) e (solve-long k (roundFrom S n leaders keep 0 cells rows .rows) found)
+    where
+      go : (t : Bool) → cond t (some (roundFrom S n leaders keep 0 cells rows .rows)) (solveIn S n leaders keep k cells (roundFrom S n leaders keep 0 cells rows .rows)) ≡ some found
+          → (solveIn S n leaders keep k cells (roundFrom S n leaders keep 0 cells rows .rows) ≡ some found → length found ≡ length (roundFrom S n leaders keep 0 cells rows .rows))
+          → length found ≡ length rows
+      go true e ih = let f : roundFrom S n leaders keep 0 cells rows .rows ≡ found = cc in rw (← f) (rows-long 0 cells rows)
+      go false e ih = ih e ∙ rows-long 0 cells rows
+
   -- a row that no later leader has is not touched
   untouched : (i : ℕ) (q : ℕ) (xs : List Cell) (rows : List Row) → ((p : ℕ) → q ≤ p → p < q + length xs → Marked leaders p → blockOf leaders p ≡ i → ⊥)
       → getD (roundFrom S n leaders keep q xs rows .rows) i (noRow S n leaders keep) ≡ getD rows i (noRow S n leaders keep)
