@@ -27,6 +27,7 @@ use Rattle.flow.specs.Loop.{reachedPlaces, anchors}
 use Rattle.flow.specs.Marks.{Marked}
 use Rattle.values.specs.Number.{isScalar}
 use Rattle.pc_map.specs.Boundary.{isKept}
+use Rattle.pc_map.specs.Relocate.{retainFrom}
 use Rattle.liveness.specs.Live.{Row, noRow, solveIn, liveRows, maxLivenessWork}
 use Rattle.liveness.specs.Dead.{unread, isDead, sweepFrom, withoutDead, deadStores}
 use Rattle.optimize.specs.Jump.{jumpRounds}
@@ -176,3 +177,127 @@ module _ (G : Function) (leaders : List ℕ) (N : Removing G leaders) where
       go true b e = let z : _≡_ {A = ℕ} 0 1 = cc in absurd (omega arith)
       go false true e = found e
       go false false e = let z : _≡_ {A = ℕ} 0 1 = cc in absurd (omega arith)
+
+  module _ (rows : List Row) (found : liveRows S leaders useful code ≡ some rows) where
+    abbrev A : Analysed S leaders useful code rows
+    A = analysed rows found
+
+    -- the useful places without the dead stores
+    abbrev keep : List ℕ
+    keep = sweepFrom S n leaders useful rows 0 code .keep
+
+    abbrev final : List ℕ
+    final = jumpRounds 16 (anchors marks code) code keep
+
+    -- the slots that count: inside the frame, and live before the place
+    abbrev Live : ℕ → ℕ → Type 0
+    Live p s = (s < S .locals) × (bit (before S leaders useful code rows p) s ≡ true)
+
+    abbrev remains : ℕ → Bool
+    remains p = stays S leaders useful code rows p
+
+    keep-long : length keep ≡ n
+    keep-long = sweep-long S leaders useful code rows
+
+    keep-at : (p : ℕ) → p < n → isKept keep p ≡ remains p
+    keep-at p h = ap (λ (k : ℕ). eqb k 1) (stays-at S leaders useful code rows p h) ∙ go (remains p)
+      where
+        go : (t : Bool) → eqb (cond t 1 0) 1 ≡ t
+        go true = refl
+        go false = refl
+
+    keep-bits : Bits keep
+    keep-bits p = elim (decLe n p) [
+      | yes h ↦ (let l : length keep ≤ p = rw keep-long h in inl (List·getD-eq-default keep 0 l))
+      | no h ↦ rw (stays-at S leaders useful code rows p (omega arith)) (go (remains p))
+    ]
+      where
+        go : (t : Bool) → (cond t 1 0 ≡ 0) ⊎ (cond t 1 0 ≡ 1)
+        go true = inr refl
+        go false = inl refl
+
+    -- the rounds only drop places
+    still-kept : (p : ℕ) → p < n → isKept final p ≡ true → remains p ≡ true
+    still-kept p h e = sym (keep-at p h) ∙ go (isKept keep p) refl
+      where
+        go : (t : Bool) → isKept keep p ≡ t → isKept keep p ≡ true
+        go true k = k
+        go false k = absurd (false≢true (sym (rounds-fewer (anchors marks code) code 16 keep p k) ∙ e))
+
+    reads-live : (p : ℕ) → p < n → Reach p → isKept final p ≡ true → (s : ℕ) → In s (slotsOf (allReads T (cell p))) → Live p s
+    reads-live p h r e s i =
+        let l : s < S .locals = slots-within (S .locals) (allReads T (cell p)) s (allOf-left (rangeWithin (S .locals)) (allReads T (cell p)) (writes T (cell p)) (refusal-within (S .locals) T (cell p) (N .operands p h))) i in
+        (l, before-flow S leaders useful code rows A p s h l ∙ flow-reads (remains p) _ _ _ (still-kept p h e) (slots-any (allReads T (cell p)) s i))
+
+    -- what is live at a successor and not written is live before the place
+    passes-on : (p : ℕ) → p < n → (q : ℕ) → Succ (class (cell p .instruction)) p (cell p .instruction) q → (s : ℕ) → Live q s
+        → anyOf (rangeHas s) (givenRanges T (cell p)) ≡ false → Live p s
+    unfolding givenRanges
+    passes-on p h q g s v w =
+        (v .0, before-flow S leaders useful code rows A p s h (v .0) ∙ flow-kept (remains p) _ _ _ (out S leaders useful code rows A p q s (v .0) h g (v .1)) (go (anyOf (rangeHas s) (writes T (cell p))) refl))
+      where
+        go : (t : Bool) → anyOf (rangeHas s) (writes T (cell p)) ≡ t → anyOf (rangeHas s) (writes T (cell p)) ≡ false
+        go true e = absurd (true≢false (sym (any-left (rangeHas s) (writes T (cell p)) _ e) ∙ w))
+        go false e = e
+
+    jump-gives : (p s : ℕ) → class (cell p .instruction) ≡ Jump → anyOf (rangeHas s) (givenRanges T (cell p)) ≡ false
+    unfolding byFields writeParts anyOf
+    jump-gives p s k =
+        let f : byFields (class (cell p .instruction)) ≡ true = rw k refl in
+        rw (given-by T (cell p) f, k)
+
+    -- a place that is gone passes on what is live
+    gone-live : (p : ℕ) → p < n → remains p ≡ false → passes (class (cell p .instruction)) ≡ true → (s : ℕ) → Live (suc p) s → Live p s
+    gone-live p h e k s v =
+        (v .0, before-flow S leaders useful code rows A p s h (v .0) ∙ flow-gone (remains p) _ _ _ e (out S leaders useful code rows A p (suc p) s (v .0) h (next (passing-falls (class (cell p .instruction)) k)) (v .1)))
+
+    dead-gives : (p : ℕ) → p < n → dead S leaders useful code rows p ≡ true → (s : ℕ) → Live (suc p) s → anyOf (rangeHas s) (givenRanges T (cell p)) ≡ false
+    dead-gives p h d s v =
+        let pure : isPure (class (cell p .instruction)) ≡ true = dead-pure S (cell p) (after S leaders useful code rows p) d in
+        let f : byFields (class (cell p .instruction)) ≡ true = pure-fields (class (cell p .instruction)) pure in
+        let k : passes (class (cell p .instruction)) ≡ true = pure-passes (class (cell p .instruction)) pure in
+        let a : bit (after S leaders useful code rows p) s ≡ true = out S leaders useful code rows A p (suc p) s (v .0) h (next (passing-falls (class (cell p .instruction)) k)) (v .1) in
+        ap (anyOf (rangeHas s)) (given-by T (cell p) f ∙ sym (writes-by T (cell p) f)) ∙ go (anyOf (rangeHas s) (writes T (cell p))) refl a
+      where
+        go : (t : Bool) → anyOf (rangeHas s) (writes T (cell p)) ≡ t → bit (after S leaders useful code rows p) s ≡ true → anyOf (rangeHas s) (writes T (cell p)) ≡ false
+        go true e a = absurd (true≢false (sym a ∙ dead-unread S (cell p) (after S leaders useful code rows p) s d e))
+        go false e a = e
+
+    drops-live : (p : ℕ) → p < n → Reach p → isKept final p ≡ false → Dropped G final Reach Live p
+    unfolding passes branches
+    drops-live p h r e = go (isKept keep p) refl
+      where
+        jumped : (s : ℕ) → class (cell p .instruction) ≡ Jump → Live (target p (cell p .instruction)) s → Live p s
+        jumped s c v = let b : branches (class (cell p .instruction)) ≡ true = rw c refl in passes-on p h _ (branch b) s v (jump-gives p s c)
+
+        gone : remains p ≡ false → (t : Bool) → isKept useful p ≡ t → Dropped G final Reach Live p
+        gone g true k =
+            let d : dead S leaders useful code rows p ≡ true = died (isKept useful p) (dead S leaders useful code rows p) k g in
+            let pass : passes (class (cell p .instruction)) ≡ true = pure-passes (class (cell p .instruction)) (dead-pure S (cell p) (after S leaders useful code rows p) d) in
+            store pass (gone-live p h g pass) (dead-gives p h d)
+          where
+            died : (k d : Bool) → k ≡ true → (k && not d) ≡ false → d ≡ true
+            died k true e g = refl
+            died true false e g = absurd (true≢false g)
+            died false false e g = absurd (false≢true e)
+        gone g false k =
+            let c : class (cell p .instruction) ≡ Hint = hint-class G leaders N p (not-useful G leaders N p h (r .1 h) k) in
+            let pass : passes (class (cell p .instruction)) ≡ true = rw c refl in
+            store pass (gone-live p h g pass) (λ s v. hint-gives G leaders N p s c)
+
+        go : (t : Bool) → isKept keep p ≡ t → Dropped G final Reach Live p
+        go true k = skipped G leaders N keep keep-bits keep-long Live p h k e jumped
+        go false k = gone (sym (keep-at p h) ∙ k) (isKept useful p) refl
+
+    live-removable : Removable G final Reach Live
+    live-removable = removable G leaders N keep keep-bits keep-long Live reads-live (λ p h r e q g s v w. passes-on p h q g s v w) drops-live
+
+  -- the places that the pass keeps, relocated, run as all of them do
+  pub kept-runs : SameRuns (programOf G) (programOf (resultFunction S (retainFrom (keptPlaces S leaders marks code) 0 code)))
+  unfolding keptPlaces deadStores withoutDead
+  kept-runs = go (liveRows S leaders useful code) refl
+    where
+      go : (o : Option (List Row)) → liveRows S leaders useful code ≡ o
+          → SameRuns (programOf G) (programOf (resultFunction S (retainFrom (jumpRounds 16 (anchors marks code) code (withoutDead S leaders useful code (liveRows S leaders useful code))) 0 code)))
+      go none e = rw e (removed G _ Reach _ (plain-removable G leaders N))
+      go (some rows) e = rw e (removed G _ Reach _ (live-removable rows e))
