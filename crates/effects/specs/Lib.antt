@@ -4,3 +4,5 @@ pub mod Effects
 pub mod Check
 pub mod Cells
 pub mod Laws
+pub mod Form
+pub mod Rows

@@ -1,0 +1,91 @@
+-- The tables of src/table.rt: each distinct part of Table.antt is a form, known by its number; a row packs the forms of an opcode.
+-- Assumes nothing.
+use mathlib.Core.Bool.{cond}
+use mathlib.Core.List.{List, [], _∷_, _++_}
+use Prim.Native.Nat.{ℕ, zero, suc, _/_, _%_}
+use lib.Dec.{eqb, ltb}
+use lib.ListN.{getD}
+use Rattle.effects.specs.Shape.{Demand, nothing, kind, callLayout, resultLayout, callee, extern, callShape, fixed, fieldA, fieldB, fieldC, fieldFlags, first, second, both, firstFlag, secondOk, array, params, results, returns, arguments, always, flagsAre, flagBit, closure, Part, part}
+use Rattle.effects.specs.Table.{readShape, writeShape, arrayShape}
+
+-- an empty range
+abbrev pub noPart : Part
+noPart = part (fixed 0) (fixed 0)
+
+unfoldable pub forms : List Part
+forms =
+    -- of the fields alone
+    part fieldA (fixed 1)
+    ∷ part fieldB (fixed 1)
+    ∷ part fieldC (fixed 1)
+    ∷ part fieldA (fixed 2)
+    ∷ part fieldB (fixed 2)
+    ∷ part fieldC (fixed 2)
+    ∷ part fieldA (fixed 7)
+    ∷ part fieldB (fixed 7)
+    ∷ part (fixed 0) (fixed 1)
+    ∷ part fieldA fieldB
+    ∷ part fieldA fieldC
+    ∷ part fieldB fieldC
+    ∷ part fieldA fieldFlags
+    ∷ part fieldB fieldFlags
+    -- where flags ask for it
+    ∷ record { when = flagBit 4; base = fieldB; offset = fixed 1; count = fixed 5 }
+    ∷ record { when = flagBit 2; base = fieldC; offset = fixed 2; count = fixed 1 }
+    ∷ record { when = flagsAre 16; base = fieldB; offset = fixed 1; count = fixed 1 }
+    ∷ record { when = closure; base = fieldA; offset = fixed 0; count = fixed 1 }
+    -- of the metadata's lengths
+    ∷ part fieldA first
+    ∷ part fieldB first
+    ∷ part fieldC first
+    ∷ record { when = always; base = fieldC; offset = fixed 1; count = first }
+    ∷ part fieldC second
+    ∷ record { when = always; base = fieldB; offset = first; count = second }
+    ∷ part fieldA both
+    ∷ part fieldA firstFlag
+    ∷ part fieldA secondOk
+    ∷ part fieldA array
+    ∷ part fieldB array
+    -- of the function or the extern that is called
+    ∷ part fieldB params
+    ∷ record { when = always; base = fieldB; offset = params; count = results }
+    ∷ part fieldA returns
+    ∷ part fieldB arguments
+    ∷ []
+
+unfoldable pub formAt : ℕ → Part
+unfolding forms
+formAt f = getD forms f noPart
+
+-- n forms, one to a byte
+unfoldable pub unpack : ℕ → ℕ → List Part
+unpack zero v = []
+unpack (suc n) v = formAt (v % 256) ∷ unpack n (v / 256)
+
+-- a row: in its lowest byte the number of its forms, which follow
+abbrev pub partsOf : ℕ → List Part
+partsOf row = unpack (row % 256) (row / 256)
+
+-- all parts that an opcode reads, the array range's with them, and all that it writes
+abbrev pub readParts : ℕ → List Part
+readParts o = readShape o .parts ++ arrayShape o .parts
+
+abbrev pub writeParts : ℕ → List Part
+writeParts o = writeShape o .parts
+
+-- the demands numbered: metadata of a kind by that kind's number
+unfoldable pub demandAt : ℕ → Demand
+demandAt d =
+    cond (eqb d 0) nothing
+    (cond (ltb d 16) (kind d)
+    (cond (eqb d 16) callLayout
+    (cond (eqb d 17) resultLayout
+    (cond (eqb d 18) callee
+    (cond (eqb d 19) extern callShape)))))
+
+-- the demands of reads, of the array range and of writes, one to a byte
+abbrev pub demandsOf : ℕ → List Demand
+demandsOf row = demandAt (row % 256) ∷ demandAt (row / 256 % 256) ∷ demandAt (row / 65536) ∷ []
+
+abbrev pub demands : ℕ → List Demand
+demands o = readShape o .demand ∷ arrayShape o .demand ∷ writeShape o .demand ∷ []
