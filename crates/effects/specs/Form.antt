@@ -5,12 +5,16 @@ use mathlib.Core.List.{List, [], _∷_, _++_}
 use Prim.Native.Nat.{ℕ, zero, suc, _/_, _%_}
 use lib.Dec.{eqb, ltb}
 use lib.ListN.{getD}
+use Rattle.effects.specs.declared.Range.{Range}
 use Rattle.effects.specs.Shape.{Demand, nothing, kind, callLayout, resultLayout, callee, extern, callShape, fixed, fieldA, fieldB, fieldC, fieldFlags, first, second, both, firstFlag, secondOk, array, params, results, returns, arguments, always, flagsAre, flagBit, closure, Part, part}
 use Rattle.effects.specs.Table.{readShape, writeShape, arrayShape}
 
--- an empty range
+-- nothing: an empty range
 abbrev pub noPart : Part
 noPart = part (fixed 0) (fixed 0)
+
+abbrev pub emptyRange : Range
+emptyRange = record { start = 0; count = 0 }
 
 unfoldable pub forms : List Part
 forms =

@@ -1,4 +1,5 @@
 // What each instruction reads and writes, as ranges of slots, and the check of every operand.
+pub mod form;
 pub mod table;
 
 // `count` slots from `start`.

@@ -1,0 +1,60 @@
+use native.Mathlib.Nat.{add-zero}
+use lib.ListN.{List·getD-eq-default}
+use Prim.Native.Nat.{_≤_}
+use Rattle.effects.specs.Shape.{rangeOf, applies, value}
+use Rattle.effects.specs.Form.{formAt, forms, noPart}
+use mathlib.Core.Path.{_≡_, _∙_}
+use Rattle.effects.proofs.Keys.{next, only}
+use borrow.Author.Needs.{needs}
+use Rattle.effects.proofs.form.call_range.Statement.{statement}
+use Rattle.effects.proofs.form.call_range.Tie as tie
+
+returns : tie.Need-returns
+unfolding forms formAt rangeOf applies value
+returns c = λ cases. rw (c .before .before .match .keys1, add-zero, ← c .before .callee .ensures, ← c .param-slots .ensures .0)
+
+returns-2 : tie.Need-returns-2
+unfolding forms formAt rangeOf applies value
+returns-2 c = λ cases. rw (c .before .before .before .before .match .keys2) (cc)
+
+returns-3 : tie.Need-returns-3
+unfolding forms formAt rangeOf applies value
+returns-3 c = λ cases. rw (c .before .before .before .match .keys3, add-zero) (cc)
+
+returns-4 : tie.Need-returns-4
+unfolding forms formAt rangeOf applies value
+returns-4 c = λ cases. rw (c .before .match .keys4, add-zero) (cc (c .argument-slots .ensures (c .before .before .before .before .before .before .args .externs .now) cases))
+
+returns-5 : tie.Need-returns-5
+unfolding forms formAt rangeOf applies value
+returns-5 c =
+    let past : 33 ≤ c .before .before .before .before .before .args .form =
+        (next 32 (c .match .rest .1)
+        (next 31 (c .match .rest .0 .1)
+        (next 30 (c .match .rest .0 .0 .1)
+        (next 29 (c .match .rest .0 .0 .0 .1)
+        (c .before .before .before .before .before .pre))))) in
+    λ cases. rw (List·getD-eq-default forms noPart past)
+
+pub call-range-spec : {M : Type 1} → statement M
+call-range-spec =
+    tie.close
+    (tie.spec
+    (λ c. search needs)
+    (λ c. search needs)
+    (λ c κs. search needs)
+    (λ c κs. search needs)
+    (λ c κs. search needs)
+    (λ c κs. search needs)
+    (λ c. search needs)
+    (λ c κs. search needs)
+    (λ c κs. search needs)
+    (λ c. search needs)
+    (λ c κs. search needs)
+    (λ c κs. search needs)
+    (λ c κs. search needs)
+    returns
+    returns-2
+    returns-3
+    returns-4
+    returns-5)
