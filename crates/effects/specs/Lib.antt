@@ -6,3 +6,4 @@ pub mod Cells
 pub mod Laws
 pub mod Form
 pub mod Rows
+pub mod Ranges

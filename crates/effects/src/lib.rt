@@ -1,5 +1,7 @@
 // What each instruction reads and writes, as ranges of slots, and the check of every operand.
+pub mod demand;
 pub mod form;
+pub mod select;
 pub mod table;
 
 // `count` slots from `start`.

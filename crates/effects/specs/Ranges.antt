@@ -1,0 +1,80 @@
+-- The ranges of an instruction by number: those of SelectExec by its cases, those of others by their parts.
+-- Assumes nothing.
+use mathlib.Core.Path.{_≡_, refl, sym, ap, _∙_}
+use mathlib.Core.Bool.{Bool, true, false, cond, _&&_}
+use mathlib.Core.List.{List, [], _∷_, _++_, map, map-append, append-nil}
+use Prim.Native.Nat.{ℕ, zero, suc, _+_, _*_, _/_, _%_, _≤_, _<_}
+use native.Mathlib.Nat.{add-zero, add-suc, suc-add}
+use native.Mathlib.Omega.{arith}
+use lib.Dec.{eqb}
+use lib.ListN.{length, getD, length-map, List·getD-map}
+use borrow.Author.Tests.{eq-eqb, ne-eqb}
+use Rattle.instruction.specs.Opcode as op
+use Rattle.unit.specs.Entry.{caseAt}
+use Rattle.effects.specs.declared.Range.{Range}
+use Rattle.effects.specs.Shape.{Tables, Cell, met, rangeOf}
+use Rattle.effects.specs.Table.{readShape, writeShape, arrayShape, shapeIn}
+use Rattle.effects.specs.Effects.{caseReads, caseWrites, reads, arrays, writes, allReads, demandsMet}
+use Rattle.effects.specs.Form.{readParts, writeParts, emptyRange, noPart, demandAt, demands, demandsOf}
+
+-- the two ranges read of a case, and the one written
+module _ (cases : List ℕ) (j : ℕ) where
+  abbrev pub caseRead : ℕ → Range
+  caseRead side =
+      cond (eqb side 0) (record { start = caseAt cases j .queue; count = 1 })
+      (record { start = caseAt cases j .slot; count = cond (eqb (caseAt cases j .kind) 0) (caseAt cases j .elements) 0 })
+
+  abbrev pub caseWrite : Range
+  caseWrite = record { start = caseAt cases j .slot; count = cond (eqb (caseAt cases j .kind) 0) 0 (caseAt cases j .elements + caseAt cases j .ok) }
+
+pub case-reads-long : (cases : List ℕ) (j n : ℕ) → length (caseReads cases j n) ≡ 2 * n
+unfolding caseReads
+case-reads-long cases j zero = refl
+case-reads-long cases j (suc n) = rw (case-reads-long cases (suc j) n) (omega arith)
+
+pub case-reads-at : (cases : List ℕ) (j n k : ℕ) → k < 2 * n → getD (caseReads cases j n) k emptyRange ≡ caseRead cases (j + k / 2) (k % 2)
+unfolding caseReads
+case-reads-at cases j zero k h = absurd (omega arith)
+case-reads-at cases j (suc n) zero h = rw add-zero
+case-reads-at cases j (suc n) (suc zero) h = rw add-zero
+case-reads-at cases j (suc n) (suc (suc k)) h =
+    let half : suc (suc k) / 2 ≡ suc (k / 2) = omega arith in
+    let side : suc (suc k) % 2 ≡ k % 2 = omega arith in
+    case-reads-at cases (suc j) n k (omega arith) ∙ rw (half, side, suc-add j (k / 2), add-suc j (k / 2))
+
+pub case-writes-long : (cases : List ℕ) (j n : ℕ) → length (caseWrites cases j n) ≡ n
+unfolding caseWrites
+case-writes-long cases j zero = refl
+case-writes-long cases j (suc n) = ap suc (case-writes-long cases (suc j) n)
+
+pub case-writes-at : (cases : List ℕ) (j n k : ℕ) → k < n → getD (caseWrites cases j n) k emptyRange ≡ caseWrite cases (j + k)
+unfolding caseWrites
+case-writes-at cases j zero k h = absurd (omega arith)
+case-writes-at cases j (suc n) zero h = rw add-zero
+case-writes-at cases j (suc n) (suc k) h = case-writes-at cases (suc j) n k (omega arith) ∙ rw (suc-add j k, add-suc j k)
+
+module _ (T : Tables) (x : Cell) where
+  -- of SelectExec
+  module _ (e : x .instruction .op ≡ op.SelectExec) where
+    pub reads-select : allReads T x ≡ caseReads (T .cases) (x .metadata .first) (x .metadata .second)
+    unfolding allReads reads arrays arrayShape
+    reads-select = rw (e, append-nil)
+
+    pub writes-select : writes T x ≡ record { start = x .instruction .a; count = 1 } ∷ caseWrites (T .cases) (x .metadata .first) (x .metadata .second)
+    unfolding writes writeShape rangeOf
+    writes-select = rw (e, add-zero)
+
+  -- of others
+  module _ (n : x .instruction .op ≡ op.SelectExec → ⊥) where
+    pub reads-other : allReads T x ≡ map (rangeOf T x) (readParts (x .instruction .op))
+    unfolding allReads reads arrays
+    reads-other = rw (ne-eqb (x .instruction .op) op.SelectExec n, map-append)
+
+    pub writes-other : writes T x ≡ map (rangeOf T x) (writeParts (x .instruction .op))
+    unfolding writes
+    writes-other = rw (ne-eqb (x .instruction .op) op.SelectExec n, append-nil)
+
+  pub demands-row : (row : ℕ) → demandsOf row ≡ demands (x .instruction .op)
+      → demandsMet T x ≡ (met T x (demandAt (row % 256)) && met T x (demandAt (row / 256 % 256)) && met T x (demandAt (row / 65536)))
+  unfolding demandsMet
+  demands-row row e = cc
