@@ -3,19 +3,25 @@
 use mathlib.Core.Path.{_≡_, refl, sym, ap, _∙_}
 use mathlib.Core.Bool.{Bool, true, false, cond, _&&_}
 use mathlib.Core.List.{List, [], _∷_, _++_, map, map-append, append-nil}
-use Prim.Native.Nat.{ℕ, zero, suc, _+_, _*_, _/_, _%_, _≤_, _<_}
+use Prim.Native.Nat.{ℕ, zero, suc, _+_, _-_, _*_, _/_, _%_, _^_, _≤_, _<_}
 use native.Mathlib.Nat.{add-zero, add-suc, suc-add}
 use native.Mathlib.Omega.{arith}
 use lib.Dec.{eqb}
 use lib.ListN.{length, getD, length-map, List·getD-map}
 use borrow.Author.Tests.{eq-eqb, ne-eqb}
 use Rattle.instruction.specs.Opcode as op
+use Rattle.unit.specs.Size.{caseSize}
 use Rattle.unit.specs.Entry.{caseAt}
 use Rattle.effects.specs.declared.Range.{Range}
-use Rattle.effects.specs.Shape.{Tables, Cell, met, rangeOf}
+use Rattle.effects.specs.Shape.{Tables, Cell, Part, met, rangeOf}
 use Rattle.effects.specs.Table.{readShape, writeShape, arrayShape, shapeIn}
 use Rattle.effects.specs.Effects.{caseReads, caseWrites, reads, arrays, writes, allReads, demandsMet}
-use Rattle.effects.specs.Form.{readParts, writeParts, emptyRange, noPart, demandAt, demands, demandsOf}
+use Rattle.effects.specs.Form.{formAt, partsOf, readParts, writeParts, emptyRange, noPart, demandAt, demands, demandsOf}
+use Rattle.effects.specs.Rows.{unpack-long, unpack-at}
+
+-- SelectExec's cases are inside their section
+abbrev pub CasesInside : List ℕ → Cell → Type 0
+CasesInside cases x = x .instruction .op ≡ op.SelectExec → x .metadata .first + x .metadata .second ≤ length cases / caseSize
 
 -- the two ranges read of a case, and the one written
 module _ (cases : List ℕ) (j : ℕ) where
@@ -74,7 +80,24 @@ module _ (T : Tables) (x : Cell) where
     unfolding writes
     writes-other = rw (ne-eqb (x .instruction .op) op.SelectExec n, append-nil)
 
+  -- the ranges of a row of forms: how many, and the k-th
+  module _ (row : ℕ) (parts : List Part) (e : partsOf row ≡ parts) where
+    pub row-count : length (map (rangeOf T x) parts) ≡ row % 256
+    row-count = length-map parts (rangeOf T x) ∙ rw (← e) (unpack-long (row % 256) (row / 256))
+
+    pub row-at : (k : ℕ) → k < row % 256 → getD (map (rangeOf T x) parts) k emptyRange ≡ rangeOf T x (formAt (row / 256 / 256 ^ k % 256))
+    unfolding rangeOf
+    row-at k h =
+        let form : getD parts k noPart ≡ formAt (row / 256 / 256 ^ k % 256) = rw (← e) (unpack-at (row % 256) (row / 256) k h) in
+        List·getD-map (rangeOf T x) parts k noPart ∙ ap (rangeOf T x) form
+
   pub demands-row : (row : ℕ) → demandsOf row ≡ demands (x .instruction .op)
       → demandsMet T x ≡ (met T x (demandAt (row % 256)) && met T x (demandAt (row / 256 % 256)) && met T x (demandAt (row / 65536)))
   unfolding demandsMet
   demands-row row e = cc
+
+pub after-first : {A : Type 0} (y : A) (ys : List A) (k : ℕ) (d : A) → 0 < k → getD (y ∷ ys) k d ≡ getD ys (k - 1) d
+after-first y ys zero d h = absurd (omega arith)
+after-first y ys (suc k) d h =
+    let e : suc k - 1 ≡ k = omega arith in
+    rw e

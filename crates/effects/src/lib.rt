@@ -1,6 +1,8 @@
 // What each instruction reads and writes, as ranges of slots, and the check of every operand.
 pub mod demand;
 pub mod form;
+pub mod operands;
+pub mod ranges;
 pub mod select;
 pub mod table;
 
