@@ -148,8 +148,8 @@ module _ (T : Tables) (x : Cell) where
   cases-inside good demand e =
       let wanted : readShape (x .instruction .op) .demand ≡ kind kindSelectExecLayout = ap (λ (o : ℕ). readShape o .demand) e in
       let read : met T x (readShape (x .instruction .op) .demand) ≡ true =
-          left (met T x (readShape (x .instruction .op) .demand)) (met T x (arrayShape (x .instruction .op) .demand))
-          (left _ (met T x (writeShape (x .instruction .op) .demand)) demand) in
+      left (met T x (readShape (x .instruction .op) .demand)) (met T x (arrayShape (x .instruction .op) .demand))
+      (left _ (met T x (writeShape (x .instruction .op) .demand)) demand) in
       let known : met T x (kind kindSelectExecLayout) ≡ true = ap (met T x) (sym wanted) ∙ read in
       leb-true (x .metadata .first + x .metadata .second) (length (T .cases) / caseSize) (inner (leb (x .metadata .kind) kindLoopEnd) (leb (x .metadata .ok) 1) (eqb (x .metadata .kind) kindSelectExecLayout) (leb (x .metadata .first + x .metadata .second) (length (T .cases) / caseSize)) good known)
     where

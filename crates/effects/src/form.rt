@@ -100,8 +100,14 @@ fn field_range(form: u64, i: Instruction) -> Range
         9 => Range { start: a, count: b },
         10 => Range { start: a, count: c },
         11 => Range { start: b, count: c },
-        12 => Range { start: a, count: flags },
-        13 => Range { start: b, count: flags },
+        12 => Range {
+            start: a,
+            count: flags,
+        },
+        13 => Range {
+            start: b,
+            count: flags,
+        },
         14 => asked(flags / 4 % 2 == 1, b + 1, 5),
         15 => asked(flags / 2 % 2 == 1, c + 2, 1),
         16 => asked(flags == 16, b + 1, 1),
@@ -123,17 +129,50 @@ fn layout_range(form: u64, i: Instruction, m: Metadata) -> Range
     let ok = m.ok as usize;
     let array = (m.array as usize) * first;
     match form {
-        18 => Range { start: a, count: first },
-        19 => Range { start: b, count: first },
-        20 => Range { start: c, count: first },
-        21 => Range { start: c + 1, count: first },
-        22 => Range { start: c, count: second },
-        23 => Range { start: b + first, count: second },
-        24 => Range { start: a, count: first + second },
-        25 => Range { start: a, count: first + flag },
-        26 => Range { start: a, count: second + ok },
-        27 => Range { start: a, count: array },
-        _ => Range { start: b, count: array },
+        18 => Range {
+            start: a,
+            count: first,
+        },
+        19 => Range {
+            start: b,
+            count: first,
+        },
+        20 => Range {
+            start: c,
+            count: first,
+        },
+        21 => Range {
+            start: c + 1,
+            count: first,
+        },
+        22 => Range {
+            start: c,
+            count: second,
+        },
+        23 => Range {
+            start: b + first,
+            count: second,
+        },
+        24 => Range {
+            start: a,
+            count: first + second,
+        },
+        25 => Range {
+            start: a,
+            count: first + flag,
+        },
+        26 => Range {
+            start: a,
+            count: second + ok,
+        },
+        27 => Range {
+            start: a,
+            count: array,
+        },
+        _ => Range {
+            start: b,
+            count: array,
+        },
     }
 }
 
@@ -145,10 +184,22 @@ fn call_range(form: u64, i: Instruction, m: Metadata, functions: &[u8], externs:
     let a = i.a as usize;
     let b = i.b as usize;
     match form {
-        29 => Range { start: b, count: param_slots(callee(i, functions)) },
-        30 => Range { start: b + param_slots(callee(i, functions)), count: return_slots(callee(i, functions)) },
-        31 => Range { start: a, count: extern_slots(entry::extern_of(externs, i.b as usize)) },
-        32 => Range { start: b, count: argument_slots(i, m, functions) },
+        29 => Range {
+            start: b,
+            count: param_slots(callee(i, functions)),
+        },
+        30 => Range {
+            start: b + param_slots(callee(i, functions)),
+            count: return_slots(callee(i, functions)),
+        },
+        31 => Range {
+            start: a,
+            count: extern_slots(entry::extern_of(externs, i.b as usize)),
+        },
+        32 => Range {
+            start: b,
+            count: argument_slots(i, m, functions),
+        },
         _ => Range { start: 0, count: 0 },
     }
 }

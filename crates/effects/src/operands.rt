@@ -44,14 +44,24 @@ fn range_holds(limit: usize, r: Range) -> bool
     r.start + r.count <= limit
 }
 
-fn reads_hold(limit: usize, i: Instruction, m: Metadata, functions: &[u8], externs: &[u8], cases: &[u8]) -> bool
+fn reads_hold(
+    limit: usize,
+    i: Instruction,
+    m: Metadata,
+    functions: &[u8],
+    externs: &[u8],
+    cases: &[u8],
+) -> bool
     requires { ⌜ (limit ≤ slots) × CasesInside (now cases) (record { instruction = i; metadata = m }) ⌝ }
     ensures { λ r. ⌜ r ≡ allOf (rangeHolds limit) (allReads (tablesOf (now (functions .entry)) (now (externs .entry)) (now (cases .entry))) (record { instruction = i; metadata = m })) ⌝ }
 {
     let n = ranges::read_count(i, m);
     let mut k: usize = 0;
     while k < n {
-        if !range_holds(limit, ranges::read_range(k, i, m, functions, externs, cases)) {
+        if !range_holds(
+            limit,
+            ranges::read_range(k, i, m, functions, externs, cases),
+        ) {
             return false;
         }
         k += 1;
@@ -59,14 +69,24 @@ fn reads_hold(limit: usize, i: Instruction, m: Metadata, functions: &[u8], exter
     true
 }
 
-fn writes_hold(limit: usize, i: Instruction, m: Metadata, functions: &[u8], externs: &[u8], cases: &[u8]) -> bool
+fn writes_hold(
+    limit: usize,
+    i: Instruction,
+    m: Metadata,
+    functions: &[u8],
+    externs: &[u8],
+    cases: &[u8],
+) -> bool
     requires { ⌜ (limit ≤ slots) × CasesInside (now cases) (record { instruction = i; metadata = m }) ⌝ }
     ensures { λ r. ⌜ r ≡ allOf (rangeHolds limit) (writes (tablesOf (now (functions .entry)) (now (externs .entry)) (now (cases .entry))) (record { instruction = i; metadata = m })) ⌝ }
 {
     let n = ranges::write_count(i, m);
     let mut k: usize = 0;
     while k < n {
-        if !range_holds(limit, ranges::write_range(k, i, m, functions, externs, cases)) {
+        if !range_holds(
+            limit,
+            ranges::write_range(k, i, m, functions, externs, cases),
+        ) {
             return false;
         }
         k += 1;
@@ -74,7 +94,14 @@ fn writes_hold(limit: usize, i: Instruction, m: Metadata, functions: &[u8], exte
     true
 }
 
-fn ranges_hold(limit: usize, i: Instruction, m: Metadata, functions: &[u8], externs: &[u8], cases: &[u8]) -> bool
+fn ranges_hold(
+    limit: usize,
+    i: Instruction,
+    m: Metadata,
+    functions: &[u8],
+    externs: &[u8],
+    cases: &[u8],
+) -> bool
     requires { ⌜ (limit ≤ slots) × CasesInside (now cases) (record { instruction = i; metadata = m }) ⌝ }
     ensures { λ r. ⌜ r ≡ allOf (rangeHolds limit) (allReads (tablesOf (now (functions .entry)) (now (externs .entry)) (now (cases .entry))) (record { instruction = i; metadata = m }) ++ writes (tablesOf (now (functions .entry)) (now (externs .entry)) (now (cases .entry))) (record { instruction = i; metadata = m })) ⌝ }
 {
@@ -84,7 +111,13 @@ fn ranges_hold(limit: usize, i: Instruction, m: Metadata, functions: &[u8], exte
     false
 }
 
-pub fn effects_sound(i: Instruction, m: Metadata, functions: &[u8], externs: &[u8], cases: &[u8]) -> bool
+pub fn effects_sound(
+    i: Instruction,
+    m: Metadata,
+    functions: &[u8],
+    externs: &[u8],
+    cases: &[u8],
+) -> bool
     requires { ⌜ goodMetadata (length (now cases) / caseSize) m ≡ true ⌝ }
     ensures { λ r. ⌜ r ≡ effectsSound (tablesOf (now (functions .entry)) (now (externs .entry)) (now (cases .entry))) (record { instruction = i; metadata = m }) ⌝ }
 {
@@ -95,7 +128,14 @@ pub fn effects_sound(i: Instruction, m: Metadata, functions: &[u8], externs: &[u
 }
 
 // The refusal of one instruction's operands, or 0. "By lowest p: Invalid; effect error; a slot at or past s".
-pub fn operand_refusal(locals: usize, i: Instruction, m: Metadata, functions: &[u8], externs: &[u8], cases: &[u8]) -> u32
+pub fn operand_refusal(
+    locals: usize,
+    i: Instruction,
+    m: Metadata,
+    functions: &[u8],
+    externs: &[u8],
+    cases: &[u8],
+) -> u32
     requires { ⌜ (locals ≤ maxLocalSlots) × (goodMetadata (length (now cases) / caseSize) m ≡ true) ⌝ }
     ensures { λ r. ⌜ r ≡ operandRefusal locals (tablesOf (now (functions .entry)) (now (externs .entry)) (now (cases .entry))) (record { instruction = i; metadata = m }) ⌝ }
 {
@@ -115,7 +155,14 @@ pub fn operand_refusal(locals: usize, i: Instruction, m: Metadata, functions: &[
     refusal::EFFECT_ERROR
 }
 
-pub fn check_operands(words: &[u64], metadata: &[u8], locals: usize, functions: &[u8], externs: &[u8], cases: &[u8]) -> Check
+pub fn check_operands(
+    words: &[u64],
+    metadata: &[u8],
+    locals: usize,
+    functions: &[u8],
+    externs: &[u8],
+    cases: &[u8],
+) -> Check
     requires { ⌜ (length (now metadata) ≡ metadataSize * length (now words)) × (length (now words) ≤ maxInstructions) × (locals ≤ maxLocalSlots) × ((k : ℕ) → k < length (now words) → goodMetadata (length (now cases) / caseSize) (metadataAt (now metadata) k) ≡ true) ⌝ }
     ensures { λ r. ⌜ r ≡ operandCheck locals (tablesOf (now (functions .entry)) (now (externs .entry)) (now (cases .entry))) (cellsBy (now (words .entry)) (now (metadata .entry))) ⌝ }
 {

@@ -34,7 +34,14 @@ pub fn read_count(i: Instruction, m: Metadata) -> usize
     (table::read_row(op) % 256) as usize
 }
 
-pub fn read_range(k: usize, i: Instruction, m: Metadata, functions: &[u8], externs: &[u8], cases: &[u8]) -> Range
+pub fn read_range(
+    k: usize,
+    i: Instruction,
+    m: Metadata,
+    functions: &[u8],
+    externs: &[u8],
+    cases: &[u8],
+) -> Range
     requires { ⌜ (k < length (allReads (tablesOf (now functions) (now externs) (now cases)) (record { instruction = i; metadata = m }))) × CasesInside (now cases) (record { instruction = i; metadata = m }) ⌝ }
     ensures { λ r. ⌜ r ≡ getD (allReads (tablesOf (now (functions .entry)) (now (externs .entry)) (now (cases .entry))) (record { instruction = i; metadata = m })) k emptyRange ⌝ }
 {
@@ -57,7 +64,14 @@ pub fn write_count(i: Instruction, m: Metadata) -> usize
     (table::write_row(op) % 256) as usize
 }
 
-pub fn write_range(k: usize, i: Instruction, m: Metadata, functions: &[u8], externs: &[u8], cases: &[u8]) -> Range
+pub fn write_range(
+    k: usize,
+    i: Instruction,
+    m: Metadata,
+    functions: &[u8],
+    externs: &[u8],
+    cases: &[u8],
+) -> Range
     requires { ⌜ (k < length (writes (tablesOf (now functions) (now externs) (now cases)) (record { instruction = i; metadata = m }))) × CasesInside (now cases) (record { instruction = i; metadata = m }) ⌝ }
     ensures { λ r. ⌜ r ≡ getD (writes (tablesOf (now (functions .entry)) (now (externs .entry)) (now (cases .entry))) (record { instruction = i; metadata = m })) k emptyRange ⌝ }
 {

@@ -29,11 +29,11 @@ returns-5 : tie.Need-returns-5
 unfolding forms formAt rangeOf applies value
 returns-5 c =
     let past : 33 ≤ c .before .before .before .before .before .args .form =
-        (next 32 (c .match .rest .1)
-        (next 31 (c .match .rest .0 .1)
-        (next 30 (c .match .rest .0 .0 .1)
-        (next 29 (c .match .rest .0 .0 .0 .1)
-        (c .before .before .before .before .before .pre))))) in
+    (next 32 (c .match .rest .1)
+    (next 31 (c .match .rest .0 .1)
+    (next 30 (c .match .rest .0 .0 .1)
+    (next 29 (c .match .rest .0 .0 .0 .1)
+    (c .before .before .before .before .before .pre))))) in
     λ cases. rw (List·getD-eq-default forms noPart past)
 
 pub call-range-spec : {M : Type 1} → statement M

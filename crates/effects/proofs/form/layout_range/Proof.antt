@@ -56,18 +56,18 @@ returns-11 : tie.Need-returns-11
 unfolding forms formAt rangeOf applies value
 returns-11 c =
     let last : c .before .before .before .before .before .before .before .before .before .args .form ≡ 28 =
-        only 28 (c .before .before .before .before .before .before .before .before .before .pre .1)
-        (next 27 (c .match .rest .1)
-        (next 26 (c .match .rest .0 .1)
-        (next 25 (c .match .rest .0 .0 .1)
-        (next 24 (c .match .rest .0 .0 .0 .1)
-        (next 23 (c .match .rest .0 .0 .0 .0 .1)
-        (next 22 (c .match .rest .0 .0 .0 .0 .0 .1)
-        (next 21 (c .match .rest .0 .0 .0 .0 .0 .0 .1)
-        (next 20 (c .match .rest .0 .0 .0 .0 .0 .0 .0 .1)
-        (next 19 (c .match .rest .0 .0 .0 .0 .0 .0 .0 .0 .1)
-        (next 18 (c .match .rest .0 .0 .0 .0 .0 .0 .0 .0 .0 .1)
-        (c .before .before .before .before .before .before .before .before .before .pre .0))))))))))) in
+    only 28 (c .before .before .before .before .before .before .before .before .before .pre .1)
+    (next 27 (c .match .rest .1)
+    (next 26 (c .match .rest .0 .1)
+    (next 25 (c .match .rest .0 .0 .1)
+    (next 24 (c .match .rest .0 .0 .0 .1)
+    (next 23 (c .match .rest .0 .0 .0 .0 .1)
+    (next 22 (c .match .rest .0 .0 .0 .0 .0 .1)
+    (next 21 (c .match .rest .0 .0 .0 .0 .0 .0 .1)
+    (next 20 (c .match .rest .0 .0 .0 .0 .0 .0 .0 .1)
+    (next 19 (c .match .rest .0 .0 .0 .0 .0 .0 .0 .0 .1)
+    (next 18 (c .match .rest .0 .0 .0 .0 .0 .0 .0 .0 .0 .1)
+    (c .before .before .before .before .before .before .before .before .before .pre .0))))))))))) in
     λ T. rw (last, add-zero)
 
 pub layout-range-spec : {M : Type 1} → statement M

@@ -1,64 +1,64 @@
+use mathlib.Core.Path.{_≡_, refl, sym, _∙_}
+use mathlib.Core.List.{List}
+use Prim.Native.Nat.{ℕ, _-_, _≤_, _<_}
+use native.Mathlib.Omega.{arith}
+use lib.ListN.{length, drop}
+use Rattle.effects.specs.Shape.{Cell, Tables, tablesOf, cellAt}
+use Rattle.effects.specs.Check.{lowest, operandRefusal, operandCheck}
+use Rattle.effects.specs.Cells.{cellsBy, cells-long, cell-at}
+use Rattle.effects.specs.Laws.{lowest-on, lowest-here, lowest-none}
+use borrow.Author.Needs.{needs}
 use Rattle.effects.proofs.operands.check_operands.Statement.{statement}
 use Rattle.effects.proofs.operands.check_operands.Tie as tie
-use Rattle.effects.proofs.operands.check_operands.Reads as reads
-use Rattle.effects.proofs.operands.check_operands.Lts as lts
-use Rattle.effects.proofs.operands.operand_refusal.Reads as operand-refusal-reads
-use Rattle.instruction.proofs.Instruction.from_word.Reads as from-word-reads
-use Rattle.unit.proofs.entry.metadata.Reads as metadata-reads
 
 abbrev Inv-loop : tie.InvT-loop
-Inv-loop words metadata locals functions externs cases p₀ p = ?
+Inv-loop words metadata locals functions externs cases p₀ p = (p ≤ length words) × (lowest (λ p x. operandRefusal locals (tablesOf functions externs cases) x) p (drop p (cellsBy words metadata)) ≡ operandCheck locals (tablesOf functions externs cases) (cellsBy words metadata))
 
 abbrev μ-loop : tie.MeasureT-loop
-μ-loop words metadata locals functions externs cases p₀ p = ?
+μ-loop words metadata locals functions externs cases p₀ p = length words - p
 
--- src/operands.rt:123:5
 loop-holds : tie.Need-loop-holds Inv-loop μ-loop
-loop-holds c = ?
+unfolding operandCheck
+loop-holds c = (search needs, refl)
 
--- src/operands.rt:124:40
-mul-from-word : tie.Need-mul-from-word Inv-loop μ-loop
-mul-from-word c = ?
-
--- src/operands.rt:124:40
-shared-slice-read-from-word : tie.Need-shared-slice-read-from-word Inv-loop μ-loop
-shared-slice-read-from-word c = ?
-
--- src/operands.rt:124:13
-from-word-requires : tie.Need-from-word-requires Inv-loop μ-loop
-from-word-requires c κs = ?
-
--- src/operands.rt:125:13
-metadata-requires : tie.Need-metadata-requires Inv-loop μ-loop
-metadata-requires c κs = ?
-
--- src/operands.rt:126:13
 operand-refusal-requires : tie.Need-operand-refusal-requires Inv-loop μ-loop
-operand-refusal-requires c κs = ?
+operand-refusal-requires c κs =
+    (search needs, rw (c .metadata .ensures) (c .before .before .before .before .before .before .before .before .before .before .pre .3 _ (c .before .before .before .loop-test .taken)))
 
--- src/operands.rt:128:43
-cast-t15 : tie.Need-cast-t15 Inv-loop μ-loop
-cast-t15 c = ?
-
--- src/operands.rt:128:13
 returns : tie.Need-returns Inv-loop μ-loop
-returns c = ?
+returns c =
+    let a = c .before .before .before .before .before .before .before .before .before .before .before .before .args in
+    let T : Tables = tablesOf (a .functions .now) (a .externs .now) (a .cases .now) in
+    let cells : List Cell = cellsBy (a .words .now) (a .metadata .now) in
+    let test : ℕ → Cell → ℕ = λ p x. operandRefusal (a .locals) T x in
+    let p = c .before .before .before .before .before .before .loop .p in
+    let inside : p < length cells = rw (cells-long (a .words .now) (a .metadata .now)) (c .before .before .before .before .before .loop-test .taken) in
+    let found : test p (cellAt cells p) ≡ c .before .operand-refusal .result =
+    rw (cell-at (a .words .now) (a .metadata .now) p (c .before .before .before .before .before .loop-test .taken), ← c .before .before .before .from-word .ensures, ← c .before .before .metadata .ensures) (sym (c .before .operand-refusal .ensures)) in
+    let refused : test p (cellAt cells p) ≡ 0 → ⊥ = λ e. c .if1 .taken (sym found ∙ e) in
+    rw (← found) (sym (lowest-here test cells p inside refused)) ∙ c .before .before .before .before .before .before .loop .inv .1
 
--- src/operands.rt:130:9
-add-p : tie.Need-add-p Inv-loop μ-loop
-add-p c = ?
-
--- src/operands.rt:123:5
-loop-less : tie.Need-loop-less Inv-loop μ-loop
-loop-less c = ?
-
--- src/operands.rt:123:5
 loop-again : tie.Need-loop-again Inv-loop μ-loop
-loop-again c = ?
+loop-again c =
+    let a = c .before .before .before .before .before .before .before .before .before .before .before .before .args in
+    let T : Tables = tablesOf (a .functions .now) (a .externs .now) (a .cases .now) in
+    let cells : List Cell = cellsBy (a .words .now) (a .metadata .now) in
+    let test : ℕ → Cell → ℕ = λ p x. operandRefusal (a .locals) T x in
+    let p = c .before .before .before .before .before .before .loop .p in
+    let inside : p < length cells = rw (cells-long (a .words .now) (a .metadata .now)) (c .before .before .before .before .before .loop-test .taken) in
+    let found : test p (cellAt cells p) ≡ c .before .operand-refusal .result =
+    rw (cell-at (a .words .now) (a .metadata .now) p (c .before .before .before .before .before .loop-test .taken), ← c .before .before .before .from-word .ensures, ← c .before .before .metadata .ensures) (sym (c .before .operand-refusal .ensures)) in
+    let passed : test p (cellAt cells p) ≡ 0 = found ∙ c .if1 .left in
+    (search needs, lowest-on test cells p inside passed ∙ c .before .before .before .before .before .before .loop .inv .1)
 
--- src/operands.rt:118:1
 returns-2 : tie.Need-returns-2 Inv-loop μ-loop
-returns-2 c = ?
+returns-2 c =
+    let a = c .before .before .before .before .before .before .before .args in
+    let T : Tables = tablesOf (a .functions .now) (a .externs .now) (a .cases .now) in
+    let cells : List Cell = cellsBy (a .words .now) (a .metadata .now) in
+    let test : ℕ → Cell → ℕ = λ p x. operandRefusal (a .locals) T x in
+    let end : c .before .loop .p ≡ length cells = rw (cells-long (a .words .now) (a .metadata .now)) (omega arith) in
+    sym (lowest-none test cells (c .before .loop .p) end) ∙ c .before .loop .inv .1
 
 pub check-operands-spec : {M : Type 1} → statement M
 check-operands-spec =
@@ -67,14 +67,14 @@ check-operands-spec =
     Inv-loop
     μ-loop
     loop-holds
-    mul-from-word
-    shared-slice-read-from-word
-    from-word-requires
-    metadata-requires
+    (λ c. search needs)
+    (λ c. search needs)
+    (λ c κs. search needs)
+    (λ c κs. search needs)
     operand-refusal-requires
-    cast-t15
+    (λ c. search needs)
     returns
-    add-p
-    loop-less
+    (λ c. search needs)
+    (λ c. search needs)
     loop-again
     returns-2)

@@ -1,49 +1,80 @@
+use mathlib.Core.Path.{_≡_, refl, sym, _∙_}
+use mathlib.Core.Bool.{true, false}
+use mathlib.Core.List.{_++_}
+use native.Mathlib.Omega.{arith}
+use borrow.Author.Tests.{not-true, not-false}
+use Rattle.effects.specs.Shape.{Cell, Tables, tablesOf}
+use Rattle.effects.specs.Effects.{allReads, writes, demandsMet, allOf}
+use Rattle.effects.specs.Operands.{slots, rangeHolds, cases-inside, refused-invalid, refused-demand, not-refused, refused-within, refused-fit}
 use borrow.Author.Needs.{needs}
 use Rattle.effects.proofs.operands.operand_refusal.Statement.{statement}
 use Rattle.effects.proofs.operands.operand_refusal.Tie as tie
-use Rattle.effects.proofs.operands.operand_refusal.Reads as reads
-use Rattle.effects.proofs.operands.operand_refusal.Lts as lts
-use Rattle.effects.proofs.demand.demands_met.Reads as demands-met-reads
-use Rattle.effects.proofs.operands.ranges_hold.Reads as ranges-hold-reads
 
--- src/operands.rt:104:9
 returns : tie.Need-returns
-returns c = ?
+returns c =
+    let a = c .before .before .before .before .args in
+    let x : Cell = record { instruction = a .i; metadata = a .m } in
+    let T : Tables = tablesOf (a .functions .now) (a .externs .now) (a .cases .now) in
+    sym (refused-invalid T x (a .locals) (c .if1 .taken))
 
--- src/operands.rt:106:9
-demands-met-requires : tie.Need-demands-met-requires
-demands-met-requires c κs = search needs
-
--- src/operands.rt:107:9
 returns-2 : tie.Need-returns-2
-returns-2 c = ?
+returns-2 c =
+    let a = c .before .before .before .before .before .before .args in
+    let x : Cell = record { instruction = a .i; metadata = a .m } in
+    let T : Tables = tablesOf (a .functions .now) (a .externs .now) (a .cases .now) in
+    let demand : demandsMet T x ≡ false = sym (c .before .demands-met .ensures (a .cases .now)) ∙ not-true _ (c .if2 .taken) in
+    sym (refused-demand T x (a .locals) (c .before .before .if1 .left) demand)
 
--- src/operands.rt:109:8
 ranges-hold-requires : tie.Need-ranges-hold-requires
-ranges-hold-requires c κs = ?
+ranges-hold-requires c κs =
+    let a = c .before .before .before .before .before .before .args in
+    let x : Cell = record { instruction = a .i; metadata = a .m } in
+    let T : Tables = tablesOf (a .functions .now) (a .externs .now) (a .cases .now) in
+    let demand : demandsMet T x ≡ true = sym (c .before .demands-met .ensures (a .cases .now)) ∙ not-false _ (c .if2 .left) in
+    (omega arith, cases-inside T x (c .before .before .before .before .before .before .pre .1) demand)
 
--- src/operands.rt:110:9
 returns-3 : tie.Need-returns-3
-returns-3 c = ?
+returns-3 c =
+    let a = c .before .before .before .before .before .before .before .before .args in
+    let x : Cell = record { instruction = a .i; metadata = a .m } in
+    let T : Tables = tablesOf (a .functions .now) (a .externs .now) (a .cases .now) in
+    let demand : demandsMet T x ≡ true = sym (c .before .before .before .demands-met .ensures (a .cases .now)) ∙ not-false _ (c .before .before .if2 .left) in
+    let holds : allOf (rangeHolds (a .locals)) (allReads T x ++ writes T x) ≡ true = sym (c .before .ranges-hold .ensures) ∙ c .if3 .taken in
+    sym (not-refused T x (a .locals) (c .before .before .before .before .if1 .left) demand holds)
 
--- src/operands.rt:112:8
 ranges-hold-requires-2 : tie.Need-ranges-hold-requires-2
-ranges-hold-requires-2 c κs = ?
+ranges-hold-requires-2 c κs =
+    let a = c .before .before .before .before .before .before .before .before .args in
+    let x : Cell = record { instruction = a .i; metadata = a .m } in
+    let T : Tables = tablesOf (a .functions .now) (a .externs .now) (a .cases .now) in
+    let demand : demandsMet T x ≡ true = sym (c .before .before .before .demands-met .ensures (a .cases .now)) ∙ not-false _ (c .before .before .if2 .left) in
+    (omega arith, cases-inside T x (c .before .before .before .before .before .before .before .before .pre .1) demand)
 
--- src/operands.rt:113:9
 returns-4 : tie.Need-returns-4
-returns-4 c = ?
+returns-4 c =
+    let a = c .before .before .before .before .before .before .before .before .before .before .args in
+    let x : Cell = record { instruction = a .i; metadata = a .m } in
+    let T : Tables = tablesOf (a .functions .now) (a .externs .now) (a .cases .now) in
+    let demand : demandsMet T x ≡ true = sym (c .before .before .before .before .before .demands-met .ensures (a .cases .now)) ∙ not-false _ (c .before .before .before .before .if2 .left) in
+    let outside : allOf (rangeHolds (a .locals)) (allReads T x ++ writes T x) ≡ false = sym (c .before .before .before .ranges-hold .ensures) ∙ c .before .before .if3 .left in
+    let fits : allOf (rangeHolds slots) (allReads T x ++ writes T x) ≡ true = sym (c .before .ranges-hold2 .ensures) ∙ c .if4 .taken in
+    sym (refused-within T x (a .locals) (c .before .before .before .before .before .before .if1 .left) demand outside fits)
 
--- src/operands.rt:98:1
 returns-5 : tie.Need-returns-5
-returns-5 c = ?
+returns-5 c =
+    let a = c .before .before .before .before .before .before .before .before .before .before .args in
+    let x : Cell = record { instruction = a .i; metadata = a .m } in
+    let T : Tables = tablesOf (a .functions .now) (a .externs .now) (a .cases .now) in
+    let demand : demandsMet T x ≡ true = sym (c .before .before .before .before .before .demands-met .ensures (a .cases .now)) ∙ not-false _ (c .before .before .before .before .if2 .left) in
+    let error : allOf (rangeHolds slots) (allReads T x ++ writes T x) ≡ false = sym (c .before .ranges-hold2 .ensures) ∙ c .if4 .left in
+    sym (refused-fit T x (a .locals) (c .before .before .before .before .before .before .if1 .left) demand error)
 
 pub operand-refusal-spec : {M : Type 1} → statement M
 operand-refusal-spec =
     tie.close
     (tie.spec
     returns
-    demands-met-requires
+    (λ c κs. search needs)
     returns-2
     ranges-hold-requires
     returns-3

@@ -1,26 +1,23 @@
+use Rattle.effects.specs.Shape.{Cell, Tables, tablesOf}
+use Rattle.effects.specs.Effects.{allReads, writes}
+use Rattle.effects.specs.Operands.{rangeHolds, all-append}
 use borrow.Author.Needs.{needs}
 use Rattle.effects.proofs.operands.ranges_hold.Statement.{statement}
 use Rattle.effects.proofs.operands.ranges_hold.Tie as tie
-use Rattle.effects.proofs.operands.ranges_hold.Reads as reads
-use Rattle.effects.proofs.operands.ranges_hold.Lts as lts
-use Rattle.effects.proofs.operands.reads_hold.Reads as reads-hold-reads
-use Rattle.effects.proofs.operands.writes_hold.Reads as writes-hold-reads
 
--- src/operands.rt:81:8
-reads-hold-requires : tie.Need-reads-hold-requires
-reads-hold-requires c κs = search needs
-
--- src/operands.rt:82:9
-writes-hold-requires : tie.Need-writes-hold-requires
-writes-hold-requires c κs = search needs
-
--- src/operands.rt:82:9
 returns : tie.Need-returns
-returns c = ?
+returns c =
+    let a = c .before .before .before .before .before .before .args in
+    let x : Cell = record { instruction = a .i; metadata = a .m } in
+    let T : Tables = tablesOf (a .functions .now) (a .externs .now) (a .cases .now) in
+    rw (all-append (rangeHolds (a .limit)) (allReads T x) (writes T x), ← c .before .before .reads-hold .ensures, c .before .if1 .taken) (c .writes-hold .ensures)
 
--- src/operands.rt:77:1
 returns-2 : tie.Need-returns-2
-returns-2 c = ?
+returns-2 c =
+    let a = c .before .before .before .before .before .args in
+    let x : Cell = record { instruction = a .i; metadata = a .m } in
+    let T : Tables = tablesOf (a .functions .now) (a .externs .now) (a .cases .now) in
+    rw (all-append (rangeHolds (a .limit)) (allReads T x) (writes T x), ← c .before .reads-hold .ensures, c .if1 .left)
 
 pub ranges-hold-spec : {M : Type 1} → statement M
-ranges-hold-spec = tie.close (tie.spec reads-hold-requires writes-hold-requires returns returns-2)
+ranges-hold-spec = tie.close (tie.spec (λ c κs. search needs) (λ c κs. search needs) returns returns-2)
