@@ -16,8 +16,8 @@ use Rattle.effects.specs.declared.Range.{Range}
 use Rattle.effects.specs.Shape.{Tables, Cell, Part, met, rangeOf}
 use Rattle.effects.specs.Table.{readShape, writeShape, arrayShape, shapeIn}
 use Rattle.effects.specs.Effects.{caseReads, caseWrites, reads, arrays, writes, allReads, demandsMet}
-use Rattle.effects.specs.Form.{formAt, partsOf, readParts, writeParts, emptyRange, noPart, demandAt, demands, demandsOf}
-use Rattle.effects.specs.Rows.{unpack-long, unpack-at}
+use Rattle.effects.specs.Form.{formAt, unpack, rowOf, readsOf, writesOf, demandRowOf, readParts, writeParts, emptyRange, noPart, demandAt, demands, demandsOf}
+use Rattle.effects.specs.Rows.{unpack-long, unpack-at, rows-read, rows-write, rows-demand}
 
 -- SelectExec's cases are inside their section
 abbrev pub CasesInside : List ℕ → Cell → Type 0
@@ -80,21 +80,43 @@ module _ (T : Tables) (x : Cell) where
     unfolding writes
     writes-other = rw (ne-eqb (x .instruction .op) op.SelectExec n, append-nil)
 
-  -- the ranges of a row of forms: how many, and the k-th
-  module _ (row : ℕ) (parts : List Part) (e : partsOf row ≡ parts) where
-    pub row-count : length (map (rangeOf T x) parts) ≡ row % 256
-    row-count = length-map parts (rangeOf T x) ∙ rw (← e) (unpack-long (row % 256) (row / 256))
+  -- the ranges of n forms, packed in v: how many, and the k-th
+  module _ (n v : ℕ) (parts : List Part) (e : unpack n v ≡ parts) where
+    pub row-count : length (map (rangeOf T x) parts) ≡ n
+    row-count = length-map parts (rangeOf T x) ∙ rw (← e) (unpack-long n v)
 
-    pub row-at : (k : ℕ) → k < row % 256 → getD (map (rangeOf T x) parts) k emptyRange ≡ rangeOf T x (formAt (row / 256 / 256 ^ k % 256))
+    pub row-at : (k : ℕ) → k < n → getD (map (rangeOf T x) parts) k emptyRange ≡ rangeOf T x (formAt (v / 256 ^ k % 256))
     unfolding rangeOf
     row-at k h =
-        let form : getD parts k noPart ≡ formAt (row / 256 / 256 ^ k % 256) = rw (← e) (unpack-at (row % 256) (row / 256) k h) in
+        let form : getD parts k noPart ≡ formAt (v / 256 ^ k % 256) = rw (← e) (unpack-at n v k h) in
         List·getD-map (rangeOf T x) parts k noPart ∙ ap (rangeOf T x) form
 
-  pub demands-row : (row : ℕ) → demandsOf row ≡ demands (x .instruction .op)
+  -- of an opcode's row
+  module _ (row : ℕ) (r : row ≡ rowOf (x .instruction .op)) (n : x .instruction .op ≡ op.SelectExec → ⊥) where
+    read-parts : readsOf row ≡ readParts (x .instruction .op)
+    read-parts = rw r (rows-read (x .instruction .op))
+
+    write-parts : writesOf row ≡ writeParts (x .instruction .op)
+    write-parts = rw r (rows-write (x .instruction .op))
+
+    pub read-count-row : length (allReads T x) ≡ row % 16
+    read-count-row = rw (reads-other n) (row-count (row % 16) (row / 256) (readParts (x .instruction .op)) read-parts)
+
+    pub read-at-row : (k : ℕ) → k < row % 16 → getD (allReads T x) k emptyRange ≡ rangeOf T x (formAt (row / 256 / 256 ^ k % 256))
+    read-at-row k h = rw (reads-other n) (row-at (row % 16) (row / 256) (readParts (x .instruction .op)) read-parts k h)
+
+    pub write-count-row : length (writes T x) ≡ row / 16 % 16
+    write-count-row = rw (writes-other n) (row-count (row / 16 % 16) (row / 2 ^ 40) (writeParts (x .instruction .op)) write-parts)
+
+    pub write-at-row : (k : ℕ) → k < row / 16 % 16 → getD (writes T x) k emptyRange ≡ rangeOf T x (formAt (row / 2 ^ 40 / 256 ^ k % 256))
+    write-at-row k h = rw (writes-other n) (row-at (row / 16 % 16) (row / 2 ^ 40) (writeParts (x .instruction .op)) write-parts k h)
+
+  pub demands-row : (row : ℕ) → row ≡ demandRowOf (x .instruction .op)
       → demandsMet T x ≡ (met T x (demandAt (row % 256)) && met T x (demandAt (row / 256 % 256)) && met T x (demandAt (row / 65536)))
   unfolding demandsMet
-  demands-row row e = cc
+  demands-row row r =
+      let e : demandsOf row ≡ demands (x .instruction .op) = rw r (rows-demand (x .instruction .op)) in
+      cc
 
 pub after-first : {A : Type 0} (y : A) (ys : List A) (k : ℕ) (d : A) → 0 < k → getD (y ∷ ys) k d ≡ getD ys (k - 1) d
 after-first y ys zero d h = absurd (omega arith)

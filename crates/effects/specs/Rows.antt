@@ -8,18 +8,27 @@ use native.Mathlib.Nat.{pow-suc, div-div-eq-div-mul, div-one, mul-comm}
 use native.Mathlib.Omega.{arith}
 use lib.Pow.{pow-add}
 use lib.Dec.{eqb, leb, ltb}
-use lib.ListN.{length, getD, List·getD-map}
+use lib.ListN.{length, getD, List·getD-map, List·getD-eq-default}
 use borrow.Author.Tests.{ltb-true, ltb-false, leb-true, ne-eqb}
-use Rattle.words.specs.Lists.{isIn, every, every-at, tabulate, getD-tabulate}
+use Rattle.words.specs.Lists.{isIn, every, every-at, tabulate, tabulateFrom, getD-tabulate}
 use Rattle.effects.specs.Shape.{nothing, fieldA, fixed, part, Part, Shape}
 use Rattle.instruction.specs.Opcode as op
 use Rattle.effects.specs.Table.{Row, shape, shapeIn, readRows, readShape, writeRows, writeShape, arrayRows, arrayShape}
-use Rattle.effects.specs.Form.{formAt, unpack, noPart, readParts, writeParts}
+use Rattle.effects.specs.Form.{forms, formAt, unpack, noPart, rows, rowOf, readsOf, writesOf, readParts, writeParts, demandAt, demandRows, demandRowOf, demandsOf, demands}
 
--- a table is right at each entry if all entries, read, are what they should be
-pub by-table : {A : Type 0} (read right : ℕ → A) (rows : List ℕ) (n : ℕ) → map read rows ≡ tabulate n right → (o : ℕ) → o < n → read (getD rows o 0) ≡ right o
-by-table read right rows n e o h =
-    sym (List·getD-map read rows o 0) ∙ ap (λ (l : List _). getD l o (read 0)) e ∙ getD-tabulate n right o (read 0) h
+-- a table is right everywhere if its entries, read, are what they should be, and what stands for the others is
+by-table : {A : Type 0} (read right : ℕ → A) (table : List ℕ) (n other : ℕ) → map read table ≡ tabulate n right → length table ≡ n
+    → ((o : ℕ) → n ≤ o → read other ≡ right o) → (o : ℕ) → read (getD table o other) ≡ right o
+by-table read right table n other e long past o = go (ltb o n) refl
+  where
+    go : (t : Bool) → ltb o n ≡ t → read (getD table o other) ≡ right o
+    go true q =
+        sym (List·getD-map read table o other) ∙ ap (λ (l : List _). getD l o (read other)) e
+        ∙ getD-tabulate n right o (read other) (ltb-true o n q)
+    go false q =
+        let h : n ≤ o = ltb-false o n q in
+        let out : length table ≤ o = rw long h in
+        rw (List·getD-eq-default table other out) (past o h)
 
 -- the number of forms of a row, and the k-th of them
 pub unpack-long : (n v : ℕ) → length (unpack n v) ≡ n
@@ -83,20 +92,35 @@ module _ (o : ℕ) (h : op.maxValid < o) where
   unfolding writeShape names-below below
   writes-past = shape-past 136 o writeRows (shape nothing (part fieldA (fixed 1) ∷ [])) h refl
 
--- no row has more than four forms
-few : (f : ℕ → List Part) → every 136 (λ o. leb (length (f o)) 4) ≡ true → ((o : ℕ) → op.maxValid < o → length (f o) ≤ 4) → (o : ℕ) → length (f o) ≤ 4
-few f e past o = go (ltb op.maxValid o) refl
+-- ---- the tables
+
+pub rows-read : (o : ℕ) → readsOf (rowOf o) ≡ readParts o
+unfolding forms formAt unpack readShape arrayShape shapeIn tabulate tabulateFrom
+rows-read = by-table readsOf readParts rows 136 0x10 refl refl (λ o h. rw (reads-past o h, arrays-past o h))
+
+pub rows-write : (o : ℕ) → writesOf (rowOf o) ≡ writeParts o
+unfolding forms formAt unpack writeShape shapeIn tabulate tabulateFrom
+rows-write = by-table writesOf writeParts rows 136 0x10 refl refl (λ o h. ap (λ (s : Shape). s .parts) (sym (writes-past o h)))
+
+pub rows-demand : (o : ℕ) → demandsOf (demandRowOf o) ≡ demands o
+unfolding demandAt readShape arrayShape writeShape shapeIn tabulate tabulateFrom
+rows-demand = by-table demandsOf demands demandRows 136 0 refl refl (λ o h. rw (reads-past o h, arrays-past o h, writes-past o h))
+
+-- at most four ranges are read by a row, and three written
+few : (table : List ℕ) (n other : ℕ) (f : ℕ → ℕ) (most : ℕ) → length table ≡ n → every n (λ o. leb (f (getD table o other)) most) ≡ true → f other ≤ most
+    → (o : ℕ) → f (getD table o other) ≤ most
+few table n other f most long e h o = go (ltb o n) refl
   where
-    go : (t : Bool) → ltb op.maxValid o ≡ t → length (f o) ≤ 4
-    go true q = past o (ltb-true op.maxValid o q)
+    go : (t : Bool) → ltb o n ≡ t → f (getD table o other) ≤ most
+    go true q = leb-true (f (getD table o other)) most (every-at n (λ o. leb (f (getD table o other)) most) e o (ltb-true o n q))
     go false q =
-        let h : o < 136 = omega (arith, ltb-false op.maxValid o q) in
-        leb-true (length (f o)) 4 (every-at 136 (λ o. leb (length (f o)) 4) e o h)
+        let out : length table ≤ o = rw long (ltb-false o n q) in
+        rw (List·getD-eq-default table other out) h
 
-pub read-parts-few : (o : ℕ) → length (readParts o) ≤ 4
-unfolding readShape arrayShape shapeIn every
-read-parts-few = few readParts refl (λ o h. rw (reads-past o h, arrays-past o h) (omega arith))
+pub reads-few : (o : ℕ) → rowOf o % 16 ≤ 4
+unfolding every
+reads-few = few rows 136 0x10 (λ r. r % 16) 4 refl refl (omega arith)
 
-pub write-parts-few : (o : ℕ) → length (writeParts o) ≤ 4
-unfolding writeShape shapeIn every
-write-parts-few = few writeParts refl (λ o h. let one : length (writeParts o) ≡ 1 = ap (λ (s : Shape). length (s .parts)) (writes-past o h) in omega arith)
+pub writes-few : (o : ℕ) → rowOf o / 16 % 16 ≤ 3
+unfolding every
+writes-few = few rows 136 0x10 (λ r. r / 16 % 16) 3 refl refl (omega arith)

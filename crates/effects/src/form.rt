@@ -78,9 +78,32 @@ fn asked(flag: bool, start: usize, count: usize) -> Range
     }
 }
 
-// Forms of the instruction's fields alone.
+// One slot, as most ranges are: without a jump by the form.
+fn slot_range(form: u64, i: Instruction) -> Range
+    requires { ⌜ form < 3 ⌝ }
+    ensures { λ r. ⌜ ((T : Tables) (m : Metadata) → r ≡ rangeOf T (record { instruction = i; metadata = m }) (formAt form)) ⌝ }
+{
+    if form == 0 {
+        return Range {
+            start: i.a as usize,
+            count: 1,
+        };
+    }
+    if form == 1 {
+        return Range {
+            start: i.b as usize,
+            count: 1,
+        };
+    }
+    Range {
+        start: i.c as usize,
+        count: 1,
+    }
+}
+
+// Other forms of the instruction's fields alone.
 fn field_range(form: u64, i: Instruction) -> Range
-    requires { ⌜ form < 18 ⌝ }
+    requires { ⌜ (3 ≤ form) × (form < 18) ⌝ }
     ensures { λ r. ⌜ ((T : Tables) (m : Metadata) → r ≡ rangeOf T (record { instruction = i; metadata = m }) (formAt form)) ⌝ }
 {
     let flags = i.flags as usize;
@@ -88,9 +111,6 @@ fn field_range(form: u64, i: Instruction) -> Range
     let b = i.b as usize;
     let c = i.c as usize;
     match form {
-        0 => Range { start: a, count: 1 },
-        1 => Range { start: b, count: 1 },
-        2 => Range { start: c, count: 1 },
         3 => Range { start: a, count: 2 },
         4 => Range { start: b, count: 2 },
         5 => Range { start: c, count: 2 },
@@ -207,6 +227,9 @@ fn call_range(form: u64, i: Instruction, m: Metadata, functions: &[u8], externs:
 pub fn range_of(form: u64, i: Instruction, m: Metadata, functions: &[u8], externs: &[u8]) -> Range
     ensures { λ r. ⌜ ((cases : List ℕ) → r ≡ rangeOf (tablesOf (now (functions .entry)) (now (externs .entry)) cases) (record { instruction = i; metadata = m }) (formAt form)) ⌝ }
 {
+    if form < 3 {
+        return slot_range(form, i);
+    }
     if form < 18 {
         return field_range(form, i);
     }

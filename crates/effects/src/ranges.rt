@@ -15,12 +15,12 @@ use unit::Metadata;
 
 const SELECT_EXEC: u8 = 105;
 
-// The k-th form of a row.
-fn form_at(row: u64, k: usize) -> u64
+// The k-th of packed forms.
+fn form_at(forms: u64, k: usize) -> u64
     requires { ⌜ k < 8 ⌝ }
-    ensures { λ r. ⌜ r ≡ row / 256 / 256 ^ k % 256 ⌝ }
+    ensures { λ r. ⌜ r ≡ forms / 256 ^ k % 256 ⌝ }
 {
-    ((row / 256) >> (8 * k)) % 256
+    (forms >> (8 * k)) % 256
 }
 
 // How many ranges are read, the array range of a Slot opcode with them; of SelectExec two for each case.
@@ -31,7 +31,7 @@ pub fn read_count(i: Instruction, m: Metadata) -> usize
     if op == SELECT_EXEC {
         return 2 * (m.second as usize);
     }
-    (table::read_row(op) % 256) as usize
+    (table::row(op) % 16) as usize
 }
 
 pub fn read_range(
@@ -49,7 +49,7 @@ pub fn read_range(
     if op == SELECT_EXEC {
         return select::case_read(k, m, cases);
     }
-    let form = form_at(table::read_row(op), k);
+    let form = form_at(table::row(op) / 256, k);
     form::range_of(form, i, m, functions, externs)
 }
 
@@ -61,7 +61,7 @@ pub fn write_count(i: Instruction, m: Metadata) -> usize
     if op == SELECT_EXEC {
         return 1 + (m.second as usize);
     }
-    (table::write_row(op) % 256) as usize
+    (table::row(op) / 16 % 16) as usize
 }
 
 pub fn write_range(
@@ -77,7 +77,7 @@ pub fn write_range(
 {
     let op = i.op;
     if op != SELECT_EXEC {
-        let form = form_at(table::write_row(op), k);
+        let form = form_at(table::row(op) / 1099511627776, k);
         return form::range_of(form, i, m, functions, externs);
     }
     if k == 0 {

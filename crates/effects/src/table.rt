@@ -1,446 +1,189 @@
-// What each opcode reads, writes and demands, as tables: a row for each valid opcode.
+// What each opcode reads, writes and demands. These are matches, one arm for each opcode, and no constant arrays: such a match becomes
+// a table of the program's constant data, while an array is built anew at each use.
 ghost use mathlib.Core.Path.{_≡_};
-ghost use Rattle.effects.specs.Form.{partsOf, readParts, writeParts, demandsOf, demands};
+ghost use Rattle.effects.specs.Form.{rowOf, demandRowOf};
 
-// The lowest byte of a row is the number of ranges; the bytes above it are their forms (form.rt), the first lowest. The array
-// range of a Slot opcode comes last.
-const READS: [u64; 136] = [
-    0, // Hint
-    0, // LoadInt
-    0, // LoadConst
-    0x0101, // Copy
-    0x0b01, // CopyN
-    0x1c0202, // SlotGet
-    0x1b020103, // SlotSet
-    0x1c0202, // SlotGetN
-    0x1b140103, // SlotSetN
-    0, // GlobalGet
-    0, // GlobalGetN
-    0x0101, // GlobalSet
-    0x0d01, // GlobalSetN
-    0x0101, // PtrNew
-    0x0101, // PtrGet
-    0x020002, // PtrSet
-    0x0101, // PtrGetN
-    0x140002, // PtrSetN
-    0x020102, // PtrAdd
-    0x020102, // AddI
-    0x020102, // SubI
-    0x020102, // MulI
-    0x020102, // DivI
-    0x020102, // DivU
-    0x020102, // ModI
-    0x020102, // ModU
-    0x0101, // NegI
-    0x020102, // AddF
-    0x020102, // SubF
-    0x020102, // MulF
-    0x020102, // DivF
-    0x0101, // NegF
-    0x020102, // EqI
-    0x020102, // NeI
-    0x020102, // LtI
-    0x020102, // LtU
-    0x020102, // LeI
-    0x020102, // LeU
-    0x020102, // GtI
-    0x020102, // GtU
-    0x020102, // GeI
-    0x020102, // GeU
-    0x020102, // EqF
-    0x020102, // NeF
-    0x020102, // LtF
-    0x020102, // LeF
-    0x020102, // GtF
-    0x020102, // GeF
-    0x020102, // And
-    0x020102, // Or
-    0x020102, // Xor
-    0x020102, // AndNot
-    0x0101, // Not
-    0x020102, // Shl
-    0x020102, // ShrS
-    0x020102, // ShrU
-    0x0101, // BoolNot
-    0, // Jump
-    0x01, // JumpIf
-    0x01, // JumpIfNot
-    0x1d01, // Call
-    0x1401, // CallExtern
-    0x130002, // CallClosure
-    0x130302, // CallIface
-    0x0901, // Return
-    0, // StrNew
-    0x0101, // StrLen
-    0x020102, // StrIndex
-    0x020102, // StrConcat
-    0x050102, // StrSlice
-    0x020102, // StrEq
-    0x020102, // StrNe
-    0x020102, // StrLt
-    0x020102, // StrLe
-    0x020102, // StrGt
-    0x020102, // StrGe
-    0x020102, // StrDecodeRune
-    0x020102, // ArrayNew
-    0x020102, // ArrayGet
-    0x14010003, // ArraySet
-    0x020102, // ArrayAddr
-    0x050102, // SliceNew
-    0x020102, // SliceGet
-    0x14010003, // SliceSet
-    0x0101, // SliceLen
-    0x0101, // SliceCap
-    0x0f050e0104, // SliceSlice
-    0x15020103, // SliceAppend
-    0x020102, // SliceAddr
-    0x0401, // MapNew
-    0x140102, // MapGet
-    0x16130003, // MapSet
-    0x130002, // MapDelete
-    0x0101, // MapLen
-    0x0101, // MapIterInit
-    0x0701, // MapIterNext
-    0x020102, // QueueNew
-    0x130002, // QueueSend
-    0x0101, // QueueRecv
-    0x01, // QueueClose
-    0x0101, // QueueLen
-    0x0101, // QueueCap
-    0, // SelectBegin
-    0x130002, // SelectSend
-    0x0101, // SelectRecv
-    0, // SelectExec
-    0, // ClosureNew
-    0x0801, // ClosureGet
-    0x201102, // GoStart
-    0x201102, // DeferPush
-    0x201102, // ErrDeferPush
-    0x0301, // Panic
-    0, // Recover
-    0x100102, // IfaceAssign
-    0x0401, // IfaceAssert
-    0x050402, // IfaceEq
-    0x0101, // ConvI2F
-    0x0101, // ConvF2I
-    0x0101, // ConvF64F32
-    0x0101, // ConvF32F64
-    0x0101, // Trunc
-    0x010002, // IndexCheck
-    0, // IslandNew
-    0x14010003, // GoIsland
-    0x010002, // ForLoop
-    0x020102, // AddF32
-    0x020102, // SubF32
-    0x020102, // MulF32
-    0x020102, // DivF32
-    0x0101, // NegF32
-    0x020102, // EqF32
-    0x020102, // NeF32
-    0x020102, // LtF32
-    0x020102, // LeF32
-    0x020102, // GtF32
-    0x020102, // GeF32
-];
-
-// An opcode that instruction_effects.rs does not name there writes a.
-const WRITES: [u64; 136] = [
-    0, // Hint
-    0x01, // LoadInt
-    0x01, // LoadConst
-    0x01, // Copy
-    0x0a01, // CopyN
-    0x01, // SlotGet
-    0, // SlotSet
-    0x1201, // SlotGetN
-    0, // SlotSetN
-    0x01, // GlobalGet
-    0x0c01, // GlobalGetN
-    0, // GlobalSet
-    0, // GlobalSetN
-    0x01, // PtrNew
-    0x01, // PtrGet
-    0, // PtrSet
-    0x1201, // PtrGetN
-    0, // PtrSetN
-    0x01, // PtrAdd
-    0x01, // AddI
-    0x01, // SubI
-    0x01, // MulI
-    0x01, // DivI
-    0x01, // DivU
-    0x01, // ModI
-    0x01, // ModU
-    0x01, // NegI
-    0x01, // AddF
-    0x01, // SubF
-    0x01, // MulF
-    0x01, // DivF
-    0x01, // NegF
-    0x01, // EqI
-    0x01, // NeI
-    0x01, // LtI
-    0x01, // LtU
-    0x01, // LeI
-    0x01, // LeU
-    0x01, // GtI
-    0x01, // GtU
-    0x01, // GeI
-    0x01, // GeU
-    0x01, // EqF
-    0x01, // NeF
-    0x01, // LtF
-    0x01, // LeF
-    0x01, // GtF
-    0x01, // GeF
-    0x01, // And
-    0x01, // Or
-    0x01, // Xor
-    0x01, // AndNot
-    0x01, // Not
-    0x01, // Shl
-    0x01, // ShrS
-    0x01, // ShrU
-    0x01, // BoolNot
-    0, // Jump
-    0, // JumpIf
-    0, // JumpIfNot
-    0x1e01, // Call
-    0x1f01, // CallExtern
-    0x1701, // CallClosure
-    0x1701, // CallIface
-    0, // Return
-    0x01, // StrNew
-    0x01, // StrLen
-    0x01, // StrIndex
-    0x01, // StrConcat
-    0x01, // StrSlice
-    0x01, // StrEq
-    0x01, // StrNe
-    0x01, // StrLt
-    0x01, // StrLe
-    0x01, // StrGt
-    0x01, // StrGe
-    0x0301, // StrDecodeRune
-    0x01, // ArrayNew
-    0x1201, // ArrayGet
-    0, // ArraySet
-    0x01, // ArrayAddr
-    0x01, // SliceNew
-    0x1201, // SliceGet
-    0, // SliceSet
-    0x01, // SliceLen
-    0x01, // SliceCap
-    0x01, // SliceSlice
-    0x01, // SliceAppend
-    0x01, // SliceAddr
-    0x01, // MapNew
-    0x1a01, // MapGet
-    0, // MapSet
-    0, // MapDelete
-    0x01, // MapLen
-    0x0601, // MapIterInit
-    0x02180703, // MapIterNext
-    0x01, // QueueNew
-    0, // QueueSend
-    0x1901, // QueueRecv
-    0, // QueueClose
-    0x01, // QueueLen
-    0x01, // QueueCap
-    0, // SelectBegin
-    0, // SelectSend
-    0, // SelectRecv
-    0x01, // SelectExec
-    0x01, // ClosureNew
-    0x01, // ClosureGet
-    0, // GoStart
-    0, // DeferPush
-    0, // ErrDeferPush
-    0, // Panic
-    0x0301, // Recover
-    0x0301, // IfaceAssign
-    0x1901, // IfaceAssert
-    0x01, // IfaceEq
-    0x01, // ConvI2F
-    0x01, // ConvF2I
-    0x01, // ConvF64F32
-    0x01, // ConvF32F64
-    0x01, // Trunc
-    0, // IndexCheck
-    0x01, // IslandNew
-    0, // GoIsland
-    0x01, // ForLoop
-    0x01, // AddF32
-    0x01, // SubF32
-    0x01, // MulF32
-    0x01, // DivF32
-    0x01, // NegF32
-    0x01, // EqF32
-    0x01, // NeF32
-    0x01, // LtF32
-    0x01, // LeF32
-    0x01, // GtF32
-    0x01, // GeF32
-];
-
-// What must be there, or the effects are an error: for the reads in the lowest byte of a row, for the array range in the next,
-// for the writes above it (demand.rt).
-const DEMANDS: [u32; 136] = [
-    0, // Hint
-    0, // LoadInt
-    0, // LoadConst
-    0, // Copy
-    0, // CopyN
-    0x0700, // SlotGet
-    0x0700, // SlotSet
-    0x070700, // SlotGetN
-    0x0707, // SlotSetN
-    0, // GlobalGet
-    0, // GlobalGetN
-    0, // GlobalSet
-    0, // GlobalSetN
-    0, // PtrNew
-    0, // PtrGet
-    0, // PtrSet
-    0x060000, // PtrGetN
-    0x06, // PtrSetN
-    0, // PtrAdd
-    0, // AddI
-    0, // SubI
-    0, // MulI
-    0, // DivI
-    0, // DivU
-    0, // ModI
-    0, // ModU
-    0, // NegI
-    0, // AddF
-    0, // SubF
-    0, // MulF
-    0, // DivF
-    0, // NegF
-    0, // EqI
-    0, // NeI
-    0, // LtI
-    0, // LtU
-    0, // LeI
-    0, // LeU
-    0, // GtI
-    0, // GtU
-    0, // GeI
-    0, // GeU
-    0, // EqF
-    0, // NeF
-    0, // LtF
-    0, // LeF
-    0, // GtF
-    0, // GeF
-    0, // And
-    0, // Or
-    0, // Xor
-    0, // AndNot
-    0, // Not
-    0, // Shl
-    0, // ShrS
-    0, // ShrU
-    0, // BoolNot
-    0, // Jump
-    0, // JumpIf
-    0, // JumpIfNot
-    0x120012, // Call
-    0x130010, // CallExtern
-    0x110010, // CallClosure
-    0x110010, // CallIface
-    0, // Return
-    0, // StrNew
-    0, // StrLen
-    0, // StrIndex
-    0, // StrConcat
-    0, // StrSlice
-    0, // StrEq
-    0, // StrNe
-    0, // StrLt
-    0, // StrLe
-    0, // StrGt
-    0, // StrGe
-    0, // StrDecodeRune
-    0, // ArrayNew
-    0x010000, // ArrayGet
-    0x01, // ArraySet
-    0, // ArrayAddr
-    0, // SliceNew
-    0x010000, // SliceGet
-    0x01, // SliceSet
-    0, // SliceLen
-    0, // SliceCap
-    0, // SliceSlice
-    0x01, // SliceAppend
-    0, // SliceAddr
-    0, // MapNew
-    0x020002, // MapGet
-    0x04, // MapSet
-    0x05, // MapDelete
-    0, // MapLen
-    0, // MapIterInit
-    0x0d0000, // MapIterNext
-    0, // QueueNew
-    0x0b, // QueueSend
-    0x0b0000, // QueueRecv
-    0, // QueueClose
-    0, // QueueLen
-    0, // QueueCap
-    0, // SelectBegin
-    0x0b, // SelectSend
-    0, // SelectRecv
-    0x0c000c, // SelectExec
-    0, // ClosureNew
-    0, // ClosureGet
-    0x14, // GoStart
-    0x14, // DeferPush
-    0x14, // ErrDeferPush
-    0, // Panic
-    0, // Recover
-    0, // IfaceAssign
-    0x0e0000, // IfaceAssert
-    0, // IfaceEq
-    0, // ConvI2F
-    0, // ConvF2I
-    0, // ConvF64F32
-    0, // ConvF32F64
-    0, // Trunc
-    0, // IndexCheck
-    0, // IslandNew
-    0x10, // GoIsland
-    0, // ForLoop
-    0, // AddF32
-    0, // SubF32
-    0, // MulF32
-    0, // DivF32
-    0, // NegF32
-    0, // EqF32
-    0, // NeF32
-    0, // LtF32
-    0, // LeF32
-    0, // GtF32
-    0, // GeF32
-];
-
-pub fn read_row(op: u8) -> u64
-    ensures { λ r. ⌜ partsOf r ≡ readParts op ⌝ }
+// The ranges that an opcode reads and writes. The lowest byte has their numbers: reads, and 16 times writes. The next four bytes are
+// the forms (form.rt) of the ranges that are read, the array range of a Slot opcode last; the highest three of those that are written.
+// "Writes have a default: an opcode not named there writes a": form 0.
+pub fn row(op: u8) -> u64
+    ensures { λ r. ⌜ r ≡ rowOf op ⌝ }
 {
-    let at = op as usize;
-    if at < 136 { READS[at] } else { 0 }
+    match op {
+        0 => 0x000000_00000000_00, // Hint
+        1 => 0x000000_00000000_10, // LoadInt
+        2 => 0x000000_00000000_10, // LoadConst
+        3 => 0x000000_00000001_11, // Copy
+        4 => 0x00000a_0000000b_11, // CopyN
+        5 => 0x000000_00001c02_12, // SlotGet
+        6 => 0x000000_001b0201_03, // SlotSet
+        7 => 0x000012_00001c02_12, // SlotGetN
+        8 => 0x000000_001b1401_03, // SlotSetN
+        9 => 0x000000_00000000_10, // GlobalGet
+        10 => 0x00000c_00000000_10, // GlobalGetN
+        11 => 0x000000_00000001_01, // GlobalSet
+        12 => 0x000000_0000000d_01, // GlobalSetN
+        13 => 0x000000_00000001_11, // PtrNew
+        14 => 0x000000_00000001_11, // PtrGet
+        15 => 0x000000_00000200_02, // PtrSet
+        16 => 0x000012_00000001_11, // PtrGetN
+        17 => 0x000000_00001400_02, // PtrSetN
+        18 => 0x000000_00000201_12, // PtrAdd
+        19 => 0x000000_00000201_12, // AddI
+        20 => 0x000000_00000201_12, // SubI
+        21 => 0x000000_00000201_12, // MulI
+        22 => 0x000000_00000201_12, // DivI
+        23 => 0x000000_00000201_12, // DivU
+        24 => 0x000000_00000201_12, // ModI
+        25 => 0x000000_00000201_12, // ModU
+        26 => 0x000000_00000001_11, // NegI
+        27 => 0x000000_00000201_12, // AddF
+        28 => 0x000000_00000201_12, // SubF
+        29 => 0x000000_00000201_12, // MulF
+        30 => 0x000000_00000201_12, // DivF
+        31 => 0x000000_00000001_11, // NegF
+        32 => 0x000000_00000201_12, // EqI
+        33 => 0x000000_00000201_12, // NeI
+        34 => 0x000000_00000201_12, // LtI
+        35 => 0x000000_00000201_12, // LtU
+        36 => 0x000000_00000201_12, // LeI
+        37 => 0x000000_00000201_12, // LeU
+        38 => 0x000000_00000201_12, // GtI
+        39 => 0x000000_00000201_12, // GtU
+        40 => 0x000000_00000201_12, // GeI
+        41 => 0x000000_00000201_12, // GeU
+        42 => 0x000000_00000201_12, // EqF
+        43 => 0x000000_00000201_12, // NeF
+        44 => 0x000000_00000201_12, // LtF
+        45 => 0x000000_00000201_12, // LeF
+        46 => 0x000000_00000201_12, // GtF
+        47 => 0x000000_00000201_12, // GeF
+        48 => 0x000000_00000201_12, // And
+        49 => 0x000000_00000201_12, // Or
+        50 => 0x000000_00000201_12, // Xor
+        51 => 0x000000_00000201_12, // AndNot
+        52 => 0x000000_00000001_11, // Not
+        53 => 0x000000_00000201_12, // Shl
+        54 => 0x000000_00000201_12, // ShrS
+        55 => 0x000000_00000201_12, // ShrU
+        56 => 0x000000_00000001_11, // BoolNot
+        57 => 0x000000_00000000_00, // Jump
+        58 => 0x000000_00000000_01, // JumpIf
+        59 => 0x000000_00000000_01, // JumpIfNot
+        60 => 0x00001e_0000001d_11, // Call
+        61 => 0x00001f_00000014_11, // CallExtern
+        62 => 0x000017_00001300_12, // CallClosure
+        63 => 0x000017_00001303_12, // CallIface
+        64 => 0x000000_00000009_01, // Return
+        65 => 0x000000_00000000_10, // StrNew
+        66 => 0x000000_00000001_11, // StrLen
+        67 => 0x000000_00000201_12, // StrIndex
+        68 => 0x000000_00000201_12, // StrConcat
+        69 => 0x000000_00000501_12, // StrSlice
+        70 => 0x000000_00000201_12, // StrEq
+        71 => 0x000000_00000201_12, // StrNe
+        72 => 0x000000_00000201_12, // StrLt
+        73 => 0x000000_00000201_12, // StrLe
+        74 => 0x000000_00000201_12, // StrGt
+        75 => 0x000000_00000201_12, // StrGe
+        76 => 0x000003_00000201_12, // StrDecodeRune
+        77 => 0x000000_00000201_12, // ArrayNew
+        78 => 0x000012_00000201_12, // ArrayGet
+        79 => 0x000000_00140100_03, // ArraySet
+        80 => 0x000000_00000201_12, // ArrayAddr
+        81 => 0x000000_00000501_12, // SliceNew
+        82 => 0x000012_00000201_12, // SliceGet
+        83 => 0x000000_00140100_03, // SliceSet
+        84 => 0x000000_00000001_11, // SliceLen
+        85 => 0x000000_00000001_11, // SliceCap
+        86 => 0x000000_0f050e01_14, // SliceSlice
+        87 => 0x000000_00150201_13, // SliceAppend
+        88 => 0x000000_00000201_12, // SliceAddr
+        89 => 0x000000_00000004_11, // MapNew
+        90 => 0x00001a_00001401_12, // MapGet
+        91 => 0x000000_00161300_03, // MapSet
+        92 => 0x000000_00001300_02, // MapDelete
+        93 => 0x000000_00000001_11, // MapLen
+        94 => 0x000006_00000001_11, // MapIterInit
+        95 => 0x021807_00000007_31, // MapIterNext
+        96 => 0x000000_00000201_12, // QueueNew
+        97 => 0x000000_00001300_02, // QueueSend
+        98 => 0x000019_00000001_11, // QueueRecv
+        99 => 0x000000_00000000_01, // QueueClose
+        100 => 0x000000_00000001_11, // QueueLen
+        101 => 0x000000_00000001_11, // QueueCap
+        102 => 0x000000_00000000_00, // SelectBegin
+        103 => 0x000000_00001300_02, // SelectSend
+        104 => 0x000000_00000001_01, // SelectRecv
+        105 => 0x000000_00000000_10, // SelectExec
+        106 => 0x000000_00000000_10, // ClosureNew
+        107 => 0x000000_00000008_11, // ClosureGet
+        108 => 0x000000_00002011_02, // GoStart
+        109 => 0x000000_00002011_02, // DeferPush
+        110 => 0x000000_00002011_02, // ErrDeferPush
+        111 => 0x000000_00000003_01, // Panic
+        112 => 0x000003_00000000_10, // Recover
+        113 => 0x000003_00001001_12, // IfaceAssign
+        114 => 0x000019_00000004_11, // IfaceAssert
+        115 => 0x000000_00000504_12, // IfaceEq
+        116 => 0x000000_00000001_11, // ConvI2F
+        117 => 0x000000_00000001_11, // ConvF2I
+        118 => 0x000000_00000001_11, // ConvF64F32
+        119 => 0x000000_00000001_11, // ConvF32F64
+        120 => 0x000000_00000001_11, // Trunc
+        121 => 0x000000_00000100_02, // IndexCheck
+        122 => 0x000000_00000000_10, // IslandNew
+        123 => 0x000000_00140100_03, // GoIsland
+        124 => 0x000000_00000100_12, // ForLoop
+        125 => 0x000000_00000201_12, // AddF32
+        126 => 0x000000_00000201_12, // SubF32
+        127 => 0x000000_00000201_12, // MulF32
+        128 => 0x000000_00000201_12, // DivF32
+        129 => 0x000000_00000001_11, // NegF32
+        130 => 0x000000_00000201_12, // EqF32
+        131 => 0x000000_00000201_12, // NeF32
+        132 => 0x000000_00000201_12, // LtF32
+        133 => 0x000000_00000201_12, // LeF32
+        134 => 0x000000_00000201_12, // GtF32
+        135 => 0x000000_00000201_12, // GeF32
+        _ => 0x10,
+    }
 }
 
-pub fn write_row(op: u8) -> u64
-    ensures { λ r. ⌜ partsOf r ≡ writeParts op ⌝ }
-{
-    let at = op as usize;
-    if at < 136 { WRITES[at] } else { 1 }
-}
-
+// What must be there, or the effects are an error (demand.rt): for the reads in the lowest byte, for the array range in the next, for
+// the writes above it.
 pub fn demand_row(op: u8) -> u32
-    ensures { λ r. ⌜ demandsOf r ≡ demands op ⌝ }
+    ensures { λ r. ⌜ r ≡ demandRowOf op ⌝ }
 {
-    let at = op as usize;
-    if at < 136 { DEMANDS[at] } else { 0 }
+    match op {
+        5 => 0x000700, // SlotGet
+        6 => 0x000700, // SlotSet
+        7 => 0x070700, // SlotGetN
+        8 => 0x000707, // SlotSetN
+        16 => 0x060000, // PtrGetN
+        17 => 0x000006, // PtrSetN
+        60 => 0x120012, // Call
+        61 => 0x130010, // CallExtern
+        62 => 0x110010, // CallClosure
+        63 => 0x110010, // CallIface
+        78 => 0x010000, // ArrayGet
+        79 => 0x000001, // ArraySet
+        82 => 0x010000, // SliceGet
+        83 => 0x000001, // SliceSet
+        87 => 0x000001, // SliceAppend
+        90 => 0x020002, // MapGet
+        91 => 0x000004, // MapSet
+        92 => 0x000005, // MapDelete
+        95 => 0x0d0000, // MapIterNext
+        97 => 0x00000b, // QueueSend
+        98 => 0x0b0000, // QueueRecv
+        103 => 0x00000b, // SelectSend
+        105 => 0x0c000c, // SelectExec
+        108 => 0x000014, // GoStart
+        109 => 0x000014, // DeferPush
+        110 => 0x000014, // ErrDeferPush
+        114 => 0x0e0000, // IfaceAssert
+        123 => 0x000010, // GoIsland
+        _ => 0,
+    }
 }

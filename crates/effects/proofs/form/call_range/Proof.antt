@@ -1,10 +1,8 @@
 use native.Mathlib.Nat.{add-zero}
 use lib.ListN.{List·getD-eq-default}
-use Prim.Native.Nat.{_≤_}
 use Rattle.effects.specs.Shape.{rangeOf, applies, value}
 use Rattle.effects.specs.Form.{formAt, forms, noPart}
-use mathlib.Core.Path.{_≡_, _∙_}
-use Rattle.effects.proofs.Keys.{next, only}
+use Rattle.effects.proofs.Keys.{past}
 use borrow.Author.Needs.{needs}
 use Rattle.effects.proofs.form.call_range.Statement.{statement}
 use Rattle.effects.proofs.form.call_range.Tie as tie
@@ -27,14 +25,7 @@ returns-4 c = λ cases. rw (c .before .match .keys4, add-zero) (cc (c .argument-
 
 returns-5 : tie.Need-returns-5
 unfolding forms formAt rangeOf applies value
-returns-5 c =
-    let past : 33 ≤ c .before .before .before .before .before .args .form =
-    (next 32 (c .match .rest .1)
-    (next 31 (c .match .rest .0 .1)
-    (next 30 (c .match .rest .0 .0 .1)
-    (next 29 (c .match .rest .0 .0 .0 .1)
-    (c .before .before .before .before .before .pre))))) in
-    λ cases. rw (List·getD-eq-default forms noPart past)
+returns-5 c = λ cases. rw (List·getD-eq-default forms noPart (past 29 4 (c .before .before .before .before .before .pre) (c .match .rest)))
 
 pub call-range-spec : {M : Type 1} → statement M
 call-range-spec =

@@ -1,9 +1,8 @@
-use Prim.Native.Nat.{zero-le}
+use mathlib.Core.Path.{_≡_}
 use native.Mathlib.Nat.{add-zero}
 use Rattle.effects.specs.Shape.{rangeOf, applies, value}
 use Rattle.effects.specs.Form.{formAt, forms}
-use mathlib.Core.Path.{_≡_, _∙_}
-use Rattle.effects.proofs.Keys.{next, only}
+use Rattle.effects.proofs.Keys.{past, only}
 use borrow.Author.Needs.{needs}
 use Rattle.effects.proofs.form.field_range.Statement.{statement}
 use Rattle.effects.proofs.form.field_range.Tie as tie
@@ -54,51 +53,21 @@ returns-11 c = λ T m. rw (c .match .keys11, add-zero)
 
 returns-12 : tie.Need-returns-12
 unfolding forms formAt rangeOf applies value
-returns-12 c = λ T m. rw (c .match .keys12, add-zero)
+returns-12 c = λ T m. rw (c .before .match .keys12) (c .asked .ensures)
 
 returns-13 : tie.Need-returns-13
 unfolding forms formAt rangeOf applies value
-returns-13 c = λ T m. rw (c .match .keys13, add-zero)
+returns-13 c = λ T m. rw (c .before .match .keys13) (c .asked2 .ensures)
 
 returns-14 : tie.Need-returns-14
 unfolding forms formAt rangeOf applies value
-returns-14 c = λ T m. rw (c .match .keys14, add-zero)
+returns-14 c = λ T m. rw (c .before .match .keys14) (c .asked3 .ensures)
 
 returns-15 : tie.Need-returns-15
 unfolding forms formAt rangeOf applies value
-returns-15 c = λ T m. rw (c .before .match .keys15) (c .asked .ensures)
-
-returns-16 : tie.Need-returns-16
-unfolding forms formAt rangeOf applies value
-returns-16 c = λ T m. rw (c .before .match .keys16) (c .asked2 .ensures)
-
-returns-17 : tie.Need-returns-17
-unfolding forms formAt rangeOf applies value
-returns-17 c = λ T m. rw (c .before .match .keys17) (c .asked3 .ensures)
-
-returns-18 : tie.Need-returns-18
-unfolding forms formAt rangeOf applies value
-returns-18 c =
-    let last : c .before .before .before .before .before .before .before .args .form ≡ 17 =
-    only 17 (c .before .before .before .before .before .before .before .pre)
-    (next 16 (c .before .before .match .rest .1)
-    (next 15 (c .before .before .match .rest .0 .1)
-    (next 14 (c .before .before .match .rest .0 .0 .1)
-    (next 13 (c .before .before .match .rest .0 .0 .0 .1)
-    (next 12 (c .before .before .match .rest .0 .0 .0 .0 .1)
-    (next 11 (c .before .before .match .rest .0 .0 .0 .0 .0 .1)
-    (next 10 (c .before .before .match .rest .0 .0 .0 .0 .0 .0 .1)
-    (next 9 (c .before .before .match .rest .0 .0 .0 .0 .0 .0 .0 .1)
-    (next 8 (c .before .before .match .rest .0 .0 .0 .0 .0 .0 .0 .0 .1)
-    (next 7 (c .before .before .match .rest .0 .0 .0 .0 .0 .0 .0 .0 .0 .1)
-    (next 6 (c .before .before .match .rest .0 .0 .0 .0 .0 .0 .0 .0 .0 .0 .1)
-    (next 5 (c .before .before .match .rest .0 .0 .0 .0 .0 .0 .0 .0 .0 .0 .0 .1)
-    (next 4 (c .before .before .match .rest .0 .0 .0 .0 .0 .0 .0 .0 .0 .0 .0 .0 .1)
-    (next 3 (c .before .before .match .rest .0 .0 .0 .0 .0 .0 .0 .0 .0 .0 .0 .0 .0 .1)
-    (next 2 (c .before .before .match .rest .0 .0 .0 .0 .0 .0 .0 .0 .0 .0 .0 .0 .0 .0 .1)
-    (next 1 (c .before .before .match .rest .0 .0 .0 .0 .0 .0 .0 .0 .0 .0 .0 .0 .0 .0 .0 .1)
-    (next 0 (c .before .before .match .rest .0 .0 .0 .0 .0 .0 .0 .0 .0 .0 .0 .0 .0 .0 .0 .0 .1)
-    zero-le))))))))))))))))) in
+returns-15 c =
+    let s = c .before .before .before .before .before .before .before in
+    let last : s .args .form ≡ 17 = only 17 (s .pre .1) (past 3 14 (s .pre .0) (c .before .before .match .rest)) in
     λ T m. rw (last, add-zero, ← c .before .call-shape-is-closure .ensures) (c .asked4 .ensures)
 
 pub field-range-spec : {M : Type 1} → statement M
@@ -131,7 +100,4 @@ field-range-spec =
     returns-12
     returns-13
     returns-14
-    returns-15
-    returns-16
-    returns-17
-    returns-18)
+    returns-15)

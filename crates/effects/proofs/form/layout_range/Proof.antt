@@ -1,10 +1,10 @@
+use mathlib.Core.Path.{_≡_}
 use native.Mathlib.Nat.{add-zero}
 use native.Mathlib.Omega.{arith}
 use Rattle.words.specs.Word.{halves}
 use Rattle.effects.specs.Shape.{rangeOf, applies, value}
 use Rattle.effects.specs.Form.{formAt, forms}
-use mathlib.Core.Path.{_≡_, _∙_}
-use Rattle.effects.proofs.Keys.{next, only}
+use Rattle.effects.proofs.Keys.{past, only}
 use borrow.Author.Needs.{needs}
 use Rattle.effects.proofs.form.layout_range.Statement.{statement}
 use Rattle.effects.proofs.form.layout_range.Tie as tie
@@ -55,19 +55,8 @@ returns-10 c = λ T. rw (c .match .keys10, add-zero)
 returns-11 : tie.Need-returns-11
 unfolding forms formAt rangeOf applies value
 returns-11 c =
-    let last : c .before .before .before .before .before .before .before .before .before .args .form ≡ 28 =
-    only 28 (c .before .before .before .before .before .before .before .before .before .pre .1)
-    (next 27 (c .match .rest .1)
-    (next 26 (c .match .rest .0 .1)
-    (next 25 (c .match .rest .0 .0 .1)
-    (next 24 (c .match .rest .0 .0 .0 .1)
-    (next 23 (c .match .rest .0 .0 .0 .0 .1)
-    (next 22 (c .match .rest .0 .0 .0 .0 .0 .1)
-    (next 21 (c .match .rest .0 .0 .0 .0 .0 .0 .1)
-    (next 20 (c .match .rest .0 .0 .0 .0 .0 .0 .0 .1)
-    (next 19 (c .match .rest .0 .0 .0 .0 .0 .0 .0 .0 .1)
-    (next 18 (c .match .rest .0 .0 .0 .0 .0 .0 .0 .0 .0 .1)
-    (c .before .before .before .before .before .before .before .before .before .pre .0))))))))))) in
+    let s = c .before .before .before .before .before .before .before .before .before in
+    let last : s .args .form ≡ 28 = only 28 (s .pre .1) (past 18 10 (s .pre .0) (c .match .rest)) in
     λ T. rw (last, add-zero)
 
 pub layout-range-spec : {M : Type 1} → statement M

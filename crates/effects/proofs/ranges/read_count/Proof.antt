@@ -1,8 +1,6 @@
-use mathlib.Core.Path.{_≡_, sym, ap, _∙_}
-use native.Mathlib.Omega.{arith}
+use mathlib.Core.Path.{sym}
 use Rattle.effects.specs.Shape.{Cell}
-use Rattle.effects.specs.Form.{readParts}
-use Rattle.effects.specs.Ranges.{reads-select, reads-other, case-reads-long, row-count}
+use Rattle.effects.specs.Ranges.{reads-select, case-reads-long, read-count-row}
 use borrow.Author.Needs.{needs}
 use Rattle.effects.proofs.ranges.read_count.Statement.{statement}
 use Rattle.effects.proofs.ranges.read_count.Tie as tie
@@ -17,7 +15,7 @@ returns-2 : tie.Need-returns-2
 returns-2 c =
     let a = c .before .before .args in
     let x : Cell = record { instruction = a .i; metadata = a .m } in
-    λ T. rw (reads-other T x (c .before .if1 .left)) (sym (row-count T x (c .read-row .result) (readParts (a .i .op)) (c .read-row .ensures)))
+    λ T. sym (read-count-row T x (c .row .result) (c .row .ensures) (c .before .if1 .left))
 
 pub read-count-spec : {M : Type 1} → statement M
 read-count-spec = tie.close (tie.spec (λ c. search needs) (λ c. search needs) returns (λ c κs. search needs) returns-2)

@@ -1,14 +1,11 @@
-use mathlib.Core.Path.{_≡_, sym, ap, _∙_}
-use mathlib.Core.List.{map}
-use Prim.Native.Nat.{_≤_, _<_, _%_, _-_}
+use mathlib.Core.Path.{_≡_}
+use Prim.Native.Nat.{_*_, _%_, _≤_, _<_}
 use native.Mathlib.Omega.{arith}
-use lib.ListN.{length, length-map}
-use Rattle.effects.specs.Shape.{Cell, Tables, tablesOf, rangeOf}
-use Rattle.effects.specs.Effects.{allReads, writes}
-use Rattle.effects.specs.Form.{readParts, writeParts, emptyRange}
-use Rattle.effects.specs.Rows.{read-parts-few}
-use Rattle.effects.specs.Ranges.{reads-select, reads-other, case-reads-long, row-count, row-at}
-use Prim.Native.Nat.{_*_}
+use lib.ListN.{length}
+use Rattle.effects.specs.Shape.{Cell, Tables, tablesOf}
+use Rattle.effects.specs.Effects.{allReads}
+use Rattle.effects.specs.Rows.{reads-few}
+use Rattle.effects.specs.Ranges.{reads-select, case-reads-long, read-count-row, read-at-row}
 use borrow.Author.Needs.{needs}
 use Rattle.effects.proofs.ranges.read_range.Statement.{statement}
 use Rattle.effects.proofs.ranges.read_range.Tie as tie
@@ -33,30 +30,20 @@ form-at-requires c κs =
     let a = c .before .before .before .before .before .args in
     let x : Cell = record { instruction = a .i; metadata = a .m } in
     let T : Tables = tablesOf (a .functions .now) (a .externs .now) (a .cases .now) in
-    let few : length (readParts (a .i .op)) ≤ 4 = read-parts-few (a .i .op) in
-    let none : a .i .op ≡ 105 → ⊥ = c .before .if1 .left in
-    let long : length (allReads T x) ≡ length (readParts (a .i .op)) = rw (reads-other T x none) (length-map (readParts (a .i .op)) (rangeOf T x)) in
-    omega (arith, c .before .before .before .before .before .pre .0)
+    let few : c .row .result % 16 ≤ 4 = rw (c .row .ensures) (reads-few (a .i .op)) in
+    omega (arith, read-count-row T x (c .row .result) (c .row .ensures) (c .before .if1 .left), c .before .before .before .before .before .pre .0)
 
 returns-2 : tie.Need-returns-2
 returns-2 c =
     let a = c .before .before .before .before .before .before .before .args in
     let x : Cell = record { instruction = a .i; metadata = a .m } in
     let T : Tables = tablesOf (a .functions .now) (a .externs .now) (a .cases .now) in
-    let row = c .before .before .read-row in
-    let none : a .i .op ≡ 105 → ⊥ = c .before .before .before .if1 .left in
-    let made : length (map (rangeOf T x) (readParts (a .i .op))) ≡ row .result % 256 = row-count T x (row .result) (readParts (a .i .op)) (row .ensures) in
-    let long : length (allReads T x) ≡ row .result % 256 = rw (reads-other T x none) made in
-    let inside : a .k < row .result % 256 = omega (arith, c .before .before .before .before .before .before .before .pre .0) in
-    rw (reads-other T x none, row-at T x (row .result) (readParts (a .i .op)) (row .ensures) (a .k) inside, ← c .before .form-at .ensures) (c .range-of .ensures (a .cases .now))
+    let row = c .before .before .row in
+    let other = c .before .before .before .if1 .left in
+    let inside : a .k < row .result % 16 = omega (arith, read-count-row T x (row .result) (row .ensures) other, c .before .before .before .before .before .before .before .pre .0) in
+    rw (read-at-row T x (row .result) (row .ensures) other (a .k) inside, ← c .before .form-at .ensures) (c .range-of .ensures (a .cases .now))
 
 pub read-range-spec : {M : Type 1} → statement M
 read-range-spec =
     tie.close
-    (tie.spec
-    case-read-requires
-    returns
-    (λ c κs. search needs)
-    form-at-requires
-    (λ c κs. search needs)
-    returns-2)
+    (tie.spec case-read-requires returns (λ c κs. search needs) form-at-requires (λ c κs. search needs) returns-2)

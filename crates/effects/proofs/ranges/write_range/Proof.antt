@@ -1,14 +1,12 @@
 use mathlib.Core.Path.{_≡_, sym, ap, _∙_}
-use mathlib.Core.List.{map}
-use Prim.Native.Nat.{_≤_, _<_, _%_, _-_}
+use Prim.Native.Nat.{suc, _/_, _%_, _≤_, _<_}
 use native.Mathlib.Omega.{arith}
-use lib.ListN.{length, length-map}
-use Rattle.effects.specs.Shape.{Cell, Tables, tablesOf, rangeOf}
+use lib.ListN.{length}
+use Rattle.effects.specs.Shape.{Cell, Tables, tablesOf}
 use Rattle.effects.specs.Effects.{writes, caseWrites}
-use Rattle.effects.specs.Form.{readParts, writeParts, emptyRange}
-use Rattle.effects.specs.Rows.{write-parts-few}
-use Rattle.effects.specs.Ranges.{writes-select, writes-other, case-writes-long, row-count, row-at, after-first}
-use Prim.Native.Nat.{suc}
+use Rattle.effects.specs.Form.{emptyRange}
+use Rattle.effects.specs.Rows.{writes-few}
+use Rattle.effects.specs.Ranges.{writes-select, case-writes-long, write-count-row, write-at-row, after-first}
 use borrow.Author.Needs.{needs}
 use Rattle.effects.proofs.ranges.write_range.Statement.{statement}
 use Rattle.effects.proofs.ranges.write_range.Tie as tie
@@ -18,22 +16,18 @@ form-at-requires c κs =
     let a = c .before .before .before .before .before .args in
     let x : Cell = record { instruction = a .i; metadata = a .m } in
     let T : Tables = tablesOf (a .functions .now) (a .externs .now) (a .cases .now) in
-    let few : length (writeParts (a .i .op)) ≤ 4 = write-parts-few (a .i .op) in
-    let none : a .i .op ≡ 105 → ⊥ = c .before .if1 .taken in
-    let long : length (writes T x) ≡ length (writeParts (a .i .op)) = rw (writes-other T x none) (length-map (writeParts (a .i .op)) (rangeOf T x)) in
-    omega (arith, c .before .before .before .before .before .pre .0)
+    let few : c .row .result / 16 % 16 ≤ 3 = rw (c .row .ensures) (writes-few (a .i .op)) in
+    omega (arith, write-count-row T x (c .row .result) (c .row .ensures) (c .before .if1 .taken), c .before .before .before .before .before .pre .0)
 
 returns : tie.Need-returns
 returns c =
     let a = c .before .before .before .before .before .before .before .args in
     let x : Cell = record { instruction = a .i; metadata = a .m } in
     let T : Tables = tablesOf (a .functions .now) (a .externs .now) (a .cases .now) in
-    let row = c .before .before .write-row in
-    let none : a .i .op ≡ 105 → ⊥ = c .before .before .before .if1 .taken in
-    let made : length (map (rangeOf T x) (writeParts (a .i .op))) ≡ row .result % 256 = row-count T x (row .result) (writeParts (a .i .op)) (row .ensures) in
-    let long : length (writes T x) ≡ row .result % 256 = rw (writes-other T x none) made in
-    let inside : a .k < row .result % 256 = omega (arith, c .before .before .before .before .before .before .before .pre .0) in
-    rw (writes-other T x none, row-at T x (row .result) (writeParts (a .i .op)) (row .ensures) (a .k) inside, ← c .before .form-at .ensures) (c .range-of .ensures (a .cases .now))
+    let row = c .before .before .row in
+    let other = c .before .before .before .if1 .taken in
+    let inside : a .k < row .result / 16 % 16 = omega (arith, write-count-row T x (row .result) (row .ensures) other, c .before .before .before .before .before .before .before .pre .0) in
+    rw (write-at-row T x (row .result) (row .ensures) other (a .k) inside, ← c .before .form-at .ensures) (c .range-of .ensures (a .cases .now))
 
 returns-2 : tie.Need-returns-2
 returns-2 c =
@@ -56,7 +50,8 @@ returns-3 c =
     let x : Cell = record { instruction = a .i; metadata = a .m } in
     let T : Tables = tablesOf (a .functions .now) (a .externs .now) (a .cases .now) in
     let some : 0 < a .k = omega arith in
-    rw (writes-select T x (c .before .before .if1 .left)) (c .case-write .ensures ∙ sym (after-first _ (caseWrites (a .cases .now) (a .m .first) (a .m .second)) (a .k) emptyRange some))
+    rw (writes-select T x (c .before .before .if1 .left))
+    (c .case-write .ensures ∙ sym (after-first _ (caseWrites (a .cases .now) (a .m .first) (a .m .second)) (a .k) emptyRange some))
 
 pub write-range-spec : {M : Type 1} → statement M
 write-range-spec =
