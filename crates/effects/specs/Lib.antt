@@ -8,3 +8,4 @@ pub mod Form
 pub mod Rows
 pub mod Ranges
 pub mod Operands
+pub mod Plain

@@ -30,13 +30,14 @@ slots = 65536
 unfoldable pub rangeHolds : ℕ → Range → Bool
 rangeHolds limit r = rangeFits r && rangeWithin limit r
 
-left : (s t : Bool) → (s && t) ≡ true → s ≡ true
-left true t e = refl
-left false t e = let z : _≡_ {A = ℕ} 0 1 = cc in absurd (omega arith)
+-- both tests passed
+pub left-true : (s t : Bool) → (s && t) ≡ true → s ≡ true
+left-true true t e = refl
+left-true false t e = let z : _≡_ {A = ℕ} 0 1 = cc in absurd (omega arith)
 
-right : (s t : Bool) → (s && t) ≡ true → t ≡ true
-right true t e = e
-right false t e = let z : _≡_ {A = ℕ} 0 1 = cc in absurd (omega arith)
+pub right-true : (s t : Bool) → (s && t) ≡ true → t ≡ true
+right-true true t e = e
+right-true false t e = let z : _≡_ {A = ℕ} 0 1 = cc in absurd (omega arith)
 
 -- ---- a loop over ranges
 
@@ -81,8 +82,8 @@ all-both f g (r ∷ rs) = go (f r) (g r) (allOf f rs) (allOf g rs) (all-both f g
 pub all-at : (f : Range → Bool) (l : List Range) → allOf f l ≡ true → (k : ℕ) → k < length l → f (getD l k emptyRange) ≡ true
 unfolding allOf
 all-at f [] e k h = absurd (omega arith)
-all-at f (r ∷ rs) e zero h = left (f r) (allOf f rs) e
-all-at f (r ∷ rs) e (suc k) h = all-at f rs (right (f r) (allOf f rs) e) k (omega arith)
+all-at f (r ∷ rs) e zero h = left-true (f r) (allOf f rs) e
+all-at f (r ∷ rs) e (suc k) h = all-at f rs (right-true (f r) (allOf f rs) e) k (omega arith)
 
 -- ---- one range
 
@@ -148,8 +149,8 @@ module _ (T : Tables) (x : Cell) where
   cases-inside good demand e =
       let wanted : readShape (x .instruction .op) .demand ≡ kind kindSelectExecLayout = ap (λ (o : ℕ). readShape o .demand) e in
       let read : met T x (readShape (x .instruction .op) .demand) ≡ true =
-      left (met T x (readShape (x .instruction .op) .demand)) (met T x (arrayShape (x .instruction .op) .demand))
-      (left _ (met T x (writeShape (x .instruction .op) .demand)) demand) in
+      left-true (met T x (readShape (x .instruction .op) .demand)) (met T x (arrayShape (x .instruction .op) .demand))
+      (left-true _ (met T x (writeShape (x .instruction .op) .demand)) demand) in
       let known : met T x (kind kindSelectExecLayout) ≡ true = ap (met T x) (sym wanted) ∙ read in
       leb-true (x .metadata .first + x .metadata .second) (length (T .cases) / caseSize) (inner (leb (x .metadata .kind) kindLoopEnd) (leb (x .metadata .ok) 1) (eqb (x .metadata .kind) kindSelectExecLayout) (leb (x .metadata .first + x .metadata .second) (length (T .cases) / caseSize)) good known)
     where
@@ -182,8 +183,8 @@ module _ (T : Tables) (x : Cell) where
         unfolding operandRefusal effectsSound
         not-refused q =
             let both : (allOf rangeFits ranges && allOf (rangeWithin s) ranges) ≡ true = sym holding ∙ q in
-            let fit : allOf rangeFits ranges ≡ true = left (allOf rangeFits ranges) (allOf (rangeWithin s) ranges) both in
-            let within : allOf (rangeWithin s) ranges ≡ true = right (allOf rangeFits ranges) (allOf (rangeWithin s) ranges) both in
+            let fit : allOf rangeFits ranges ≡ true = left-true (allOf rangeFits ranges) (allOf (rangeWithin s) ranges) both in
+            let within : allOf (rangeWithin s) ranges ≡ true = right-true (allOf rangeFits ranges) (allOf (rangeWithin s) ranges) both in
             rw (le-ltb op.maxValid (x .instruction .op) h, e, fit, within)
 
         pub refused-within : allOf (rangeHolds s) (allReads T x ++ writes T x) ≡ false → allOf (rangeHolds slots) (allReads T x ++ writes T x) ≡ true → operandRefusal s T x ≡ slotOutside

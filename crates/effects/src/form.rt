@@ -8,6 +8,7 @@ ghost use Rattle.unit.specs.Entry.{functionAt};
 ghost use Rattle.unit.specs.declared.Metadata.{Metadata};
 ghost use Rattle.effects.specs.Shape.{Tables, rangeOf, tablesOf, paramSlots, returnSlots, externSlots, value, arguments};
 ghost use Rattle.effects.specs.Form.{formAt, emptyRange};
+ghost use Rattle.effects.specs.Plain.{slotOf};
 use crate::Range;
 use instruction::Instruction;
 use unit::Extern;
@@ -78,25 +79,25 @@ fn asked(flag: bool, start: usize, count: usize) -> Range
     }
 }
 
-// One slot, as most ranges are: without a jump by the form.
+// The field that form 0, 1 or 2, one slot, names: most ranges are such, and this takes no jump by the form.
+pub fn slot(form: u64, i: Instruction) -> usize
+    ensures { λ r. ⌜ r ≡ slotOf form i ⌝ }
+{
+    if form == 0 {
+        return i.a as usize;
+    }
+    if form == 1 {
+        return i.b as usize;
+    }
+    i.c as usize
+}
+
 fn slot_range(form: u64, i: Instruction) -> Range
     requires { ⌜ form < 3 ⌝ }
     ensures { λ r. ⌜ ((T : Tables) (m : Metadata) → r ≡ rangeOf T (record { instruction = i; metadata = m }) (formAt form)) ⌝ }
 {
-    if form == 0 {
-        return Range {
-            start: i.a as usize,
-            count: 1,
-        };
-    }
-    if form == 1 {
-        return Range {
-            start: i.b as usize,
-            count: 1,
-        };
-    }
     Range {
-        start: i.c as usize,
+        start: slot(form, i),
         count: 1,
     }
 }

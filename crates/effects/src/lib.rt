@@ -2,6 +2,7 @@
 pub mod demand;
 pub mod form;
 pub mod operands;
+pub mod plain;
 pub mod ranges;
 pub mod select;
 pub mod table;

@@ -4,6 +4,7 @@ ghost use mathlib.Core.Bool.{true, false, _&&_};
 ghost use mathlib.Core.List.{_++_};
 ghost use Prim.Native.Nat.{ℕ, _*_, _/_, _≤_, _<_};
 ghost use lib.ListN.{length};
+ghost use Rattle.instruction.specs.Opcode.{maxValid};
 ghost use Rattle.unit.specs.Size.{metadataSize, caseSize, maxInstructions, maxLocalSlots};
 ghost use Rattle.unit.specs.Entry.{metadataAt, goodMetadata};
 ghost use Rattle.effects.specs.Shape.{tablesOf};
@@ -15,7 +16,9 @@ ghost use Rattle.effects.specs.Operands.{slots, rangeHolds};
 use crate::Check;
 use crate::Range;
 use crate::demand;
+use crate::plain;
 use crate::ranges;
+use crate::table;
 use instruction::Instruction;
 use unit::Metadata;
 use unit::entry;
@@ -127,6 +130,30 @@ pub fn effects_sound(
     false
 }
 
+// The refusal of a valid instruction's operands, by all its ranges.
+fn ranges_refusal(
+    locals: usize,
+    i: Instruction,
+    m: Metadata,
+    functions: &[u8],
+    externs: &[u8],
+    cases: &[u8],
+) -> u32
+    requires { ⌜ (locals ≤ maxLocalSlots) × (goodMetadata (length (now cases) / caseSize) m ≡ true) × (i .op ≤ maxValid) ⌝ }
+    ensures { λ r. ⌜ r ≡ operandRefusal locals (tablesOf (now (functions .entry)) (now (externs .entry)) (now (cases .entry))) (record { instruction = i; metadata = m }) ⌝ }
+{
+    if !demand::demands_met(i, m, functions, externs) {
+        return refusal::EFFECT_ERROR;
+    }
+    if ranges_hold(locals, i, m, functions, externs, cases) {
+        return 0;
+    }
+    if ranges_hold(SLOTS, i, m, functions, externs, cases) {
+        return refusal::SLOT_OUTSIDE;
+    }
+    refusal::EFFECT_ERROR
+}
+
 // The refusal of one instruction's operands, or 0. "By lowest p: Invalid; effect error; a slot at or past s".
 pub fn operand_refusal(
     locals: usize,
@@ -143,16 +170,14 @@ pub fn operand_refusal(
     if op > MAX_VALID {
         return refusal::INVALID_OPCODE;
     }
-    if !demand::demands_met(i, m, functions, externs) {
-        return refusal::EFFECT_ERROR;
+    let row = table::row(op);
+    if !plain::is_plain(op, row) {
+        return ranges_refusal(locals, i, m, functions, externs, cases);
     }
-    if ranges_hold(locals, i, m, functions, externs, cases) {
+    if plain::is_within(locals, row, i) {
         return 0;
     }
-    if ranges_hold(SLOTS, i, m, functions, externs, cases) {
-        return refusal::SLOT_OUTSIDE;
-    }
-    refusal::EFFECT_ERROR
+    refusal::SLOT_OUTSIDE
 }
 
 pub fn check_operands(

@@ -1,11 +1,10 @@
-use mathlib.Core.Path.{_≡_, refl, sym, _∙_}
-use mathlib.Core.Bool.{true, false}
-use mathlib.Core.List.{_++_}
+use mathlib.Core.Path.{sym, _∙_}
 use native.Mathlib.Omega.{arith}
-use borrow.Author.Tests.{not-true, not-false}
+use borrow.Author.Tests.{not-false}
+use Rattle.instruction.specs.Instruction.{Fields}
 use Rattle.effects.specs.Shape.{Cell, Tables, tablesOf}
-use Rattle.effects.specs.Effects.{allReads, writes, demandsMet, allOf}
-use Rattle.effects.specs.Operands.{slots, rangeHolds, cases-inside, refused-invalid, refused-demand, not-refused, refused-within, refused-fit}
+use Rattle.effects.specs.Operands.{refused-invalid}
+use Rattle.effects.specs.Plain.{Plain, plain-row, plain-passes, plain-outside}
 use borrow.Author.Needs.{needs}
 use Rattle.effects.proofs.operands.operand_refusal.Statement.{statement}
 use Rattle.effects.proofs.operands.operand_refusal.Tie as tie
@@ -17,57 +16,25 @@ returns c =
     let T : Tables = tablesOf (a .functions .now) (a .externs .now) (a .cases .now) in
     sym (refused-invalid T x (a .locals) (c .if1 .taken))
 
-returns-2 : tie.Need-returns-2
-returns-2 c =
-    let a = c .before .before .before .before .before .before .args in
-    let x : Cell = record { instruction = a .i; metadata = a .m } in
-    let T : Tables = tablesOf (a .functions .now) (a .externs .now) (a .cases .now) in
-    let demand : demandsMet T x ≡ false = sym (c .before .demands-met .ensures (a .cases .now)) ∙ not-true _ (c .if2 .taken) in
-    sym (refused-demand T x (a .locals) (c .before .before .if1 .left) demand)
-
-ranges-hold-requires : tie.Need-ranges-hold-requires
-ranges-hold-requires c κs =
-    let a = c .before .before .before .before .before .before .args in
-    let x : Cell = record { instruction = a .i; metadata = a .m } in
-    let T : Tables = tablesOf (a .functions .now) (a .externs .now) (a .cases .now) in
-    let demand : demandsMet T x ≡ true = sym (c .before .demands-met .ensures (a .cases .now)) ∙ not-false _ (c .if2 .left) in
-    (omega arith, cases-inside T x (c .before .before .before .before .before .before .pre .1) demand)
-
 returns-3 : tie.Need-returns-3
 returns-3 c =
-    let a = c .before .before .before .before .before .before .before .before .args in
+    let a = c .before .before .before .before .before .before .before .before .before .args in
     let x : Cell = record { instruction = a .i; metadata = a .m } in
     let T : Tables = tablesOf (a .functions .now) (a .externs .now) (a .cases .now) in
-    let demand : demandsMet T x ≡ true = sym (c .before .before .before .demands-met .ensures (a .cases .now)) ∙ not-false _ (c .before .before .if2 .left) in
-    let holds : allOf (rangeHolds (a .locals)) (allReads T x ++ writes T x) ≡ true = sym (c .before .ranges-hold .ensures) ∙ c .if3 .taken in
-    sym (not-refused T x (a .locals) (c .before .before .before .before .if1 .left) demand holds)
-
-ranges-hold-requires-2 : tie.Need-ranges-hold-requires-2
-ranges-hold-requires-2 c κs =
-    let a = c .before .before .before .before .before .before .before .before .args in
-    let x : Cell = record { instruction = a .i; metadata = a .m } in
-    let T : Tables = tablesOf (a .functions .now) (a .externs .now) (a .cases .now) in
-    let demand : demandsMet T x ≡ true = sym (c .before .before .before .demands-met .ensures (a .cases .now)) ∙ not-false _ (c .before .before .if2 .left) in
-    (omega arith, cases-inside T x (c .before .before .before .before .before .before .before .before .pre .1) demand)
+    let row = c .before .before .before .before .row in
+    let f : Fields (a .i) = record { op-fits = omega arith; flags-fits = omega arith; a-fits = omega arith; b-fits = omega arith; c-fits = omega arith } in
+    let p : Plain (a .i .op) (row .result) = plain-row (a .i .op) (row .result) (row .ensures) (c .before .before .before .before .before .if1 .left) (sym (c .before .before .before .is-plain .ensures) ∙ not-false _ (c .before .before .if2 .left)) in
+    sym (plain-passes (a .locals) (omega arith) T x f (c .before .before .before .before .before .if1 .left) (row .result) (row .ensures) p (sym (c .before .is-within .ensures) ∙ c .if3 .taken))
 
 returns-4 : tie.Need-returns-4
 returns-4 c =
-    let a = c .before .before .before .before .before .before .before .before .before .before .args in
+    let a = c .before .before .before .before .before .before .before .before .before .args in
     let x : Cell = record { instruction = a .i; metadata = a .m } in
     let T : Tables = tablesOf (a .functions .now) (a .externs .now) (a .cases .now) in
-    let demand : demandsMet T x ≡ true = sym (c .before .before .before .before .before .demands-met .ensures (a .cases .now)) ∙ not-false _ (c .before .before .before .before .if2 .left) in
-    let outside : allOf (rangeHolds (a .locals)) (allReads T x ++ writes T x) ≡ false = sym (c .before .before .before .ranges-hold .ensures) ∙ c .before .before .if3 .left in
-    let fits : allOf (rangeHolds slots) (allReads T x ++ writes T x) ≡ true = sym (c .before .ranges-hold2 .ensures) ∙ c .if4 .taken in
-    sym (refused-within T x (a .locals) (c .before .before .before .before .before .before .if1 .left) demand outside fits)
-
-returns-5 : tie.Need-returns-5
-returns-5 c =
-    let a = c .before .before .before .before .before .before .before .before .before .before .args in
-    let x : Cell = record { instruction = a .i; metadata = a .m } in
-    let T : Tables = tablesOf (a .functions .now) (a .externs .now) (a .cases .now) in
-    let demand : demandsMet T x ≡ true = sym (c .before .before .before .before .before .demands-met .ensures (a .cases .now)) ∙ not-false _ (c .before .before .before .before .if2 .left) in
-    let error : allOf (rangeHolds slots) (allReads T x ++ writes T x) ≡ false = sym (c .before .ranges-hold2 .ensures) ∙ c .if4 .left in
-    sym (refused-fit T x (a .locals) (c .before .before .before .before .before .before .if1 .left) demand error)
+    let row = c .before .before .before .before .row in
+    let f : Fields (a .i) = record { op-fits = omega arith; flags-fits = omega arith; a-fits = omega arith; b-fits = omega arith; c-fits = omega arith } in
+    let p : Plain (a .i .op) (row .result) = plain-row (a .i .op) (row .result) (row .ensures) (c .before .before .before .before .before .if1 .left) (sym (c .before .before .before .is-plain .ensures) ∙ not-false _ (c .before .before .if2 .left)) in
+    sym (plain-outside (a .locals) (omega arith) T x f (c .before .before .before .before .before .if1 .left) (row .result) (row .ensures) p (sym (c .before .is-within .ensures) ∙ c .if3 .left))
 
 pub operand-refusal-spec : {M : Type 1} → statement M
 operand-refusal-spec =
@@ -75,9 +42,9 @@ operand-refusal-spec =
     (tie.spec
     returns
     (λ c κs. search needs)
-    returns-2
-    ranges-hold-requires
+    (λ c κs. search needs)
+    (λ c κs. search needs)
+    (λ c. search needs)
+    (λ c κs. search needs)
     returns-3
-    ranges-hold-requires-2
-    returns-4
-    returns-5)
+    returns-4)
