@@ -4,7 +4,7 @@
 use mathlib.Core.Path.{_≡_, refl, sym, ap, _∙_}
 use mathlib.Core.Bool.{Bool, true, false, cond, not, _&&_, _||_, and-true, or-true}
 use mathlib.Core.List.{List, [], _∷_, _++_, map}
-use Prim.Native.Nat.{ℕ, zero, suc, _+_, _/_, _%_, _^_, _≤_, _<_}
+use Prim.Native.Nat.{ℕ, zero, suc, _+_, _*_, _/_, _%_, _^_, _≤_, _<_}
 use native.Mathlib.Nat.{add-zero, div-div-eq-div-mul}
 use native.Mathlib.Numerals.{add-one}
 use native.Mathlib.Omega.{arith}
@@ -70,6 +70,13 @@ plain-row o row r h e =
       writes = rw r (leb-true (rowOf o / 16 % 16) 1 (right-true (leb (rowOf o % 16) 2) (leb (rowOf o / 16 % 16) 1) counts));
       free = eqb-true (demandRowOf o) 0 (right-true (leb (rowOf o % 16) 2 && leb (rowOf o / 16 % 16) 1) (eqb (demandRowOf o) 0) all);
     }
+
+-- that field is a digit of all three
+pub slot-digit : (i : Instruction) → Fields i → (form : ℕ) → form < 3 → (i .a + 65536 * i .b + 4294967296 * i .c) / 2 ^ (16 * form) % 65536 ≡ slotOf form i
+slot-digit i f zero h = omega arith
+slot-digit i f (suc zero) h = omega arith
+slot-digit i f (suc (suc zero)) h = omega arith
+slot-digit i f (suc (suc (suc n))) h = absurd (omega arith)
 
 -- forms 0, 1 and 2 are one slot
 pub slot-form : (T : Tables) (x : Cell) (form : ℕ) → form < 3 → rangeOf T x (formAt form) ≡ record { start = slotOf form (x .instruction); count = 1 }

@@ -81,15 +81,11 @@ fn asked(flag: bool, start: usize, count: usize) -> Range
 
 // The field that form 0, 1 or 2, one slot, names: most ranges are such, and this takes no jump by the form.
 pub fn slot(form: u64, i: Instruction) -> usize
+    requires { ⌜ form < 3 ⌝ }
     ensures { λ r. ⌜ r ≡ slotOf form i ⌝ }
 {
-    if form == 0 {
-        return i.a as usize;
-    }
-    if form == 1 {
-        return i.b as usize;
-    }
-    i.c as usize
+    let fields = (i.a as u64) + 65536 * (i.b as u64) + 4294967296 * (i.c as u64);
+    ((fields >> (16 * form)) % 65536) as usize
 }
 
 fn slot_range(form: u64, i: Instruction) -> Range

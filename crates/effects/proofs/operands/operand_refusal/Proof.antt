@@ -16,6 +16,13 @@ returns c =
     let T : Tables = tablesOf (a .functions .now) (a .externs .now) (a .cases .now) in
     sym (refused-invalid T x (a .locals) (c .if1 .taken))
 
+is-within-requires : tie.Need-is-within-requires
+is-within-requires c κs =
+    let a = c .before .before .before .before .before .before .before .args in
+    let row = c .before .before .row in
+    let p : Plain (a .i .op) (row .result) = plain-row (a .i .op) (row .result) (row .ensures) (c .before .before .before .if1 .left) (sym (c .before .is-plain .ensures) ∙ not-false _ (c .if2 .left)) in
+    (p .low, p .form)
+
 returns-3 : tie.Need-returns-3
 returns-3 c =
     let a = c .before .before .before .before .before .before .before .before .before .args in
@@ -45,6 +52,6 @@ operand-refusal-spec =
     (λ c κs. search needs)
     (λ c κs. search needs)
     (λ c. search needs)
-    (λ c κs. search needs)
+    is-within-requires
     returns-3
     returns-4)
