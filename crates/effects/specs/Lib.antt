@@ -9,3 +9,4 @@ pub mod Rows
 pub mod Ranges
 pub mod Operands
 pub mod Plain
+pub mod Sound

@@ -3,14 +3,13 @@
 -- Assumes nothing.
 use mathlib.Core.Path.{_≡_, refl, sym, ap, _∙_}
 use mathlib.Core.Bool.{Bool, true, false, cond, not, _&&_, _||_, and-true, or-true}
-use mathlib.Core.List.{List, [], _∷_, _++_, map}
+use mathlib.Core.List.{_++_, map}
 use Prim.Native.Nat.{ℕ, zero, suc, _+_, _*_, _/_, _%_, _^_, _≤_, _<_}
 use native.Mathlib.Nat.{add-zero, div-div-eq-div-mul}
 use native.Mathlib.Numerals.{add-one}
 use native.Mathlib.Omega.{arith}
 use lib.Dec.{eqb, leb, ltb}
-use lib.ListN.{length, getD}
-use borrow.Author.Tests.{lt-ltb, eqb-true, eqb-false, ltb-true, leb-true, le-ltb, ne-eqb, not-true}
+use borrow.Author.Tests.{lt-ltb, eqb-true, eqb-false, ltb-true, leb-true, not-true}
 use Rattle.words.specs.Lists.{every, every-at}
 use Rattle.instruction.specs.Opcode as op
 use Rattle.instruction.specs.Instruction.{Fields}
@@ -18,7 +17,7 @@ use Rattle.instruction.specs.declared.Instruction.{Instruction}
 use Rattle.unit.specs.Refusal.{slotOutside}
 use Rattle.effects.specs.declared.Range.{Range}
 use Rattle.effects.specs.Shape.{Tables, Cell, applies, value, rangeOf, met}
-use Rattle.effects.specs.Effects.{allReads, writes, demandsMet, rangeFits, rangeWithin, allOf}
+use Rattle.effects.specs.Effects.{allReads, writes, demandsMet, allOf}
 use Rattle.effects.specs.Check.{operandRefusal}
 use Rattle.effects.specs.Form.{forms, formAt, unpack, rowOf, demandRowOf, demandAt, readsOf, writesOf, readParts, writeParts}
 use Rattle.effects.specs.Rows.{rows-read, rows-write}

@@ -1,20 +1,20 @@
 -- The ranges of an instruction by number: those of SelectExec by its cases, those of others by their parts.
 -- Assumes nothing.
-use mathlib.Core.Path.{_≡_, refl, sym, ap, _∙_}
-use mathlib.Core.Bool.{Bool, true, false, cond, _&&_}
-use mathlib.Core.List.{List, [], _∷_, _++_, map, map-append, append-nil}
+use mathlib.Core.Path.{_≡_, refl, ap, _∙_}
+use mathlib.Core.Bool.{cond, _&&_}
+use mathlib.Core.List.{List, _∷_, map, map-append, append-nil}
 use Prim.Native.Nat.{ℕ, zero, suc, _+_, _-_, _*_, _/_, _%_, _^_, _≤_, _<_}
 use native.Mathlib.Nat.{add-zero, add-suc, suc-add}
 use native.Mathlib.Omega.{arith}
 use lib.Dec.{eqb}
 use lib.ListN.{length, getD, length-map, List·getD-map}
-use borrow.Author.Tests.{eq-eqb, ne-eqb}
+use borrow.Author.Tests.{ne-eqb}
 use Rattle.instruction.specs.Opcode as op
 use Rattle.unit.specs.Size.{caseSize}
 use Rattle.unit.specs.Entry.{caseAt}
 use Rattle.effects.specs.declared.Range.{Range}
 use Rattle.effects.specs.Shape.{Tables, Cell, Part, met, rangeOf}
-use Rattle.effects.specs.Table.{readShape, writeShape, arrayShape, shapeIn}
+use Rattle.effects.specs.Table.{writeShape, arrayShape}
 use Rattle.effects.specs.Effects.{caseReads, caseWrites, reads, arrays, writes, allReads, demandsMet}
 use Rattle.effects.specs.Form.{formAt, unpack, rowOf, readsOf, writesOf, demandRowOf, readParts, writeParts, emptyRange, noPart, demandAt, demands, demandsOf}
 use Rattle.effects.specs.Rows.{unpack-long, unpack-at, rows-read, rows-write, rows-demand}

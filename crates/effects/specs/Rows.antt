@@ -2,7 +2,7 @@
 -- Assumes nothing.
 use mathlib.Core.Path.{_≡_, refl, sym, ap, _∙_}
 use mathlib.Core.Bool.{Bool, true, false, cond}
-use mathlib.Core.List.{List, [], _∷_, _++_, map}
+use mathlib.Core.List.{List, [], _∷_, map}
 use Prim.Native.Nat.{ℕ, zero, suc, _/_, _%_, _*_, _+_, _^_, _≤_, _<_}
 use native.Mathlib.Nat.{pow-suc, div-div-eq-div-mul, div-one, mul-comm}
 use native.Mathlib.Omega.{arith}
@@ -11,7 +11,7 @@ use lib.Dec.{eqb, leb, ltb}
 use lib.ListN.{length, getD, List·getD-map, List·getD-eq-default}
 use borrow.Author.Tests.{ltb-true, ltb-false, leb-true, ne-eqb}
 use Rattle.words.specs.Lists.{isIn, every, every-at, tabulate, tabulateFrom, getD-tabulate}
-use Rattle.effects.specs.Shape.{nothing, fieldA, fixed, part, Part, Shape}
+use Rattle.effects.specs.Shape.{nothing, fieldA, fixed, part, Shape}
 use Rattle.instruction.specs.Opcode as op
 use Rattle.effects.specs.Table.{Row, shape, shapeIn, readRows, readShape, writeRows, writeShape, arrayRows, arrayShape}
 use Rattle.effects.specs.Form.{forms, formAt, unpack, noPart, rows, rowOf, readsOf, writesOf, readParts, writeParts, demandAt, demandRows, demandRowOf, demandsOf, demands}

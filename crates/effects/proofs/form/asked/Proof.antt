@@ -1,4 +1,3 @@
-use borrow.Author.Needs.{needs}
 use Rattle.effects.proofs.form.asked.Statement.{statement}
 use Rattle.effects.proofs.form.asked.Tie as tie
 

@@ -5,7 +5,7 @@ use Prim.Native.Nat.{_-_, _≤_, _<_}
 use native.Mathlib.Omega.{arith}
 use lib.ListN.{length, getD, drop}
 use Rattle.effects.specs.Shape.{Cell, Tables, tablesOf}
-use Rattle.effects.specs.Effects.{allReads, writes, allOf}
+use Rattle.effects.specs.Effects.{writes, allOf}
 use Rattle.effects.specs.Form.{emptyRange}
 use Rattle.effects.specs.Operands.{rangeHolds, all-on, all-here, all-none}
 use borrow.Author.Needs.{needs}
