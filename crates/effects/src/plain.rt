@@ -4,14 +4,13 @@ ghost use mathlib.Core.Path.{_≡_};
 ghost use Prim.Native.Nat.{_/_, _%_, _<_};
 ghost use Rattle.effects.specs.Plain.{isPlain, plainWithin};
 use crate::form;
+use crate::table;
 use instruction::Instruction;
-
-const SELECT_EXEC: u8 = 105;
 
 pub fn is_plain(op: u8, row: u64) -> bool
     ensures { λ r. ⌜ r ≡ isPlain op row ⌝ }
 {
-    (op != SELECT_EXEC) & (row < 0x30000) & (row / 256 % 256 < 3)
+    (op != table::SELECT_EXEC) & (row < 0x30000) & (row / 256 % 256 < 3)
 }
 
 // Of a plain row: no slot is at or past the limit.

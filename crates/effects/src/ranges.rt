@@ -13,8 +13,6 @@ use crate::table;
 use instruction::Instruction;
 use unit::Metadata;
 
-const SELECT_EXEC: u8 = 105;
-
 // The k-th of packed forms.
 fn form_at(forms: u64, k: usize) -> u64
     requires { ⌜ k < 8 ⌝ }
@@ -28,7 +26,7 @@ pub fn read_count(i: Instruction, m: Metadata) -> usize
     ensures { λ r. ⌜ ((T : Tables) → r ≡ length (allReads T (record { instruction = i; metadata = m }))) ⌝ }
 {
     let op = i.op;
-    if op == SELECT_EXEC {
+    if op == table::SELECT_EXEC {
         return 2 * (m.second as usize);
     }
     (table::row(op) % 16) as usize
@@ -46,7 +44,7 @@ pub fn read_range(
     ensures { λ r. ⌜ r ≡ getD (allReads (tablesOf (now (functions .entry)) (now (externs .entry)) (now (cases .entry))) (record { instruction = i; metadata = m })) k emptyRange ⌝ }
 {
     let op = i.op;
-    if op == SELECT_EXEC {
+    if op == table::SELECT_EXEC {
         return select::case_read(k, m, cases);
     }
     let form = form_at(table::row(op) / 256, k);
@@ -58,7 +56,7 @@ pub fn write_count(i: Instruction, m: Metadata) -> usize
     ensures { λ r. ⌜ ((T : Tables) → r ≡ length (writes T (record { instruction = i; metadata = m }))) ⌝ }
 {
     let op = i.op;
-    if op == SELECT_EXEC {
+    if op == table::SELECT_EXEC {
         return 1 + (m.second as usize);
     }
     (table::row(op) / 16 % 16) as usize
@@ -76,7 +74,7 @@ pub fn write_range(
     ensures { λ r. ⌜ r ≡ getD (writes (tablesOf (now (functions .entry)) (now (externs .entry)) (now (cases .entry))) (record { instruction = i; metadata = m })) k emptyRange ⌝ }
 {
     let op = i.op;
-    if op != SELECT_EXEC {
+    if op != table::SELECT_EXEC {
         let form = form_at(table::row(op) / 1099511627776, k);
         return form::range_of(form, i, m, functions, externs);
     }

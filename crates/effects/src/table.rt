@@ -3,6 +3,9 @@
 ghost use mathlib.Core.Path.{_≡_};
 ghost use Rattle.effects.specs.Form.{rowOf, demandRowOf};
 
+// The opcode whose ranges are those of its cases (select.rt) too.
+pub const SELECT_EXEC: u8 = 105;
+
 // The ranges that an opcode reads and writes. The lowest byte has their numbers: reads, and 16 times writes. The next four bytes are
 // the forms (form.rt) of the ranges that are read, the array range of a Slot opcode last; the highest three of those that are written.
 // "Writes have a default: an opcode not named there writes a": form 0.
