@@ -4,3 +4,9 @@ pub mod Effects
 pub mod Check
 pub mod Cells
 pub mod Laws
+pub mod Form
+pub mod Rows
+pub mod Ranges
+pub mod Operands
+pub mod Plain
+pub mod Sound

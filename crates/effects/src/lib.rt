@@ -1,4 +1,11 @@
 // What each instruction reads and writes, as ranges of slots, and the check of every operand.
+pub mod demand;
+pub mod form;
+pub mod operands;
+pub mod plain;
+pub mod ranges;
+pub mod select;
+pub mod table;
 
 // `count` slots from `start`.
 pub struct Range {

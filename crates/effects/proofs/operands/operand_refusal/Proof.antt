@@ -1,0 +1,57 @@
+use mathlib.Core.Path.{sym, _∙_}
+use native.Mathlib.Omega.{arith}
+use borrow.Author.Tests.{not-false}
+use Rattle.instruction.specs.Instruction.{Fields}
+use Rattle.effects.specs.Shape.{Cell, Tables, tablesOf}
+use Rattle.effects.specs.Operands.{refused-invalid}
+use Rattle.effects.specs.Plain.{Plain, plain-row, plain-passes, plain-outside}
+use borrow.Author.Needs.{needs}
+use Rattle.effects.proofs.operands.operand_refusal.Statement.{statement}
+use Rattle.effects.proofs.operands.operand_refusal.Tie as tie
+
+returns : tie.Need-returns
+returns c =
+    let a = c .before .before .before .before .args in
+    let x : Cell = record { instruction = a .i; metadata = a .m } in
+    let T : Tables = tablesOf (a .functions .now) (a .externs .now) (a .cases .now) in
+    sym (refused-invalid T x (a .locals) (c .if1 .taken))
+
+is-within-requires : tie.Need-is-within-requires
+is-within-requires c κs =
+    let a = c .before .before .before .before .before .before .before .args in
+    let row = c .before .before .row in
+    let p : Plain (a .i .op) (row .result) = plain-row (a .i .op) (row .result) (row .ensures) (c .before .before .before .if1 .left) (sym (c .before .is-plain .ensures) ∙ not-false _ (c .if2 .left)) in
+    (p .low, p .form)
+
+returns-3 : tie.Need-returns-3
+returns-3 c =
+    let a = c .before .before .before .before .before .before .before .before .before .args in
+    let x : Cell = record { instruction = a .i; metadata = a .m } in
+    let T : Tables = tablesOf (a .functions .now) (a .externs .now) (a .cases .now) in
+    let row = c .before .before .before .before .row in
+    let f : Fields (a .i) = record { op-fits = omega arith; flags-fits = omega arith; a-fits = omega arith; b-fits = omega arith; c-fits = omega arith } in
+    let p : Plain (a .i .op) (row .result) = plain-row (a .i .op) (row .result) (row .ensures) (c .before .before .before .before .before .if1 .left) (sym (c .before .before .before .is-plain .ensures) ∙ not-false _ (c .before .before .if2 .left)) in
+    sym (plain-passes (a .locals) (omega arith) T x f (c .before .before .before .before .before .if1 .left) (row .result) (row .ensures) p (sym (c .before .is-within .ensures) ∙ c .if3 .taken))
+
+returns-4 : tie.Need-returns-4
+returns-4 c =
+    let a = c .before .before .before .before .before .before .before .before .before .args in
+    let x : Cell = record { instruction = a .i; metadata = a .m } in
+    let T : Tables = tablesOf (a .functions .now) (a .externs .now) (a .cases .now) in
+    let row = c .before .before .before .before .row in
+    let f : Fields (a .i) = record { op-fits = omega arith; flags-fits = omega arith; a-fits = omega arith; b-fits = omega arith; c-fits = omega arith } in
+    let p : Plain (a .i .op) (row .result) = plain-row (a .i .op) (row .result) (row .ensures) (c .before .before .before .before .before .if1 .left) (sym (c .before .before .before .is-plain .ensures) ∙ not-false _ (c .before .before .if2 .left)) in
+    sym (plain-outside (a .locals) (omega arith) T x f (c .before .before .before .before .before .if1 .left) (row .result) (row .ensures) p (sym (c .before .is-within .ensures) ∙ c .if3 .left))
+
+pub operand-refusal-spec : {M : Type 1} → statement M
+operand-refusal-spec =
+    tie.close
+    (tie.spec
+    returns
+    (λ c κs. search needs)
+    (λ c κs. search needs)
+    (λ c κs. search needs)
+    (λ c. search needs)
+    is-within-requires
+    returns-3
+    returns-4)

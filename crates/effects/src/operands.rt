@@ -1,0 +1,205 @@
+// The check of every instruction's operands: refusals 5, 6 and 7.
+ghost use mathlib.Core.Path.{_≡_};
+ghost use mathlib.Core.Bool.{true, false};
+ghost use mathlib.Core.List.{_++_};
+ghost use Prim.Native.Nat.{ℕ, _*_, _/_, _≤_, _<_};
+ghost use lib.ListN.{length};
+ghost use Rattle.instruction.specs.Opcode.{maxValid};
+ghost use Rattle.unit.specs.Size.{metadataSize, caseSize, maxInstructions, maxLocalSlots};
+ghost use Rattle.unit.specs.Entry.{metadataAt, goodMetadata};
+ghost use Rattle.effects.specs.Shape.{tablesOf};
+ghost use Rattle.effects.specs.Effects.{allReads, writes, allOf};
+ghost use Rattle.effects.specs.Check.{effectsSound, operandRefusal, operandCheck};
+ghost use Rattle.effects.specs.Cells.{cellsBy};
+ghost use Rattle.effects.specs.Ranges.{CasesInside};
+ghost use Rattle.effects.specs.Operands.{slots, rangeHolds};
+use crate::Check;
+use crate::Range;
+use crate::demand;
+use crate::plain;
+use crate::ranges;
+use crate::table;
+use instruction::Instruction;
+use unit::Metadata;
+use unit::entry;
+use unit::refusal;
+
+// The largest valid opcode.
+const MAX_VALID: u8 = 135;
+
+// All slots that a range may have.
+const SLOTS: usize = 65536;
+
+// The range is no effect error, and no slot of it is at or past the limit. An empty range is skipped, but starts below 65,536.
+fn range_holds(limit: usize, r: Range) -> bool
+    requires { ⌜ limit ≤ slots ⌝ }
+    ensures { λ x. ⌜ x ≡ rangeHolds limit r ⌝ }
+{
+    if r.start > 65535 {
+        return false;
+    }
+    if r.count == 0 {
+        return true;
+    }
+    if r.count > 65535 {
+        return false;
+    }
+    r.start + r.count <= limit
+}
+
+fn reads_hold(
+    limit: usize,
+    i: Instruction,
+    m: Metadata,
+    functions: &[u8],
+    externs: &[u8],
+    cases: &[u8],
+) -> bool
+    requires { ⌜ (limit ≤ slots) × CasesInside (now cases) (record { instruction = i; metadata = m }) ⌝ }
+    ensures { λ r. ⌜ r ≡ allOf (rangeHolds limit) (allReads (tablesOf (now (functions .entry)) (now (externs .entry)) (now (cases .entry))) (record { instruction = i; metadata = m })) ⌝ }
+{
+    let n = ranges::read_count(i, m);
+    let mut k: usize = 0;
+    while k < n {
+        if !range_holds(
+            limit,
+            ranges::read_range(k, i, m, functions, externs, cases),
+        ) {
+            return false;
+        }
+        k += 1;
+    }
+    true
+}
+
+fn writes_hold(
+    limit: usize,
+    i: Instruction,
+    m: Metadata,
+    functions: &[u8],
+    externs: &[u8],
+    cases: &[u8],
+) -> bool
+    requires { ⌜ (limit ≤ slots) × CasesInside (now cases) (record { instruction = i; metadata = m }) ⌝ }
+    ensures { λ r. ⌜ r ≡ allOf (rangeHolds limit) (writes (tablesOf (now (functions .entry)) (now (externs .entry)) (now (cases .entry))) (record { instruction = i; metadata = m })) ⌝ }
+{
+    let n = ranges::write_count(i, m);
+    let mut k: usize = 0;
+    while k < n {
+        if !range_holds(
+            limit,
+            ranges::write_range(k, i, m, functions, externs, cases),
+        ) {
+            return false;
+        }
+        k += 1;
+    }
+    true
+}
+
+fn ranges_hold(
+    limit: usize,
+    i: Instruction,
+    m: Metadata,
+    functions: &[u8],
+    externs: &[u8],
+    cases: &[u8],
+) -> bool
+    requires { ⌜ (limit ≤ slots) × CasesInside (now cases) (record { instruction = i; metadata = m }) ⌝ }
+    ensures { λ r. ⌜ r ≡ allOf (rangeHolds limit) (allReads (tablesOf (now (functions .entry)) (now (externs .entry)) (now (cases .entry))) (record { instruction = i; metadata = m }) ++ writes (tablesOf (now (functions .entry)) (now (externs .entry)) (now (cases .entry))) (record { instruction = i; metadata = m })) ⌝ }
+{
+    if reads_hold(limit, i, m, functions, externs, cases) {
+        return writes_hold(limit, i, m, functions, externs, cases);
+    }
+    false
+}
+
+pub fn effects_sound(
+    i: Instruction,
+    m: Metadata,
+    functions: &[u8],
+    externs: &[u8],
+    cases: &[u8],
+) -> bool
+    requires { ⌜ goodMetadata (length (now cases) / caseSize) m ≡ true ⌝ }
+    ensures { λ r. ⌜ r ≡ effectsSound (tablesOf (now (functions .entry)) (now (externs .entry)) (now (cases .entry))) (record { instruction = i; metadata = m }) ⌝ }
+{
+    if demand::demands_met(i, m, functions, externs) {
+        return ranges_hold(SLOTS, i, m, functions, externs, cases);
+    }
+    false
+}
+
+// The refusal of a valid instruction's operands, by all its ranges.
+fn ranges_refusal(
+    locals: usize,
+    i: Instruction,
+    m: Metadata,
+    functions: &[u8],
+    externs: &[u8],
+    cases: &[u8],
+) -> u32
+    requires { ⌜ (locals ≤ maxLocalSlots) × (goodMetadata (length (now cases) / caseSize) m ≡ true) × (i .op ≤ maxValid) ⌝ }
+    ensures { λ r. ⌜ r ≡ operandRefusal locals (tablesOf (now (functions .entry)) (now (externs .entry)) (now (cases .entry))) (record { instruction = i; metadata = m }) ⌝ }
+{
+    if !demand::demands_met(i, m, functions, externs) {
+        return refusal::EFFECT_ERROR;
+    }
+    if ranges_hold(locals, i, m, functions, externs, cases) {
+        return 0;
+    }
+    if ranges_hold(SLOTS, i, m, functions, externs, cases) {
+        return refusal::SLOT_OUTSIDE;
+    }
+    refusal::EFFECT_ERROR
+}
+
+// The refusal of one instruction's operands, or 0. "By lowest p: Invalid; effect error; a slot at or past s".
+pub fn operand_refusal(
+    locals: usize,
+    i: Instruction,
+    m: Metadata,
+    functions: &[u8],
+    externs: &[u8],
+    cases: &[u8],
+) -> u32
+    requires { ⌜ (locals ≤ maxLocalSlots) × (goodMetadata (length (now cases) / caseSize) m ≡ true) ⌝ }
+    ensures { λ r. ⌜ r ≡ operandRefusal locals (tablesOf (now (functions .entry)) (now (externs .entry)) (now (cases .entry))) (record { instruction = i; metadata = m }) ⌝ }
+{
+    let op = i.op;
+    if op > MAX_VALID {
+        return refusal::INVALID_OPCODE;
+    }
+    let row = table::row(op);
+    if !plain::is_plain(op, row) {
+        return ranges_refusal(locals, i, m, functions, externs, cases);
+    }
+    if plain::is_within(locals, row, i) {
+        return 0;
+    }
+    refusal::SLOT_OUTSIDE
+}
+
+pub fn check_operands(
+    words: &[u64],
+    metadata: &[u8],
+    locals: usize,
+    functions: &[u8],
+    externs: &[u8],
+    cases: &[u8],
+) -> Check
+    requires { ⌜ (length (now metadata) ≡ metadataSize * length (now words)) × (length (now words) ≤ maxInstructions) × (locals ≤ maxLocalSlots) × ((k : ℕ) → k < length (now words) → goodMetadata (length (now cases) / caseSize) (metadataAt (now metadata) k) ≡ true) ⌝ }
+    ensures { λ r. ⌜ r ≡ operandCheck locals (tablesOf (now (functions .entry)) (now (externs .entry)) (now (cases .entry))) (cellsBy (now (words .entry)) (now (metadata .entry))) ⌝ }
+{
+    let mut p: usize = 0;
+    while p < words.len() {
+        let i = Instruction::from_word(words[p]);
+        let m = entry::metadata(metadata, p);
+        let number = operand_refusal(locals, i, m, functions, externs, cases);
+        if number != 0 {
+            return Check::Refused(number, p as u32);
+        }
+        p += 1;
+    }
+    Check::Passed
+}
