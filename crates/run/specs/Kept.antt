@@ -212,7 +212,7 @@ module _ (G : Function) (leaders : List ℕ) (N : Removing G leaders) where
       | no h ↦ rw (stays-at S leaders useful code rows p (omega arith)) (go (remains p))
     ]
       where
-        go : (t : Bool) → (cond t 1 0 ≡ 0) ⊎ (cond t 1 0 ≡ 1)
+        go : (t : Bool) → (cond {A = ℕ} t 1 0 ≡ 0) ⊎ (cond {A = ℕ} t 1 0 ≡ 1)
         go true = inr refl
         go false = inl refl
 
