@@ -23,3 +23,4 @@ pub mod Rows
 pub mod Alive
 pub mod Optimized
 pub mod Kept
+pub mod Checked
