@@ -4,3 +4,4 @@ pub mod Le
 pub mod Word
 pub mod Bits
 pub mod Lists
+pub mod Tabulate
