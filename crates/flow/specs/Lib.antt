@@ -1,4 +1,17 @@
 pub mod Branch
+pub mod BranchLaws
 pub mod Block
 pub mod Reach
 pub mod Loop
+pub mod Checking
+pub mod Marks
+pub mod Flags
+pub mod Marking
+pub mod Leaders
+pub mod Hints
+pub mod Blocks
+pub mod Closure
+pub mod Walking
+pub mod Stack
+pub mod Successors
+pub mod Reached

@@ -1,1 +1,6 @@
-// Where control goes: branch targets, blocks, and the places that are reached.
+// Where control goes: branch targets, blocks, loop hints, and the places that are reached.
+pub mod block;
+pub mod branch;
+pub mod hint;
+mod mark;
+pub mod reach;

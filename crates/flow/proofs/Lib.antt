@@ -1,0 +1,3 @@
+pub mod Classes
+mod Numbering
+mod Pushing

@@ -1,0 +1,73 @@
+-- A loop that looks for the lowest refused place of the cells in lent memory: none below p is refused.
+-- Assumes nothing.
+use mathlib.Core.Path.{_≡_, refl, sym, ap, _∙_}
+use mathlib.Core.Bool.{Bool, true, false}
+use mathlib.Core.List.{List, [], _∷_}
+use Prim.Native.Nat.{ℕ, zero, suc, _+_, _<_}
+use native.Mathlib.Nat.{add-zero, zero-add, add-suc, suc-add}
+use native.Mathlib.Omega.{arith}
+use lib.Dec.{eqb}
+use lib.ListN.{length, getD, drop}
+use borrow.Author.Tests.{eq-eqb, eqb-true}
+use Rattle.effects.specs.declared.Check.the-variants.{Passed, Refused}
+use Rattle.effects.specs.Shape.{Cell, cellAt}
+use Rattle.effects.specs.Cells.{cellOf, cellsBy, cells-long, cell-at}
+use Rattle.effects.specs.Check.{lowest}
+use Rattle.effects.specs.Laws.{lowest-on, lowest-here, lowest-none}
+
+abbrev pub Unrefused : (ℕ → Cell → ℕ) → List ℕ → List ℕ → ℕ → Type 0
+Unrefused test words metadata p = lowest test p (drop p (cellsBy words metadata)) ≡ lowest test 0 (cellsBy words metadata)
+
+module _ (test : ℕ → Cell → ℕ) (words metadata : List ℕ) (p : ℕ) (u : Unrefused test words metadata p) where
+  pub refused-none : p ≡ length words → Passed ≡ lowest test 0 (cellsBy words metadata)
+  refused-none e = sym (lowest-none test (cellsBy words metadata) p (e ∙ sym (cells-long words metadata))) ∙ u
+
+  module _ (h : p < length words) (r : ℕ) (e : r ≡ test p (cellOf metadata p (getD words p 0))) where
+    inside : p < length (cellsBy words metadata)
+    inside = rw (cells-long words metadata) h
+
+    here : test p (cellAt (cellsBy words metadata) p) ≡ r
+    here = ap (test p) (cell-at words metadata p h) ∙ sym e
+
+    pub refused-later : r ≡ 0 → Unrefused test words metadata (p + 1)
+    refused-later z = lowest-on test (cellsBy words metadata) p inside (here ∙ z) ∙ u
+
+    pub refused-here : (r ≡ 0 → ⊥) → Refused r p ≡ lowest test 0 (cellsBy words metadata)
+    refused-here z = ap (λ (k : ℕ). Refused k p) (sym here) ∙ sym (lowest-here test (cellsBy words metadata) p inside (λ q. z (sym here ∙ q))) ∙ u
+
+-- ---- a check passes exactly if no place is refused
+
+lowest-passed : (test : ℕ → Cell → ℕ) (p : ℕ) (cells : List Cell) → lowest test p cells ≡ Passed → (k : ℕ) → k < length cells → test (p + k) (cellAt cells k) ≡ 0
+unfolding lowest
+lowest-passed test p [] e k h = absurd (omega arith)
+lowest-passed test p (x ∷ xs) e k h = go (eqb (test p x) 0) refl k h (lowest-passed test (suc p) xs)
+  where
+    go : (t : Bool) → eqb (test p x) 0 ≡ t → (k : ℕ) → k < length (x ∷ xs) → (lowest test (suc p) xs ≡ Passed → (j : ℕ) → j < length xs → test (suc p + j) (cellAt xs j) ≡ 0) → test (p + k) (cellAt (x ∷ xs) k) ≡ 0
+    go true q zero h later = rw add-zero (eqb-true (test p x) 0 q)
+    go true q (suc j) h later = rw (add-suc p j, ← suc-add p j) (later (sym (rest q) ∙ e) j (omega arith))
+      where
+        rest : eqb (test p x) 0 ≡ true → lowest test p (x ∷ xs) ≡ lowest test (suc p) xs
+        rest q = rw q
+    go false q k h later = absurd (differ (sym (rw q) ∙ e))
+      where
+        differ : Refused (test p x) p ≡ Passed → ⊥
+        differ d = let z : _≡_ {A = ℕ} 0 1 = cc in omega arith
+
+lowest-all : (test : ℕ → Cell → ℕ) (p : ℕ) (cells : List Cell) → ((k : ℕ) → k < length cells → test (p + k) (cellAt cells k) ≡ 0) → lowest test p cells ≡ Passed
+unfolding lowest
+lowest-all test p [] f = refl
+lowest-all test p (x ∷ xs) f =
+    let here : test p x ≡ 0 = rw add-zero at (f 0 (omega arith)) in
+    rw (eq-eqb (test p x) 0 here) (lowest-all test (suc p) xs (λ k h. rw (suc-add p k, ← add-suc p k) (f (suc k) (omega arith))))
+
+module _ (test : ℕ → Cell → ℕ) (words metadata : List ℕ) where
+  pub passed-at : lowest test 0 (cellsBy words metadata) ≡ Passed → (p : ℕ) → p < length words → test p (cellOf metadata p (getD words p 0)) ≡ 0
+  passed-at e p h =
+      ap (test p) (sym (cell-at words metadata p h))
+      ∙ (rw zero-add at (lowest-passed test 0 (cellsBy words metadata) e p (rw (cells-long words metadata) h)))
+
+  pub all-passed : ((p : ℕ) → p < length words → test p (cellOf metadata p (getD words p 0)) ≡ 0) → lowest test 0 (cellsBy words metadata) ≡ Passed
+  all-passed f =
+      lowest-all test 0 (cellsBy words metadata) (λ p h.
+      let lt : p < length words = rw cells-long at h in
+      rw zero-add (ap (test p) (cell-at words metadata p lt) ∙ f p lt))

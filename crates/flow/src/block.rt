@@ -1,0 +1,77 @@
+// Blocks: where they start, and the block of each place.
+ghost use mathlib.Core.Path.{_≡_};
+ghost use mathlib.Core.List.{List};
+ghost use Prim.Native.Nat.{ℕ, _+_, _≤_, _<_};
+ghost use lib.ListN.{length};
+ghost use Rattle.unit.specs.Size.{maxInstructions};
+ghost use Rattle.effects.specs.Cells.{cellsBy};
+ghost use Rattle.flow.specs.Block.{endsBlock, leaders};
+ghost use Rattle.flow.specs.Blocks.{Numbered};
+ghost use Rattle.flow.specs.Flags.{Flags};
+ghost use Rattle.flow.specs.Leaders.{starts};
+ghost use Rattle.flow.specs.Marks.{Marked};
+ghost use Rattle.flow.specs.Reach.{markAll};
+use crate::branch;
+use crate::mark;
+use instruction::Class;
+use instruction::Instruction;
+use words::fill;
+
+// Does a block end after an instruction of that class?
+pub fn ends_block(c: Class) -> bool
+    ensures { λ r. ⌜ r ≡ endsBlock c ⌝ }
+{
+    match c {
+        Class::Jump
+        | Class::JumpIf
+        | Class::JumpIfNot
+        | Class::ForLoop
+        | Class::Return
+        | Class::Panic => true,
+        _ => false,
+    }
+}
+
+// Marks the leaders that the instruction at place p makes: its target, and the place after it.
+fn mark_starts(marks: &mut [u32], p: usize, i: Instruction)
+    requires { ⌜ p < maxInstructions ⌝ }
+    ensures { λ _. ⌜ now (marks .exit) ≡ markAll (now (marks .entry)) (starts p i) ⌝ }
+{
+    let c = i.class();
+    mark::mark_if(marks, branch::branches(c), branch::target(p, i));
+    mark::mark_if(marks, ends_block(c), p as u64 + 1);
+}
+
+// Marks each place where a block starts. The metadata of the cells plays no part.
+pub fn mark_leaders(words: &[u64], marks: &mut [u32])
+    requires { ⌜ (1 ≤ length (now words)) × (length (now words) ≤ maxInstructions) × (length (now marks) ≡ length (now words)) ⌝ }
+    ensures { λ _. ⌜ ((metadata : List ℕ) → now (marks .exit) ≡ leaders (cellsBy (now (words .entry)) metadata)) ⌝ }
+{
+    fill::zero_u32(marks);
+    marks[0] = 1;
+    let n = words.len();
+    let mut p: usize = 0;
+    while p < n {
+        mark_starts(marks, p, Instruction::from_word(words[p]));
+        p += 1;
+    }
+}
+
+// Numbers the blocks: for each place its block, for each block its start and, past the last, the number of places.
+pub fn number_blocks(leaders: &[u32], blocks: &mut [u32], starts: &mut [u32]) -> usize
+    requires { ⌜ Flags (now leaders) × Marked (now leaders) 0 × (length (now leaders) ≤ maxInstructions) × (length (now blocks) ≡ length (now leaders)) × (length (now leaders) + 1 ≤ length (now starts)) ⌝ }
+    ensures { λ r. ⌜ Numbered (now (leaders .entry)) (now (blocks .exit)) (now (starts .entry)) (now (starts .exit)) r ⌝ }
+{
+    let n = leaders.len();
+    let mut count: usize = 0;
+    let mut p: usize = 0;
+    while p < n {
+        // Stored over again, unless p is a leader.
+        starts[count] = p as u32;
+        count += leaders[p] as usize;
+        blocks[p] = (count - 1) as u32;
+        p += 1;
+    }
+    starts[count] = n as u32;
+    count
+}

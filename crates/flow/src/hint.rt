@@ -1,0 +1,94 @@
+// Loop hints: the check of the reached ones, and the loop ends that they anchor.
+ghost use mathlib.Core.Path.{_≡_};
+ghost use mathlib.Core.Bool.{cond, _&&_};
+ghost use mathlib.Core.List.{[], _∷_};
+ghost use Prim.Native.Nat.{_+_, _*_, _≤_, _<_};
+ghost use lib.Dec.{eqb, ltb};
+ghost use lib.ListN.{length, getD};
+ghost use Rattle.unit.specs.Entry.{kindLoopEnd, metadataAt};
+ghost use Rattle.unit.specs.Size.{maxInstructions, metadataSize};
+ghost use Rattle.effects.specs.Cells.{cellOf, cellsBy};
+ghost use Rattle.flow.specs.Hints.{loopTest};
+ghost use Rattle.flow.specs.Loop.{isLoopHint, loopCheck, anchors};
+ghost use Rattle.flow.specs.Reach.{markAll};
+use crate::mark;
+use effects::Check;
+use instruction::Instruction;
+use unit::Metadata;
+use unit::entry;
+use unit::refusal;
+use words::fill;
+
+pub fn is_loop_hint(i: Instruction) -> bool
+    ensures { λ r. ⌜ r ≡ isLoopHint i ⌝ }
+{
+    (i.op == 0) & (i.flags == 1)
+}
+
+// Is it LoopEnd with an end inside?
+pub fn is_sound(n: usize, d: Metadata) -> bool
+    ensures { λ r. ⌜ r ≡ (eqb (d .kind) kindLoopEnd && ltb (d .end) n) ⌝ }
+{
+    (d.kind == 15) & ((d.end as usize) < n)
+}
+
+// The refusal of the instruction at place p, or 0.
+fn loop_refusal(words: &[u64], metadata: &[u8], marks: &[u32], p: usize) -> u32
+    requires { ⌜ (p < length (now words)) × (metadataSize * length (now words) ≤ length (now metadata)) × (length (now marks) ≡ length (now words)) ⌝ }
+    ensures { λ r. ⌜ r ≡ loopTest (now (marks .entry)) (length (now (words .entry))) p (cellOf (now (metadata .entry)) p (getD (now (words .entry)) p 0)) ⌝ }
+{
+    if (marks[p] == 1) & is_loop_hint(Instruction::from_word(words[p])) {
+        if !is_sound(words.len(), entry::metadata(metadata, p)) {
+            return refusal::UNSOUND_LOOP;
+        }
+    }
+    0
+}
+
+// Refusal 9, of the places that are reached.
+pub fn check_loops(words: &[u64], metadata: &[u8], marks: &[u32]) -> Check
+    requires { ⌜ (length (now words) ≤ maxInstructions) × (metadataSize * length (now words) ≤ length (now metadata)) × (length (now marks) ≡ length (now words)) ⌝ }
+    ensures { λ r. ⌜ r ≡ loopCheck (now (marks .entry)) (cellsBy (now (words .entry)) (now (metadata .entry))) ⌝ }
+{
+    let n = words.len();
+    let mut p: usize = 0;
+    while p < n {
+        let r = loop_refusal(words, metadata, marks, p);
+        if r != 0 {
+            return Check::Refused(r, p as u32);
+        }
+        p += 1;
+    }
+    Check::Passed
+}
+
+// Marks the end of a reached loop hint.
+fn mark_end(metadata: &[u8], ends: &mut [u32], reached: u32, p: usize, i: Instruction)
+    requires { ⌜ metadataSize * p + metadataSize ≤ length (now metadata) ⌝ }
+    ensures { λ _. ⌜ now (ends .exit) ≡ markAll (now (ends .entry)) (cond (eqb reached 1 && isLoopHint i) (metadataAt (now (metadata .entry)) p .end ∷ []) []) ⌝ }
+{
+    if (reached == 1) & is_loop_hint(i) {
+        let d = entry::metadata(metadata, p);
+        mark::mark_if(ends, true, d.end as u64);
+    }
+}
+
+// Marks the ends of the reached loop hints.
+pub fn mark_anchors(words: &[u64], metadata: &[u8], marks: &[u32], ends: &mut [u32])
+    requires { ⌜ (length (now words) ≤ maxInstructions) × (metadataSize * length (now words) ≤ length (now metadata)) × (length (now marks) ≡ length (now words)) × (length (now ends) ≡ length (now words)) ⌝ }
+    ensures { λ _. ⌜ now (ends .exit) ≡ anchors (now (marks .entry)) (cellsBy (now (words .entry)) (now (metadata .entry))) ⌝ }
+{
+    fill::zero_u32(ends);
+    let n = words.len();
+    let mut p: usize = 0;
+    while p < n {
+        mark_end(
+            metadata,
+            ends,
+            marks[p],
+            p,
+            Instruction::from_word(words[p]),
+        );
+        p += 1;
+    }
+}

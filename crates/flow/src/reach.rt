@@ -1,0 +1,91 @@
+// The places that are reached: a walk from place 0 with a stack in lent memory.
+ghost use mathlib.Core.Path.{_≡_};
+ghost use mathlib.Core.Bool.{cond};
+ghost use mathlib.Core.List.{[], _∷_};
+ghost use Prim.Native.Nat.{_+_, _*_, _≤_, _<_};
+ghost use lib.ListN.{length, getD};
+ghost use Rattle.unit.specs.Size.{maxInstructions, metadataSize};
+ghost use Rattle.effects.specs.Cells.{cellOf, cellsBy};
+ghost use Rattle.flow.specs.Loop.{successors, reachedPlaces};
+ghost use Rattle.flow.specs.Stack.{Pushed};
+ghost use Rattle.flow.specs.Successors.{nearSuccessors, loopSuccessorsOf};
+use crate::branch;
+use crate::hint;
+use instruction::Instruction;
+use unit::entry;
+use words::fill;
+
+// The number v goes onto the stack, if it is to and is a place. The result is the stack's new height.
+fn push_if(stack: &mut [u32], n: usize, sp: usize, when: bool, v: u64) -> usize
+    requires { ⌜ (n ≤ maxInstructions) × (sp < length (now stack)) ⌝ }
+    ensures { λ r. ⌜ Pushed n sp (cond when (v ∷ []) []) (now (stack .entry)) (now (stack .exit)) r ⌝ }
+{
+    if when {
+        if v < n as u64 {
+            stack[sp] = v as u32;
+            return sp + 1;
+        }
+    }
+    sp
+}
+
+// The next place and the branch's target.
+fn push_near(stack: &mut [u32], n: usize, sp: usize, p: usize, i: Instruction) -> usize
+    requires { ⌜ (n ≤ maxInstructions) × (p < n) × (sp + 2 ≤ length (now stack)) ⌝ }
+    ensures { λ r. ⌜ Pushed n sp (nearSuccessors p i) (now (stack .entry)) (now (stack .exit)) r ⌝ }
+{
+    let c = i.class();
+    let next = push_if(stack, n, sp, branch::falls(c), p as u64 + 1);
+    push_if(stack, n, next, branch::branches(c), branch::target(p, i))
+}
+
+// A sound loop hint's end and exit.
+fn push_loop(
+    metadata: &[u8],
+    stack: &mut [u32],
+    n: usize,
+    sp: usize,
+    p: usize,
+    i: Instruction,
+) -> usize
+    requires { ⌜ (n ≤ maxInstructions) × (metadataSize * p + metadataSize ≤ length (now metadata)) × (sp + 2 ≤ length (now stack)) ⌝ }
+    ensures { λ r. ⌜ Pushed n sp (loopSuccessorsOf n i (now (metadata .entry)) p) (now (stack .entry)) (now (stack .exit)) r ⌝ }
+{
+    if hint::is_loop_hint(i) {
+        let d = entry::metadata(metadata, p);
+        if hint::is_sound(n, d) {
+            let end = push_if(stack, n, sp, true, d.end as u64);
+            return push_if(stack, n, end, true, i.imm32_unsigned() as u64);
+        }
+    }
+    sp
+}
+
+// The successors of place p go onto the stack.
+fn push_successors(words: &[u64], metadata: &[u8], stack: &mut [u32], sp: usize, p: usize) -> usize
+    requires { ⌜ (length (now words) ≤ maxInstructions) × (p < length (now words)) × (metadataSize * length (now words) ≤ length (now metadata)) × (sp + 4 ≤ length (now stack)) ⌝ }
+    ensures { λ r. ⌜ Pushed (length (now (words .entry))) sp (successors (length (now (words .entry))) p (cellOf (now (metadata .entry)) p (getD (now (words .entry)) p 0))) (now (stack .entry)) (now (stack .exit)) r ⌝ }
+{
+    let n = words.len();
+    let i = Instruction::from_word(words[p]);
+    let near = push_near(stack, n, sp, p, i);
+    push_loop(metadata, stack, n, near, p, i)
+}
+
+// Marks the places that are reached from place 0. Each is visited once, and has at most four successors.
+pub fn mark_reached(words: &[u64], metadata: &[u8], marks: &mut [u32], stack: &mut [u32])
+    requires { ⌜ (1 ≤ length (now words)) × (length (now words) ≤ maxInstructions) × (metadataSize * length (now words) ≤ length (now metadata)) × (length (now marks) ≡ length (now words)) × (4 * length (now words) + 4 ≤ length (now stack)) ⌝ }
+    ensures { λ _. ⌜ now (marks .exit) ≡ reachedPlaces (cellsBy (now (words .entry)) (now (metadata .entry))) ⌝ }
+{
+    fill::zero_u32(marks);
+    stack[0] = 0;
+    let mut sp: usize = 1;
+    while sp > 0 {
+        sp -= 1;
+        let p = stack[sp] as usize;
+        if marks[p] == 0 {
+            marks[p] = 1;
+            sp = push_successors(words, metadata, stack, sp, p);
+        }
+    }
+}
