@@ -1,0 +1,45 @@
+-- Boundaries: they grow by the flags, and distances between them never grow.
+-- Assumes nothing.
+use mathlib.Core.Path.{_≡_, ap, _∙_}
+use mathlib.Core.Bool.{true}
+use mathlib.Core.List.{List}
+use Prim.Native.Nat.{ℕ, suc, _+_, _-_, _≤_, _<_}
+use native.Mathlib.Omega.{arith}
+use lib.ListN.{length, getD}
+use borrow.Author.Tests.{eqb-true}
+use Rattle.words.specs.Lists.{tabulate, length-tabulate, getD-tabulate}
+use Rattle.unit.specs.Size.{maxInstructions}
+use Rattle.flow.specs.Flags.{Flags, sum-mono, sum-gap, sum-most, sum-next}
+use Rattle.pc_map.specs.Boundary.{isKept, boundary}
+
+module _ (keep : List ℕ) where
+  pub boundary-mono : (p q : ℕ) → p ≤ q → boundary keep p ≤ boundary keep q
+  boundary-mono = sum-mono keep
+
+  pub boundary-next : (p : ℕ) → p < length keep → boundary keep (suc p) ≡ boundary keep p + getD keep p 0
+  boundary-next = sum-next keep
+
+  pub boundary-kept : (p : ℕ) → p < length keep → isKept keep p ≡ true → boundary keep (suc p) ≡ boundary keep p + 1
+  boundary-kept p h k = boundary-next p h ∙ ap (λ (v : ℕ). boundary keep p + v) (eqb-true (getD keep p 0) 1 k)
+
+  module _ (f : Flags keep) where
+    pub boundary-gap : (p q : ℕ) → p ≤ q → boundary keep q ≤ boundary keep p + (q - p)
+    boundary-gap = sum-gap keep f
+
+    pub boundary-most : (p : ℕ) → boundary keep p ≤ p
+    boundary-most = sum-most keep f
+
+-- the numbers in lent memory are the boundaries of these flags
+pub record Mapped (keep bounds : List ℕ) : Type 0 where
+  pub flags : Flags keep
+  pub small : length keep ≤ maxInstructions
+  pub numbers : bounds ≡ tabulate (length keep + 1) (boundary keep)
+
+module _ (keep bounds : List ℕ) (m : Mapped keep bounds) where
+  pub mapped-long : length bounds ≡ length keep + 1
+  mapped-long = ap length (m .numbers) ∙ length-tabulate (length keep + 1) (boundary keep)
+
+  pub mapped-at : (p : ℕ) → p ≤ length keep → getD bounds p 0 ≡ boundary keep p
+  mapped-at p h =
+      let lt : p < length keep + 1 = omega arith in
+      ap (λ (l : List ℕ). getD l p 0) (m .numbers) ∙ getD-tabulate (length keep + 1) (boundary keep) p 0 lt
