@@ -2,19 +2,17 @@
 -- Assumes nothing.
 use mathlib.Core.Path.{_≡_, refl, sym, ap, _∙_}
 use mathlib.Core.Logic.{inl, inr}
-use mathlib.Core.List.{List, [], _∷_, _++_, append-nil}
+use mathlib.Core.List.{List, append-nil}
 use Prim.Native.Nat.{ℕ, suc, _+_, _-_, _≤_, _<_}
-use native.Mathlib.Nat.{zero-add, add-zero}
+use native.Mathlib.Nat.{add-zero}
 use native.Mathlib.Numerals.{add-one}
 use native.Mathlib.Omega.{arith}
-use lib.Dec.{eqb}
 use lib.ListN.{length, getD, take, drop, set, length-set}
 use lib.Seq.{take-length, drop-drop, take-suc-set, take-set-le, drop-set-lt, set-split, append-snoc}
-use borrow.Rule.Slice.PartMut.{putMid}
 use Rattle.words.specs.Lists.{sum, sum-take, tabulate}
 use Rattle.words.specs.Tabulate.{tabulated-turn, tabulated-end}
-use Rattle.flow.specs.Block.{blockOf, blockCount}
-use Rattle.flow.specs.Blocks.{placesFrom, blockStarts, places-more, Numbered}
+use Rattle.flow.specs.Block.{blockOf}
+use Rattle.flow.specs.Blocks.{placesFrom, places-more, Numbered}
 use Rattle.flow.specs.Flags.{Flags, flag, sum-most, sum-first, sum-whole}
 use Rattle.flow.specs.Marks.{Marked}
 

@@ -1,6 +1,6 @@
 -- The calls of a walk's turn, put together.
 -- Assumes nothing.
-use mathlib.Core.Path.{_≡_, sym}
+use mathlib.Core.Path.{_≡_}
 use mathlib.Core.Bool.{Bool, true, false, cond, _&&_}
 use mathlib.Core.List.{List, [], _∷_}
 use Prim.Native.Nat.{ℕ, _+_}
@@ -11,12 +11,11 @@ use Rattle.instruction.specs.declared.Class.{Class}
 use Rattle.instruction.specs.Instruction.{class, ofWord, imm32Unsigned}
 use Rattle.unit.specs.declared.Metadata.{Metadata}
 use Rattle.unit.specs.Entry.{kindLoopEnd, metadataAt}
-use Rattle.effects.specs.Shape.{Cell}
 use Rattle.effects.specs.Cells.{cellOf}
 use Rattle.flow.specs.Branch.{falls, branches, target}
-use Rattle.flow.specs.Loop.{isLoopHint, isSound, successors}
+use Rattle.flow.specs.Loop.{isLoopHint, successors}
 use Rattle.flow.specs.Stack.{Pushed, push-none, push-then}
-use Rattle.flow.specs.Successors.{nearSuccessors, loopSuccessors, loopSuccessorsOf}
+use Rattle.flow.specs.Successors.{nearSuccessors, loopSuccessorsOf}
 
 module _ (n sp p : ℕ) (i : Instruction) (st : List ℕ) where
   pub push-near : (t : ℕ) (x : Class) (a b : Bool) {st₁ st₂ : List ℕ} {r₁ r₂ : ℕ} → x ≡ class i → a ≡ falls x → Pushed n sp (cond a ((p + 1) ∷ []) []) st st₁ r₁

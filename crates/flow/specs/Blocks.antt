@@ -1,6 +1,6 @@
 -- The blocks by number: where each starts, and the block of each place.
 -- Assumes nothing.
-use mathlib.Core.Path.{_≡_, refl, sym, ap, _∙_}
+use mathlib.Core.Path.{_≡_, refl, _∙_}
 use mathlib.Core.Logic.{_⊎_, inl, inr}
 use mathlib.Core.Bool.{Bool, true, false, cond}
 use mathlib.Core.List.{List, [], _∷_, _++_}
@@ -9,11 +9,11 @@ use native.Mathlib.Nat.{add-zero, zero-add, add-suc, suc-add}
 use native.Mathlib.Numerals.{add-one}
 use native.Mathlib.Omega.{arith}
 use lib.Dec.{eqb, ltb}
-use lib.ListN.{length, getD, take, length-append, List·getD-append}
-use lib.Seq.{take-suc, length-take-le, getD-append-add, getD-append-seam}
+use lib.ListN.{length, getD, take, drop, length-append, List·getD-append}
+use lib.Seq.{take-suc, length-take-le, getD-append-seam}
 use borrow.Author.Tests.{ltb-true, ltb-false}
 use borrow.Rule.Slice.PartMut.{putMid}
-use Rattle.words.specs.Lists.{sum, tabulate}
+use Rattle.words.specs.Lists.{sum, tabulate, getD-tabulate}
 use Rattle.flow.specs.Block.{blockOf, blockCount}
 use Rattle.flow.specs.Marks.{Marked}
 use Rattle.flow.specs.Flags.{Flags, flag, sum-whole, sum-mono, sum-next, sum-first}
@@ -186,6 +186,16 @@ module _ (l : List ℕ) (f : Flags l) where
         number = λ p h g. omega (arith, same-rank b (blockStart l b) (blockStart l (b + 1)) (s .rank) (s .marked) (s .inside) (e .1) (e .0) p h g);
       }
 
+  -- where a block ends, the next one starts, or the code ends
+  pub next-start : (b : ℕ) → b < blockCount l → (blockStart l (b + 1) ≡ length l) ⊎ Marked l (blockStart l (b + 1))
+  next-start b h = go (ltb (b + 1) (blockCount l)) refl
+    where
+      go : (t : Bool) → ltb (b + 1) (blockCount l) ≡ t → (blockStart l (b + 1) ≡ length l) ⊎ Marked l (blockStart l (b + 1))
+      go true e = inr (starting (b + 1) (ltb-true (b + 1) (blockCount l) e) .marked)
+      go false e =
+          let end : b + 1 ≡ blockCount l = omega (arith, ltb-false (b + 1) (blockCount l) e) in
+          inl (rw end start-end)
+
   -- a later place is in no earlier block
   pub block-mono : (p q : ℕ) → p ≤ q → blockOf l p ≤ blockOf l q
   block-mono p q h = let m = sum-mono l (suc p) (suc q) (omega arith) in omega arith
@@ -237,3 +247,15 @@ module _ (l : List ℕ) (f : Flags l) where
             go false q false v =
                 let end : b + 1 ≡ blockCount l = omega (arith, ltb-false (b + 1) (blockCount l) v) in
                 rw (end, start-end) h
+
+-- ---- what `number_blocks` left in lent memory
+
+module _ (l blocks starts starts′ : List ℕ) (count : ℕ) (f : Flags l) (n : Numbered l blocks starts starts′ count) where
+  pub numbered-block : (p : ℕ) → p < length l → getD blocks p 0 ≡ blockOf l p
+  numbered-block p h = rw (n .numbers) (getD-tabulate (length l) (blockOf l) p 0 h)
+
+  pub numbered-start : (b : ℕ) → b ≤ blockCount l → getD starts′ b 0 ≡ blockStart l b
+  numbered-start b h =
+      let long : length (blockStarts l) ≡ sum l + 1 = length-append (placesFrom 0 l) (length l ∷ []) ∙ rw (places-long l f 0) in
+      let lt : b < length (blockStarts l) = omega arith in
+      rw (n .places) (List·getD-append (blockStarts l) (drop (count + 1) starts) 0 b lt)

@@ -3,9 +3,8 @@
 use mathlib.Core.Path.{_≡_, refl}
 use mathlib.Core.Bool.{Bool, true, false, cond}
 use mathlib.Core.List.{List}
-use Prim.Native.Nat.{ℕ, suc, _+_, _%_, _^_, _≤_, _<_}
+use Prim.Native.Nat.{ℕ, suc, _≤_, _<_}
 use native.Mathlib.Omega.{arith}
-use lib.Dec.{ltb}
 use lib.ListN.{length, getD}
 use borrow.Author.Tests.{lt-ltb, le-ltb, ltb-true}
 use Rattle.instruction.specs.declared.Instruction.{Instruction}
@@ -14,7 +13,6 @@ use Rattle.instruction.specs.declared.Class.the-variants.{Hint, LoadInt, LoadCo
 use Rattle.instruction.specs.Instruction.{class, ofWord}
 use Rattle.unit.specs.Refusal.{branchOutside}
 use Rattle.effects.specs.declared.Check.the-variants.{Passed}
-use Rattle.effects.specs.Shape.{Cell}
 use Rattle.effects.specs.Cells.{cellsBy, cells-long}
 use Rattle.flow.specs.Branch.{branches, targetBy, target, branchInside, branchCheck}
 use Rattle.flow.specs.Checking.{passed-at, all-passed}

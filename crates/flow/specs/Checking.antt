@@ -9,7 +9,6 @@ use native.Mathlib.Omega.{arith}
 use lib.Dec.{eqb}
 use lib.ListN.{length, getD, drop}
 use borrow.Author.Tests.{eq-eqb, eqb-true}
-use Rattle.effects.specs.declared.Check.{Check}
 use Rattle.effects.specs.declared.Check.the-variants.{Passed, Refused}
 use Rattle.effects.specs.Shape.{Cell, cellAt}
 use Rattle.effects.specs.Cells.{cellOf, cellsBy, cells-long, cell-at}

@@ -3,14 +3,14 @@
 use mathlib.Core.Path.{_≡_, refl, sym, ap, _∙_}
 use mathlib.Core.Bool.{Bool, true, false, cond, _&&_, _||_}
 use mathlib.Core.List.{List, [], _∷_, _++_}
-use Prim.Native.Nat.{ℕ, zero, suc, _+_, _≤_, _<_}
+use Prim.Native.Nat.{ℕ, suc, _+_, _≤_, _<_}
 use native.Mathlib.Numerals.{add-one}
 use native.Mathlib.Omega.{arith}
 use lib.Dec.{eqb, ltb}
 use lib.ListN.{length, getD, set, drop, replicate, length-set, length-replicate, getD-replicate, List·getD-eq-default}
 use lib.Seq.{ext-getD, drop-cons, drop-length}
 use borrow.Author.Tests.{ltb-true, ltb-false}
-use Rattle.words.specs.Lists.{isIn, tabulate, length-tabulate, getD-tabulate}
+use Rattle.words.specs.Lists.{isIn, length-tabulate, getD-tabulate}
 use Rattle.instruction.specs.declared.Instruction.{Instruction}
 use Rattle.instruction.specs.Instruction.{class, ofWord}
 use Rattle.effects.specs.Shape.{Cell, cellAt, noCell}

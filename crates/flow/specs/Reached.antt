@@ -1,8 +1,8 @@
 -- The reached places of a function: place 0 is one, and so are the successors of each; there are no others.
 -- Assumes nothing.
 use mathlib.Core.Path.{_≡_, refl}
-use mathlib.Core.Bool.{Bool, true, false, cond}
-use mathlib.Core.List.{List, [], _∷_, _++_, List·Memᴰ·head, Memᴰ·append-left, Memᴰ·append-right}
+use mathlib.Core.Bool.{Bool, true, cond}
+use mathlib.Core.List.{List, [], _∷_, List·Memᴰ·head, Memᴰ·append-left, Memᴰ·append-right}
 use Prim.Native.Nat.{ℕ, suc, _<_}
 use lib.ListN.{length}
 use Rattle.instruction.specs.Instruction.{class}
@@ -13,7 +13,7 @@ use Rattle.flow.specs.Reach.{Reach}
 use Rattle.flow.specs.Closure.{reached-bits, reached-long, reached-zero, reached-closed, reached-least, reached-sound, reached-all}
 use Rattle.flow.specs.Flags.{Flags, grew-flags}
 use Rattle.flow.specs.Marks.{In, Marked}
-use Rattle.flow.specs.Successors.{following, nearSuccessors, loopSuccessors}
+use Rattle.flow.specs.Successors.{following, loopSuccessors}
 
 module _ (cells : List Cell) where
   pub places-long : length (reachedPlaces cells) ≡ length cells

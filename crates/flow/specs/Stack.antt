@@ -2,19 +2,17 @@
 -- Assumes nothing.
 use mathlib.Core.Path.{_≡_, refl, sym, ap, _∙_}
 use mathlib.Core.Logic.{inl, inr}
-use mathlib.Core.Bool.{Bool, true, false, cond}
 use mathlib.Core.List.{List, [], _∷_, _++_, List·Memᴰ·head, Memᴰ·append-right}
-use Prim.Native.Nat.{ℕ, suc, _+_, _*_, _-_, _≤_, _<_}
+use Prim.Native.Nat.{ℕ, _+_, _*_, _-_, _≤_, _<_}
 use native.Mathlib.Numerals.{add-one}
 use native.Mathlib.Omega.{arith}
-use lib.Dec.{ltb}
 use lib.ListN.{length, getD, take, set, replicate, length-set, length-append}
 use lib.Seq.{take-suc, take-suc-set, length-take-le}
 use borrow.Author.Tests.{lt-ltb, le-ltb}
 use Rattle.words.specs.Lists.{sum}
 use Rattle.flow.specs.Reach.{reached}
 use Rattle.flow.specs.Marks.{bit, grew-set, sum-set, sum-grew}
-use Rattle.flow.specs.Walking.{pushIf, pushAll, push-append, Walking, walk-begin, walk-old, walk-new, walk-end}
+use Rattle.flow.specs.Walking.{pushAll, push-append, Walking, walk-begin, walk-old, walk-new, walk-end}
 
 -- ---- the numbers vs were pushed, each where it is a place
 

@@ -1,6 +1,6 @@
 -- The successors of a place of the cells in lent memory.
 -- Assumes nothing.
-use mathlib.Core.Path.{_≡_, refl, ap}
+use mathlib.Core.Path.{_≡_, ap}
 use mathlib.Core.Bool.{Bool, true, false, cond, _&&_}
 use mathlib.Core.List.{List, [], _∷_, _++_}
 use Prim.Native.Nat.{ℕ, suc, _+_, _≤_, _<_}
@@ -12,8 +12,7 @@ use Rattle.unit.specs.Entry.{metadataAt}
 use Rattle.effects.specs.Shape.{Cell, cellAt}
 use Rattle.effects.specs.Cells.{cellOf, cellsBy, cells-long, cell-at}
 use Rattle.flow.specs.Branch.{falls, branches, target}
-use Rattle.flow.specs.Loop.{isLoopHint, isSound, loopEnd, loopExit, successors, reachedPlaces}
-use Rattle.flow.specs.Reach.{reached}
+use Rattle.flow.specs.Loop.{isLoopHint, isSound, loopEnd, loopExit, successors}
 
 -- the next place and the branch's target; a sound loop hint's end and exit
 abbrev pub nearSuccessors : ℕ → Instruction → List ℕ

@@ -66,6 +66,7 @@ pub fn number_blocks(leaders: &[u32], blocks: &mut [u32], starts: &mut [u32]) ->
     let mut count: usize = 0;
     let mut p: usize = 0;
     while p < n {
+        // Stored over again, unless p is a leader.
         starts[count] = p as u32;
         count += leaders[p] as usize;
         blocks[p] = (count - 1) as u32;

@@ -1,16 +1,15 @@
 -- Boundaries: they grow by the flags, and distances between them never grow.
 -- Assumes nothing.
-use mathlib.Core.Path.{_≡_, refl, sym, ap, _∙_}
-use mathlib.Core.Bool.{Bool, true}
+use mathlib.Core.Path.{_≡_, ap, _∙_}
+use mathlib.Core.Bool.{true}
 use mathlib.Core.List.{List}
 use Prim.Native.Nat.{ℕ, suc, _+_, _-_, _≤_, _<_}
 use native.Mathlib.Omega.{arith}
-use lib.Dec.{eqb}
 use lib.ListN.{length, getD}
 use borrow.Author.Tests.{eqb-true}
 use Rattle.words.specs.Lists.{tabulate, length-tabulate, getD-tabulate}
 use Rattle.unit.specs.Size.{maxInstructions}
-use Rattle.flow.specs.Flags.{Flags, sum-mono, sum-gap, sum-most, sum-next, sum-whole}
+use Rattle.flow.specs.Flags.{Flags, sum-mono, sum-gap, sum-most, sum-next}
 use Rattle.pc_map.specs.Boundary.{isKept, boundary}
 
 module _ (keep : List ℕ) where

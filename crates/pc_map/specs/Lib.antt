@@ -1,4 +1,7 @@
 pub mod Boundary
 pub mod Relocate
 pub mod Boundaries
+pub mod Relocated
 pub mod Moved
+pub mod Retaining
+pub mod Movable

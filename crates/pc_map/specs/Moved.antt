@@ -1,9 +1,9 @@
 -- A relocated branch goes to the boundary of its old target.
 -- Assumes nothing.
 use mathlib.Core.Path.{_≡_, refl, sym, ap, _∙_}
-use mathlib.Core.Bool.{Bool, true, false, cond}
+use mathlib.Core.Bool.{Bool, true, false}
 use mathlib.Core.List.{List}
-use Prim.Native.Nat.{ℕ, suc, _+_, _*_, _-_, _/_, _%_, _^_, _≤_, _<_}
+use Prim.Native.Nat.{ℕ, suc, _+_, _-_, _/_, _%_, _^_, _≤_, _<_}
 use native.Mathlib.Omega.{arith}
 use lib.Dec.{ltb}
 use lib.ListN.{length}
@@ -19,7 +19,7 @@ use Rattle.flow.specs.Branch.{branches, targetBy, target}
 use Rattle.flow.specs.Flags.{Flags}
 use Rattle.pc_map.specs.Boundary.{isKept, boundary}
 use Rattle.pc_map.specs.Boundaries.{boundary-mono, boundary-gap, boundary-most, boundary-kept}
-use Rattle.pc_map.specs.Relocate.{movedJump, movedForLoop, movedHint, relocateBy, relocate}
+use Rattle.pc_map.specs.Relocate.{movedJump, movedForLoop, relocateBy, relocate}
 
 -- the immediate that is stored is read back
 stored : (i : Instruction) (v : ℕ) → v < 2 ^ 32 → imm32Unsigned (withImm32 i v) ≡ v

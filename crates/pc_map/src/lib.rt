@@ -1,1 +1,4 @@
 // Places of the retained instructions, and relocation.
+pub mod boundary;
+pub mod relocation;
+pub mod retained;

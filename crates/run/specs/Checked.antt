@@ -42,7 +42,8 @@ use Rattle.run.specs.Program.{Function}
 use Rattle.run.specs.Relocated.{pick}
 use Rattle.run.specs.Valuation.{Below}
 use Rattle.run.specs.Justified.{Justified, stays, operand, operands, tested, returned, loaded, copied, takenIf, takenIfNot, passedIf, passedIfNot}
-use Rattle.run.specs.Numbered.{Numberable, numberedFunction}
+use Rattle.run.specs.Numbered.{Numberable, numberedFunction, numbered-at, numbered-long, numbered-justified, numbered-operands}
+use Rattle.run.specs.Optimized.{Removing}
 
 -- ---- a block starts at each branch's target, and after each branch
 
@@ -210,3 +211,72 @@ module _ (keep : List ℕ) where
       go true zero h f ih = f
       go true (suc k) h f ih = ih k (omega arith)
       go false k h f ih = ih k h
+
+-- ---- a pass over cells
+
+-- What a function has before and after every pass.
+pub record Well (F : Function) : Type 0 where
+  pub locals : F .sections .locals ≤ 65535
+  pub described : length (F .cells) ≤ F .described
+  pub fields : (p : ℕ) → p < length (F .cells) → Fields (cellAt (F .cells) p .instruction)
+  -- known constants are words of 64 bits
+  pub constants : (k : ℕ) (v : Atom) → constantAtom (constantAt (F .sections .constants) k) ≡ some v → (p : ℕ) → Below p v
+
+module _ (F : Function) (w : Well F) (some-code : 0 < length (F .cells)) (few : length (F .cells) ≤ 65536)
+    (checked-operands : operandCheck (F .sections .locals) (F .sections .tables) (F .cells) ≡ Passed) (checked-branches : branchCheck (F .cells) ≡ Passed) where
+  abbrev cells : List Cell
+  cells = F .cells
+
+  abbrev S : Sections
+  S = F .sections
+
+  pub numberable : Numberable F (leaders (F .cells))
+  numberable = record {
+    locals = w .locals;
+    few = few;
+    described = w .described;
+    operands = passed-at (S .locals) (S .tables) cells checked-operands;
+    fields = w .fields;
+    constants = w .constants;
+    targets = λ p h b. target-leads cells p h b (target-inside cells checked-branches p h b);
+    nexts = next-leads cells
+  }
+
+  abbrev pub G : Function
+  G = numberedFunction F (leaders (F .cells)) numberable
+
+  same-length : length (G .cells) ≡ length cells
+  same-length = numbered-long F (leaders cells) numberable
+
+  -- a branch of the numbered code is one of the given code, to the same target
+  branch-given : (p : ℕ) → p < length cells → branches (class (cellAt (G .cells) p .instruction)) ≡ true
+      → (branches (class (cellAt cells p .instruction)) ≡ true) × (target p (cellAt (G .cells) p .instruction) ≡ target p (cellAt cells p .instruction))
+  branch-given p h b =
+      let e = numbered-at F (leaders cells) numberable p h in
+      let r = justified-branches S _ _ (numbered-justified F (leaders cells) numberable p h) (rw e at b) in
+      (r .0, ap (λ (x : Cell). target p (x .instruction)) e ∙ r .1 p)
+
+  pub removing : Removing G (leaders cells)
+  unfolding numberedFunction
+  removing = record {
+    some-code = rw same-length some-code;
+    few = rw same-length few;
+    described = rw same-length (w .described);
+    operands = λ p h. numbered-operands F (leaders cells) numberable p (rw same-length at h);
+    long = leaders-long cells ∙ sym same-length;
+    flags = leaders-flags cells;
+    one = leaders-first cells some-code;
+    targets = λ p h b.
+      let k : p < length cells = rw same-length at h in
+      let r = branch-given p k b in
+      let l = target-inside cells checked-branches p k (r .0) in
+      rw (r .1, same-length) (target-leads cells p k (r .0) l, l);
+    nexts = λ p h b.
+      let k : suc p < length cells = rw same-length at h in
+      next-leads cells p k (branch-given p (omega arith) b .0)
+  }
+
+  numbered-fields : (p : ℕ) → p < length (G .cells) → Fields (cellAt (G .cells) p .instruction)
+  numbered-fields p h =
+      let k : p < length cells = rw same-length at h in
+      rw (numbered-at F (leaders cells) numberable p k) (justified-fields S _ _ (w .locals) (numbered-justified F (leaders cells) numberable p k) (w .fields p k))

@@ -62,6 +62,10 @@ module _ (S : Sections) (leaders : List ℕ) where
   length-numbered [] p t = refl
   length-numbered (x ∷ xs) p t = ap suc (length-numbered xs (suc p) _)
 
+-- A world that answers nothing.
+mute : World
+mute = record { reply = λ R. finish; free = λ o f x y. 0; lost = λ k. 0 }
+
 -- What is asked of a function and its leaders.
 pub record Numberable (F : Function) (leaders : List ℕ) : Type 0 where
   pub locals : F .sections .locals ≤ 65535
@@ -217,11 +221,13 @@ module _ (F : Function) (leaders : List ℕ) (N : Numberable F leaders) where
         rw (step-do F W p σ R h) (after-holds p σ R h (sound-at p σ R h (static-at p h) .after (i h .0) (i h .1)))
     }
 
-    -- the operands of the numbered function are not refused either
-    meant-numbered : (p : ℕ) (h : p < length (F .cells)) → Meant F W p (λ t. 0) [] (cellAt (numberedFunction .cells) p)
-    meant-numbered p h =
-        rw (numbered-at p h)
-        (justified-meant F W p (λ t. 0) [] (N .locals) (cell p) (meant-at p (λ t. 0) [] h) (table p) _ (sound-at p (λ t. 0) [] h (static-at p h) .justified))
+  -- each instruction of the numbered function is a justified one, and its operands are not refused either; no world matters
+  pub numbered-justified : (p : ℕ) → p < length (F .cells) → Justified S (table p) (cell p .instruction) (result p .instruction)
+  numbered-justified p h = sound-at mute p (λ t. 0) [] h (static-at mute p h) .justified
+
+  pub numbered-operands : (p : ℕ) → p < length (F .cells) → operandRefusal (S .locals) (S .tables) (cellAt (numberedFunction .cells) p) ≡ 0
+  numbered-operands p h =
+      rw (numbered-at p h) (justified-meant F mute p (λ t. 0) [] (N .locals) (cell p) (meant-at mute p (λ t. 0) [] h) (table p) _ (numbered-justified p h) .1)
 
   pub numbering : SameRuns (programOf F) (programOf numberedFunction)
   numbering = record { runs = λ W σ. lock-step (lock W) σ (inv-empty W 0 σ (λ h. table-first)) }

@@ -1,0 +1,2 @@
+mod Relocating
+mod Writing

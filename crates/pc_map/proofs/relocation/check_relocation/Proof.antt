@@ -1,0 +1,55 @@
+use mathlib.Core.Path.{_≡_, refl}
+use Prim.Native.Nat.{_≤_, _-_}
+use native.Mathlib.Omega.{arith}
+use lib.ListN.{length, getD}
+use Rattle.effects.specs.Cells.{cellOf, cellsBy, cells-long}
+use Rattle.flow.specs.Checking.{Unrefused, refused-none, refused-later, refused-here}
+use Rattle.pc_map.specs.Relocate.{relocationCheck}
+use Rattle.pc_map.specs.Relocated.{relocationTest}
+use borrow.Author.Needs.{needs}
+use Rattle.pc_map.proofs.relocation.check_relocation.Statement.{statement}
+use Rattle.pc_map.proofs.relocation.check_relocation.Tie as tie
+
+abbrev Inv-loop : tie.InvT-loop
+Inv-loop words metadata keep n p₀ p = (p ≤ length words) × Unrefused (relocationTest keep (length (cellsBy words metadata))) words metadata p
+
+abbrev μ-loop : tie.MeasureT-loop
+μ-loop words metadata keep n p₀ p = length words - p
+
+-- what a turn's call answers
+tested : (c : tie.After-relocation-refusal Inv-loop μ-loop)
+    → let a = c .before .before .before .before .before .before .args in
+    let p = c .before .before .loop .p in
+    c .relocation-refusal .result ≡ relocationTest (a .keep .now) (length (cellsBy (a .words .now) (a .metadata .now))) p (cellOf (a .metadata .now) p (getD (a .words .now) p 0))
+tested c = rw cells-long (c .relocation-refusal .ensures)
+
+loop-holds : tie.Need-loop-holds Inv-loop μ-loop
+loop-holds c = (omega arith, refl)
+
+returns : tie.Need-returns Inv-loop μ-loop
+unfolding relocationCheck
+returns c = let b = c .before in refused-here _ _ _ _ (b .before .before .loop .inv .1) (b .before .loop-test .taken) _ (tested b) (c .if1 .taken)
+
+loop-again : tie.Need-loop-again Inv-loop μ-loop
+loop-again c =
+    let b = c .before in
+    (omega arith, refused-later _ _ _ _ (b .before .before .loop .inv .1) (b .before .loop-test .taken) _ (tested b) (c .if1 .left))
+
+returns-2 : tie.Need-returns-2 Inv-loop μ-loop
+unfolding relocationCheck
+returns-2 c = refused-none _ _ _ _ (c .before .loop .inv .1) (omega arith)
+
+pub check-relocation-spec : {M : Type 1} → statement M
+check-relocation-spec =
+    tie.close
+    (tie.spec
+    Inv-loop
+    μ-loop
+    loop-holds
+    (λ c κs. search needs)
+    (λ c. search needs)
+    returns
+    (λ c. search needs)
+    (λ c. search needs)
+    loop-again
+    returns-2)

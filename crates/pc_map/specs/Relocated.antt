@@ -1,0 +1,92 @@
+-- Relocation of an instruction and of its metadata, each by itself; when it can be done.
+-- Assumes nothing.
+use mathlib.Core.Path.{_≡_, refl, ap, _∙_}
+use mathlib.Core.Bool.{Bool, true, false, cond, _&&_}
+use mathlib.Core.List.{List}
+use Prim.Native.Nat.{ℕ}
+use lib.Dec.{eqb, leb}
+use borrow.Author.Tests.{eqb-true}
+use Rattle.instruction.specs.declared.Instruction.{Instruction}
+use Rattle.instruction.specs.declared.Class.{Class}
+use Rattle.instruction.specs.declared.Class.the-variants.{Hint, LoadInt, LoadConst, Copy, CopyN, Unary, Binary, Jump, JumpIf, JumpIfNot, ForLoop, Return, Panic, Outside, Invalid}
+use Rattle.instruction.specs.Class.{classOf, single}
+use Rattle.instruction.specs.Instruction.{imm32Unsigned, withImm32, class}
+use Rattle.unit.specs.Refusal.{lostLoop}
+use Rattle.unit.specs.declared.Metadata.{Metadata}
+use Rattle.effects.specs.Shape.{Cell}
+use Rattle.flow.specs.Loop.{isLoopHint, loopExit, loopEnd}
+use Rattle.pc_map.specs.Boundary.{isKept, boundary}
+use Rattle.pc_map.specs.Relocate.{movedHint, relocateBy, relocate}
+
+abbrev pub cell : Instruction → Metadata → Cell
+cell i d = record { instruction = i; metadata = d }
+
+-- the test of `relocationCheck`
+abbrev pub relocationTest : List ℕ → ℕ → ℕ → Cell → ℕ
+relocationTest keep n p x =
+    cond (isKept keep p && isLoopHint (x .instruction)) (cond (leb (loopExit x) n && isKept keep (loopEnd x)) 0 lostLoop) 0
+
+-- a hint's instruction, and every instruction's metadata
+abbrev pub movedExit : List ℕ → Instruction → Instruction
+movedExit keep i = cond (isLoopHint i) (withImm32 i (boundary keep (imm32Unsigned i))) i
+
+abbrev pub movedEnd : List ℕ → Metadata → Metadata
+movedEnd keep d = record { kind = d .kind; ok = d .ok; array = d .array; first = d .first; second = d .second; end = boundary keep (d .end) }
+
+module _ (keep : List ℕ) where
+  pub hint-instruction : (x : Cell) → movedHint keep x .instruction ≡ movedExit keep (x .instruction)
+  unfolding movedHint
+  hint-instruction x = go (isLoopHint (x .instruction)) _ _
+    where
+      go : (t : Bool) (y z : Cell) → cond t y z .instruction ≡ cond t (y .instruction) (z .instruction)
+      go true y z = refl
+      go false y z = refl
+
+  -- a loop hint is of the class Hint
+  hint-class : (i : Instruction) → isLoopHint i ≡ true → class i ≡ Hint
+  unfolding classOf single
+  hint-class i e = rw (eqb-true (i .op) 0 (both (eqb (i .op) 0) (eqb (i .flags) 1) e))
+    where
+      both : (s t : Bool) → (s && t) ≡ true → s ≡ true
+      both true t e = refl
+      both false t e = e
+
+  pub moved-metadata : (p : ℕ) (x : Cell) → relocate keep p x .metadata ≡ cond (isLoopHint (x .instruction)) (movedEnd keep (x .metadata)) (x .metadata)
+  unfolding relocateBy movedHint
+  moved-metadata p x = go (isLoopHint (x .instruction)) refl
+    where
+      other : isLoopHint (x .instruction) ≡ false → (k : Class) → relocateBy keep k p x .metadata ≡ x .metadata
+      other e Hint = rw e
+      other e LoadInt = refl
+      other e LoadConst = refl
+      other e Copy = refl
+      other e CopyN = refl
+      other e Unary = refl
+      other e Binary = refl
+      other e Jump = refl
+      other e JumpIf = refl
+      other e JumpIfNot = refl
+      other e ForLoop = refl
+      other e Return = refl
+      other e Panic = refl
+      other e Outside = refl
+      other e Invalid = refl
+
+      go : (t : Bool) → isLoopHint (x .instruction) ≡ t → relocate keep p x .metadata ≡ cond (isLoopHint (x .instruction)) (movedEnd keep (x .metadata)) (x .metadata)
+      go true e = ap (λ (k : Class). relocateBy keep k p x .metadata) (hint-class (x .instruction) e) ∙ rw e
+      go false e = other e (class (x .instruction)) ∙ rw e
+
+-- the three answers of the test; i is the cell's instruction and d its metadata, as the code has them
+module _ (keep : List ℕ) (n p : ℕ) (x : Cell) (i : Instruction) (h : Bool) (same : i ≡ x .instruction) (hint : h ≡ isLoopHint i) where
+  pub moves-no-hint : (isKept keep p && h) ≡ false → 0 ≡ relocationTest keep n p x
+  moves-no-hint e = let t : (isKept keep p && isLoopHint (x .instruction)) ≡ false = cc in rw t
+
+  module _ (d : Metadata) (v : ℕ) (s : Bool) (there : d ≡ x .metadata) (exit : v ≡ imm32Unsigned i) (kept : s ≡ isKept keep (d .end)) (e : (isKept keep p && h) ≡ true) where
+    t : (isKept keep p && isLoopHint (x .instruction)) ≡ true
+    t = cc
+
+    pub moves-well : (leb v n && s) ≡ true → 0 ≡ relocationTest keep n p x
+    moves-well f = let u : (leb (loopExit x) n && isKept keep (loopEnd x)) ≡ true = cc in rw (t, u)
+
+    pub moves-not : (leb v n && s) ≡ false → lostLoop ≡ relocationTest keep n p x
+    moves-not f = let u : (leb (loopExit x) n && isKept keep (loopEnd x)) ≡ false = cc in rw (t, u)
