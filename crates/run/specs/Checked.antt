@@ -276,7 +276,7 @@ module _ (F : Function) (w : Well F) (some-code : 0 < length (F .cells)) (few : 
       next-leads cells p k (branch-given p (omega arith) b .0)
   }
 
-  numbered-fields : (p : ℕ) → p < length (G .cells) → Fields (cellAt (G .cells) p .instruction)
+  pub numbered-fields : (p : ℕ) → p < length (G .cells) → Fields (cellAt (G .cells) p .instruction)
   numbered-fields p h =
       let k : p < length cells = rw same-length at h in
       rw (numbered-at F (leaders cells) numberable p k) (justified-fields S _ _ (w .locals) (numbered-justified F (leaders cells) numberable p k) (w .fields p k))

@@ -24,3 +24,4 @@ pub mod Alive
 pub mod Optimized
 pub mod Kept
 pub mod Checked
+pub mod Passed

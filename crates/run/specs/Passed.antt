@@ -1,0 +1,100 @@
+-- One pass over cells: what it returns runs as what it was given.
+-- Assumes nothing.
+use mathlib.Core.Path.{_≡_, refl, sym, ap, _∙_}
+use mathlib.Core.Bool.{Bool, true, false, cond, not, _&&_, false≢true}
+use mathlib.Core.List.{List, [], _∷_}
+use Prim.Native.Nat.{ℕ, suc, _≤_, _<_}
+use native.Mathlib.Omega.{arith}
+use lib.Dec.{ltb}
+use lib.ListN.{length, length-map}
+use borrow.Author.Tests.{ltb-true, ltb-false}
+use Rattle.unit.specs.Result.{Retained}
+use Rattle.unit.specs.Size.{maxInstructions}
+use Rattle.effects.specs.declared.Check.{Check}
+use Rattle.effects.specs.declared.Check.the-variants.{Passed, Refused}
+use Rattle.effects.specs.Shape.{Sections, Cell}
+use Rattle.effects.specs.Check.{operandCheck}
+use Rattle.flow.specs.Branch.{branchCheck}
+use Rattle.flow.specs.Block.{leaders}
+use Rattle.flow.specs.Loop.{reachedPlaces, loopCheck}
+use Rattle.values.specs.Number.{numberCode}
+use Rattle.pc_map.specs.Relocate.{relocationCheck, retainFrom}
+use Rattle.optimize.specs.Pass.{Outcome, unchanged, refused, rewritten, checked, sameCode, allKept, keptPlaces, removal, optimized, isWorkedOn, pass}
+use Rattle.clean.specs.Clean.{cellOf, cellsAfter}
+use Rattle.run.specs.Machine.{SameRuns, same-runs-trans}
+use Rattle.run.specs.Program.{Function, programOf}
+use Rattle.run.specs.Returned.{resultFunction}
+use Rattle.run.specs.Operands.{and-left, and-right}
+use Rattle.run.specs.Numbered.{numberedFunction, numbering}
+use Rattle.run.specs.Kept.{kept-runs}
+use Rattle.run.specs.Checked.{Well, numberable, removing, numbered-fields, retained-fields}
+
+-- What a pass says that it rewrote runs as it did, and may be given to the next pass.
+pub record Good (F : Function) (kept : List Retained) : Type 0 where
+  pub runs : SameRuns (programOf F) (programOf (resultFunction (F .sections) kept))
+  pub well : Well (resultFunction (F .sections) kept)
+
+-- a check that is followed by a rewriting passed
+passed-check : (c : Check) (rest : Outcome) (kept : List Retained) → checked c rest ≡ rewritten kept → (c ≡ Passed) × (rest ≡ rewritten kept)
+unfolding checked
+passed-check Passed rest kept e = (refl, e)
+passed-check (Refused k p) rest kept e = let z : _≡_ {A = ℕ} 0 1 = cc in absurd (omega arith)
+
+module _ (F : Function) (w : Well F) (worked : isWorkedOn (length (F .cells)) ≡ true) where
+  abbrev S : Sections
+  S = F .sections
+
+  abbrev cells : List Cell
+  cells = F .cells
+
+  some-code : 0 < length cells
+  unfolding isWorkedOn
+  some-code = let h = ltb-true 1 (length cells) (and-left (ltb 1 (length cells)) (not (ltb maxInstructions (length cells))) worked) in omega arith
+
+  few : length cells ≤ 65536
+  unfolding isWorkedOn
+  few = go (ltb maxInstructions (length cells)) refl (and-right (ltb 1 (length cells)) (not (ltb maxInstructions (length cells))) worked)
+    where
+      go : (t : Bool) → ltb maxInstructions (length cells) ≡ t → not t ≡ true → length cells ≤ 65536
+      go true e f = absurd (false≢true f)
+      go false e f = ltb-false maxInstructions (length cells) e
+
+  abbrev code : List Cell
+  code = numberCode S (leaders cells) cells
+
+  abbrev keep : List ℕ
+  keep = keptPlaces S (leaders cells) (reachedPlaces code) code
+
+  -- the code that is returned is what is retained of the numbered code
+  retained : (t : Bool) (kept : List Retained) → cond t unchanged (checked (relocationCheck keep code) (rewritten (retainFrom keep 0 code))) ≡ rewritten kept → retainFrom keep 0 code ≡ kept
+  retained true kept e = let z : _≡_ {A = ℕ} 0 1 = cc in absurd (omega arith)
+  retained false kept e = let f : rewritten (retainFrom keep 0 code) ≡ rewritten kept = passed-check (relocationCheck keep code) (rewritten (retainFrom keep 0 code)) kept e .1 in cc
+
+  good : operandCheck (S .locals) (S .tables) cells ≡ Passed → branchCheck cells ≡ Passed → Good F (retainFrom keep 0 code)
+  unfolding numberedFunction resultFunction
+  good o b =
+      record {
+        runs = same-runs-trans (numbering F (leaders cells) (numberable F w some-code few o b)) (kept-runs _ (leaders cells) (removing F w some-code few o b));
+        well = record {
+          locals = w .locals;
+          described = rw (length-map (retainFrom keep 0 code) cellOf) (omega arith);
+          fields = retained-fields keep code 0 (numbered-fields F w some-code few o b);
+          constants = w .constants
+        }
+      }
+
+  pub optimized-runs : (kept : List Retained) → optimized S cells ≡ rewritten kept → Good F kept
+  unfolding optimized removal
+  optimized-runs kept e =
+      let operands = passed-check (operandCheck (S .locals) (S .tables) cells) _ kept e in
+      let branches = passed-check (branchCheck cells) _ kept (operands .1) in
+      let loops = passed-check (loopCheck (reachedPlaces code) code) _ kept (branches .1) in
+      rw (← retained (sameCode cells code && allKept keep) kept (loops .1)) (good (operands .0) (branches .0))
+
+pub pass-runs : (F : Function) → Well F → (kept : List Retained) → pass (F .sections) (F .cells) ≡ rewritten kept → Good F kept
+unfolding pass
+pass-runs F w kept e = go (isWorkedOn (length (F .cells))) refl e
+  where
+    go : (t : Bool) → isWorkedOn (length (F .cells)) ≡ t → cond t (optimized (F .sections) (F .cells)) unchanged ≡ rewritten kept → Good F kept
+    go true h e = optimized-runs F w h kept e
+    go false h e = let z : _≡_ {A = ℕ} 0 1 = cc in absurd (omega arith)
