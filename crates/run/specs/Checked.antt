@@ -128,7 +128,7 @@ module _ (cells : List Cell) where
   unfolding branchCheck branchInside
   target-inside e p h b =
       let z : cond (branchInside (length cells) p (cellAt cells p .instruction)) 0 branchOutside ≡ 0 =
-        rw zero-add at (lowest-passed (λ p x. cond (branchInside (length cells) p (x .instruction)) 0 branchOutside) 0 cells e p h) in
+      rw zero-add at (lowest-passed (λ p x. cond (branchInside (length cells) p (x .instruction)) 0 branchOutside) 0 cells e p h) in
       let y : cond (ltb (target p (cellAt cells p .instruction)) (length cells)) 0 branchOutside ≡ 0 = rw b at z in
       go (ltb (target p (cellAt cells p .instruction)) (length cells)) refl y
     where
@@ -239,7 +239,7 @@ module _ (F : Function) (w : Well F) (some-code : 0 < length (F .cells)) (few : 
     fields = w .fields;
     constants = w .constants;
     targets = λ p h b. target-leads cells p h b (target-inside cells checked-branches p h b);
-    nexts = next-leads cells
+    nexts = next-leads cells;
   }
 
   abbrev pub G : Function
@@ -267,13 +267,13 @@ module _ (F : Function) (w : Well F) (some-code : 0 < length (F .cells)) (few : 
     flags = leaders-flags cells;
     one = leaders-first cells some-code;
     targets = λ p h b.
-      let k : p < length cells = rw same-length at h in
-      let r = branch-given p k b in
-      let l = target-inside cells checked-branches p k (r .0) in
-      rw (r .1, same-length) (target-leads cells p k (r .0) l, l);
+        let k : p < length cells = rw same-length at h in
+        let r = branch-given p k b in
+        let l = target-inside cells checked-branches p k (r .0) in
+        rw (r .1, same-length) (target-leads cells p k (r .0) l, l);
     nexts = λ p h b.
-      let k : suc p < length cells = rw same-length at h in
-      next-leads cells p k (branch-given p (omega arith) b .0)
+        let k : suc p < length cells = rw same-length at h in
+        next-leads cells p k (branch-given p (omega arith) b .0);
   }
 
   pub numbered-fields : (p : ℕ) → p < length (G .cells) → Fields (cellAt (G .cells) p .instruction)

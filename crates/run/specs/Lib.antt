@@ -25,3 +25,4 @@ pub mod Optimized
 pub mod Kept
 pub mod Checked
 pub mod Passed
+pub mod Given

@@ -79,8 +79,8 @@ module _ (F : Function) (w : Well F) (worked : isWorkedOn (length (F .cells)) �
           locals = w .locals;
           described = rw (length-map (retainFrom keep 0 code) cellOf) (omega arith);
           fields = retained-fields keep code 0 (numbered-fields F w some-code few o b);
-          constants = w .constants
-        }
+          constants = w .constants;
+        };
       }
 
   pub optimized-runs : (kept : List Retained) → optimized S cells ≡ rewritten kept → Good F kept
