@@ -1,3 +1,5 @@
 pub mod Fold
+pub mod Bitwise
 pub mod Table
 pub mod Number
+pub mod Folded

@@ -1,8 +1,15 @@
 // Value numbering within blocks.
+pub mod fold;
 
 // The value of a slot: a known 64-bit integer, a float constant's bits, or what the instruction at a place gave to a slot.
 pub enum Atom {
     Integer(u64),
     Float(u64),
     Definition(u32, u16),
+}
+
+// What an expression folds to.
+pub enum Folded {
+    Word(u64),
+    Not,
 }
