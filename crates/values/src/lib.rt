@@ -1,4 +1,5 @@
 // Value numbering within blocks.
+pub mod entries;
 pub mod fold;
 
 // The value of a slot: a known 64-bit integer, a float constant's bits, or what the instruction at a place gave to a slot.
@@ -12,4 +13,17 @@ pub enum Atom {
 pub enum Folded {
     Word(u64),
     Not,
+}
+
+// The key of an entry of a table.
+pub struct Key {
+    pub head: u64,
+    pub left: u64,
+    pub right: u64,
+}
+
+// The value of an entry.
+pub enum Found {
+    At(u64),
+    Nothing,
 }
