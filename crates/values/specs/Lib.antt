@@ -6,3 +6,4 @@ pub mod Folded
 pub mod Entries
 pub mod Chain
 pub mod Adding
+pub mod Memory

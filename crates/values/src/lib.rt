@@ -1,6 +1,7 @@
 // Value numbering within blocks.
 pub mod entries;
 pub mod fold;
+pub mod slots;
 
 // The value of a slot: a known 64-bit integer, a float constant's bits, or what the instruction at a place gave to a slot.
 pub enum Atom {
@@ -26,4 +27,13 @@ pub struct Key {
 pub enum Found {
     At(u64),
     Nothing,
+}
+
+// How far the tables in memory are filled, and what of them is valid: marks and values of this epoch, entries from the bases on.
+pub struct State {
+    pub epoch: u64,
+    pub rbase: usize,
+    pub rcount: usize,
+    pub ebase: usize,
+    pub ecount: usize,
 }
