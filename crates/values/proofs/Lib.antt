@@ -1,1 +1,5 @@
 pub mod Unfolded
+pub mod Parts
+pub mod Encoding
+pub mod Holding
+pub mod Recording

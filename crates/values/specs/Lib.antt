@@ -7,3 +7,4 @@ pub mod Entries
 pub mod Chain
 pub mod Adding
 pub mod Memory
+pub mod Kept

@@ -20,7 +20,7 @@ fn mix(k: Key) -> u64
 }
 
 // The bucket of a key, by its high 32 bits.
-fn bucket(h: usize, k: Key) -> usize
+pub fn bucket(h: usize, k: Key) -> usize
     requires { ⌜ (0 < h) × (h ≤ 65536) ⌝ }
     ensures { λ r. ⌜ (r ≡ bucketOf h k) × (r < h) ⌝ }
 {
@@ -42,12 +42,11 @@ fn holds(w: &[u64], at: usize, k: Key) -> bool
     false
 }
 
-// The value of the newest valid entry with the key.
-pub fn find(w: &[u64], h: usize, base: usize, count: usize, k: Key) -> Found
-    requires { ⌜ Linked (now w) h count ⌝ }
+// The value of the newest valid entry with the key, whose bucket is `b`.
+pub fn find(w: &[u64], h: usize, b: usize, base: usize, count: usize, k: Key) -> Found
+    requires { ⌜ Linked (now w) h count × (b ≡ bucketOf h k) × (b < h) ⌝ }
     ensures { λ r. ⌜ r ≡ newest (now (w .entry)) h base count k ⌝ }
 {
-    let b = bucket(h, k);
     let mut p = w[b] as usize;
     while p > base {
         let at = h + 5 * (p - 1);
@@ -60,11 +59,10 @@ pub fn find(w: &[u64], h: usize, base: usize, count: usize, k: Key) -> Found
 }
 
 // One entry more, the newest of its bucket.
-pub fn insert(w: &mut [u64], h: usize, count: usize, k: Key, v: u64)
-    requires { ⌜ Linked (now w) h count × (h + 5 * count + 5 ≤ length (now w)) ⌝ }
+pub fn insert(w: &mut [u64], h: usize, b: usize, count: usize, k: Key, v: u64)
+    requires { ⌜ Linked (now w) h count × (b ≡ bucketOf h k) × (b < h) × (h + 5 * count + 5 ≤ length (now w)) ⌝ }
     ensures { λ _. ⌜ Added (now (w .entry)) (now (w .exit)) h count k v ⌝ }
 {
-    let b = bucket(h, k);
     let at = h + 5 * count;
     let old = w[b];
     w[at] = k.head;

@@ -2,6 +2,7 @@
 pub mod entries;
 pub mod fold;
 pub mod slots;
+pub mod table;
 
 // The value of a slot: a known 64-bit integer, a float constant's bits, or what the instruction at a place gave to a slot.
 pub enum Atom {
@@ -36,4 +37,10 @@ pub struct State {
     pub rcount: usize,
     pub ebase: usize,
     pub ecount: usize,
+}
+
+// The slot that stands for a value, and the state after it.
+pub struct Chosen {
+    pub slot: u16,
+    pub state: State,
 }

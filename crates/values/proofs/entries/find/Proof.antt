@@ -4,28 +4,22 @@ use Rattle.values.proofs.entries.find.Statement.{statement}
 use Rattle.values.proofs.entries.find.Tie as tie
 
 abbrev Inv-loop : tie.InvT-loop
-Inv-loop w h base count k b p₀ p = Walk w h base count k p
+Inv-loop w h b base count k p₀ p = Walk w h base count k p
 
 abbrev μ-loop : tie.MeasureT-loop
-μ-loop w h base count k b p₀ p = p
+μ-loop w h b base count k p₀ p = p
 
 loop-holds : tie.Need-loop-holds Inv-loop μ-loop
-loop-holds c = walk-start (c .before .before .before .pre) (c .before .bucket .ensures .0) (c .before .bucket .ensures .1)
+loop-holds c = walk-start (c .before .before .pre .0) (c .before .before .pre .1) (c .before .before .pre .2)
 
 returns : tie.Need-returns Inv-loop μ-loop
-returns c =
-    let i = c .before .before .before in
-    walk-hit (i .before .before .before .before .before .pre) (i .before .loop .inv) (i .loop-test .taken) (c .before .before .holds .ensures) (c .before .if1 .taken)
+returns c = walk-hit (c .before .before .before .before .before .before .before .pre .0) (c .before .before .before .before .loop .inv) (c .before .before .before .loop-test .taken) (c .before .before .holds .ensures) (c .before .if1 .taken)
 
 loop-less : tie.Need-loop-less Inv-loop μ-loop
-loop-less c =
-    let i = c .before .before .before in
-    walk-less (i .before .before .before .before .before .pre) (i .before .loop .inv) (i .loop-test .taken)
+loop-less c = walk-less (c .before .before .before .before .before .before .before .pre .0) (c .before .before .before .before .loop .inv) (c .before .before .before .loop-test .taken)
 
 loop-again : tie.Need-loop-again Inv-loop μ-loop
-loop-again c =
-    let i = c .before .before .before in
-    walk-on (i .before .before .before .before .before .pre) (i .before .loop .inv) (i .loop-test .taken) (c .before .before .holds .ensures) (c .before .if1 .left)
+loop-again c = walk-on (c .before .before .before .before .before .before .before .pre .0) (c .before .before .before .before .loop .inv) (c .before .before .before .loop-test .taken) (c .before .before .holds .ensures) (c .before .if1 .left)
 
 returns-2 : tie.Need-returns-2 Inv-loop μ-loop
 returns-2 c = walk-end (c .before .loop .inv) (c .loop-test .left)
@@ -36,7 +30,6 @@ find-spec =
     (tie.spec
     Inv-loop
     μ-loop
-    (λ c κs. search needs)
     (λ c. search needs)
     (λ c. search needs)
     loop-holds

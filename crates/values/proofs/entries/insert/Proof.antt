@@ -24,16 +24,12 @@ same-length : tie.Need-same-length
 same-length c = simp length-set
 
 returns : tie.Need-returns
-returns c =
-    let s = c .before .before .before in
-    let b = c .before .bucket in
-    insert-adds (s .pre .0) (s .pre .1) (b .ensures .0) (b .ensures .1)
+returns c = insert-adds (c .before .pre .0) (c .before .pre .3) (c .before .pre .1) (c .before .pre .2)
 
 pub insert-spec : {M : Type 1} → statement M
 insert-spec =
     tie.close
     (tie.spec
-    (λ c κs. search needs)
     (λ c. search needs)
     (λ c. search needs)
     (λ c. search needs)
