@@ -10,9 +10,9 @@ use native.Mathlib.Omega.{arith}
 use lib.Dec.{eqb, ltb}
 use lib.ListN.{length, getD, set, length-set}
 use borrow.Rule.Slice.PartMut.{putMid}
-use borrow.Author.Tests.{ltb-true}
+use borrow.Author.Tests.{ltb-true, eq-eqb}
 use Rattle.words.specs.Regions.{mid-long}
-use Rattle.values.specs.Table.{Values, Expression, Represented, atStart, sameAtom, valueOf, slotIn, usable, recordedSlot, representative, orItself, store, learn}
+use Rattle.values.specs.Table.{Values, Expression, Represented, atStart, sameAtom, valueIn, valueOf, slotIn, usable, recordedSlot, representative, orItself, store, learn}
 use Rattle.values.specs.Entries.{Linked, Added}
 use Rattle.values.specs.Memory.{placesAt, constantsAt, expressionsAt, endAt, Memory, memoryOf, slotValue, constantKey, keyOf, recordedAt, usableIn, usableAt, slotFound, Ready, Sound, SoundExpression, Holds, tagOf, bitsOf}
 use Rattle.values.specs.Kept.{Kept, Recorded, Represents, Stores, Learns, recording, Counted, Taught}
@@ -27,7 +27,7 @@ use Rattle.values.proofs.Parts.{put-length, slots-put, places-put, cons
 use Rattle.values.proofs.Holding.{hold-place, hold-start, hold-integer, hold-float, hold-learn, hold-put, usable-holds}
 
 -- a slot that is found to be usable is a slot
-usable-low : (n S : ℕ) (types : List ℕ) (st : State) (m : Memory) (w : Atom) (type : ℕ) (f : Found) (r : ℕ) → usableIn n S types st m w type f ≡ At r → r < S
+pub usable-low : (n S : ℕ) (types : List ℕ) (st : State) (m : Memory) (w : Atom) (type : ℕ) (f : Found) (r : ℕ) → usableIn n S types st m w type f ≡ At r → r < S
 unfolding usableIn
 usable-low n S types st m w type Nothing r e = let z : _≡_ {A = ℕ} 0 1 = cc in absurd (omega arith)
 usable-low n S types st m w type (At q) r e = go (ltb q S) refl (sameAtom (slotValue (m .slots) (st .epoch) q) w && eqb (getD types q 0) type) e
@@ -196,3 +196,82 @@ module _ {n S : ℕ} {st : State} {t : List ℕ} (g : Ready n S st t) where
               = ap slotFound (sym found) ∙ usable-holds n S few dest h types w (getD types s 0) sound ∙ ap (λ (b : Atom). recordedSlot types v b (getD types s 0)) z in
               rw (sym known) (x, rw (y, sym z) (d .holds dest v h sound low));
         }
+
+  -- a value stored in a slot, before its slot is represented
+  module _ (u : List ℕ) (s : ℕ) (x : Atom) (low : s < S)
+      (e : u ≡ set (set (set (memoryOf n S t .slots) (4 * s) (st .epoch)) (4 * s + 1) (tagOf x)) (4 * s + 2) (bitsOf x)) where
+    abbrev t5 : List ℕ
+    t5 = putMid 0 (placesAt S - 0) t u
+
+    long5 : length u ≡ placesAt S - 0
+    long5 = ap length e ∙ simp length-set slots-long
+
+    memory5 : memoryOf n S t5 ≡ record { slots = u; places = m .places; constants = m .constants; expressions = m .expressions }
+    memory5 = slots-put n S t u (g .long) long5
+
+    length5 : length t5 ≡ length t
+    length5 = put-length 0 (placesAt S) t u (omega arith) (omega (arith, g .long)) long5
+
+    pub put-ready : Ready n S st (putMid 0 (placesAt S - 0) t u)
+    put-ready = marks-kept length5 (ap (λ (y : Memory). y .constants) memory5) (ap (λ (y : Memory). y .expressions) memory5) .ready
+
+    value-put : (v : Values) → x ≡ valueIn (record { slot = s; value = x } ∷ v .slots) s
+    unfolding valueIn
+    value-put v = rw (eq-eqb s s refl)
+
+    pub stores : (types : List ℕ) {c : Chosen} {t′ : List ℕ} → Represents n S types st (putMid 0 (placesAt S - 0) t u) s x c t′ → Stores n S types st t s x (c .state) t′
+    unfolding store
+    stores types {c} {t′} d =
+        record {
+          kept = record {
+            ready = d .kept .ready;
+            long = d .kept .long ∙ length5;
+            epochs = d .kept .epochs;
+            constants = d .kept .constants;
+            expressions = d .kept .expressions;
+          };
+          holds = λ dest v h y.
+              let long : 4 * s + 4 ≤ length (m .slots) = omega (arith, slots-long) in
+              let put : Holds n S dest (record { slots = record { slot = s; value = x } ∷ v .slots; recorded = v .recorded; expressions = v .expressions }) st (memoryOf n S t5)
+              = rw (memory5, e) (hold-put n S few dest h s x low y long) in
+              d .holds dest (record { slots = record { slot = s; value = x } ∷ v .slots; recorded = v .recorded; expressions = v .expressions }) put (value-put v) .1;
+        }
+
+  -- one expression more
+  module _ (u : List ℕ) (k : Key) (p s : ℕ) (b : Added (memoryOf n S t .expressions) u n (st .ecount) k (p + 4294967296 * s)) where
+    abbrev t6 : List ℕ
+    t6 = putMid (expressionsAt n S) (endAt n S - expressionsAt n S) t u
+
+    long6 : length u ≡ endAt n S - expressionsAt n S
+    long6 = b .long ∙ expressions-long
+
+    memory6 : memoryOf n S t6 ≡ record { slots = m .slots; places = m .places; constants = m .constants; expressions = u }
+    memory6 = expressions-put n S t u (g .long) long6
+
+    pub learns : Learns n S st t k p s (Taught st) (putMid (expressionsAt n S) (endAt n S - expressionsAt n S) t u)
+    learns =
+        let l : length t6 ≡ length t = put-length (expressionsAt n S) (endAt n S) t u (omega arith) (omega (arith, g .long)) long6 in
+        record {
+          kept = record {
+            ready = record {
+              locals = g .locals;
+              long = rw l (g .long);
+              constants = rw (ap (λ (x : Memory). x .constants) memory6) (g .constants);
+              expressions = rw (ap (λ (x : Memory). x .expressions) memory6) (b .linked);
+              constants-base = g .constants-base;
+              expressions-base = let f = g .expressions-base in omega arith;
+              epoch = g .epoch;
+            };
+            long = l;
+            epochs = omega arith;
+            constants = omega arith;
+            expressions = omega arith;
+          };
+          holds = λ dest v e h y q z. rw memory6 (hold-learn n S few dest h e p s u (g .expressions-base) y z (rw q at b));
+        }
+
+  -- a slot that is found fits 16 bits
+  pub found-fits : (types : List ℕ) (w : Atom) (type : ℕ) {f : Found} {r : ℕ} → f ≡ usableAt n S types st (memoryOf n S t) w type → f ≡ At r → r < 65536
+  found-fits types w type {f} {r} e q =
+      let low : r < S = usable-low n S types st m w type (recordedAt n S st m w) r (sym e ∙ q) in
+      omega (arith, g .locals)

@@ -113,7 +113,7 @@ pub fn usable(t: &[u64], types: &[u8], n: usize, st: State, v: Atom, kind: u8) -
 }
 
 // "otherwise the operand stays and is recorded instead"
-fn record(t: &mut [u64], n: usize, locals: usize, st: State, v: Atom, s: u16) -> State
+fn record_slot(t: &mut [u64], n: usize, locals: usize, st: State, v: Atom, s: u16) -> State
     requires { ⌜ Ready n locals st (now t) × (st .rcount < 3 * n) ⌝ }
     ensures { λ r. ⌜ Recorded n locals st (now (t .entry)) v s r (now (t .exit)) ⌝ }
 {
@@ -152,7 +152,7 @@ fn represent(t: &mut [u64], types: &[u8], n: usize, st: State, s: u16, v: Atom) 
             state: st,
         },
         Found::Nothing => {
-            let after = record(t, n, types.len(), st, v, s);
+            let after = record_slot(t, n, types.len(), st, v, s);
             Chosen {
                 slot: s,
                 state: after,

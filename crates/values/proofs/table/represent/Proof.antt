@@ -1,62 +1,29 @@
+use Rattle.values.proofs.Recording.{found-fits, represent-found, represent-itself}
+use mathlib.Core.Path.{refl}
 use borrow.Author.Needs.{needs}
 use Rattle.values.proofs.table.represent.Statement.{statement}
 use Rattle.values.proofs.table.represent.Tie as tie
-use Rattle.values.proofs.table.represent.Reads as reads
-use Rattle.values.proofs.table.represent.Lts as lts
-use Rattle.values.proofs.table.record.Reads as record-reads
-use Rattle.values.proofs.table.usable.Reads as usable-reads
 
--- src/table.rt:148:16
-shared-slice-read-kind : tie.Need-shared-slice-read-kind
-shared-slice-read-kind c = search needs
-
--- src/table.rt:149:11
-usable-requires : tie.Need-usable-requires
-usable-requires c κs = search needs
-
--- src/table.rt:150:19
-enum-known-r : tie.Need-enum-known-r
-enum-known-r c = search needs
-
--- src/table.rt:151:19
 cast-t17 : tie.Need-cast-t17
-cast-t17 c = ?
+cast-t17 c = record { fits = found-fits (c .before .before .before .before .before .before .before .before .pre .0) _ _ _ (c .before .before .before .usable .ensures) (c .before .r .given .1) }
 
--- src/table.rt:155:32
-enum-told : tie.Need-enum-told
-enum-told c = search needs
-
--- src/table.rt:155:17
-record-requires : tie.Need-record-requires
-record-requires c κs = search needs
-
--- src/table.rt:143:1
-same-length : tie.Need-same-length
-same-length c = search needs
-
--- src/table.rt:143:1
 returns : tie.Need-returns
-returns c = ?
+returns c = represent-found (c .before .before .before .before .before .before .before .before .pre .0) _ _ _ (c .before .before .before .before .before .before .before .before .pre .2) _ _ (c .before .before .before .usable .ensures) (c .before .r .given .1) refl refl
 
--- src/table.rt:143:1
-same-length-2 : tie.Need-same-length-2
-same-length-2 c = search needs
-
--- src/table.rt:143:1
 returns-2 : tie.Need-returns-2
-returns-2 c = ?
+returns-2 c = represent-itself (c .before .before .before .before .before .before .before .before .before .before .before .pre .0) _ _ _ (c .before .before .before .before .before .before .before .before .before .before .before .pre .2) _ (c .before .before .before .before .before .before .usable .ensures) (c .before .before .before .before .enum-told .given .1) (c .before .before .record-slot .ensures) refl refl
 
 pub represent-spec : {M : Type 1} → statement M
 represent-spec =
     tie.close
     (tie.spec
-    shared-slice-read-kind
-    usable-requires
-    enum-known-r
+    (λ c. search needs)
+    (λ c κs. search needs)
+    (λ c. search needs)
     cast-t17
-    enum-told
-    record-requires
-    same-length
+    (λ c. search needs)
+    (λ c κs. search needs)
+    (λ c. search needs)
     returns
-    same-length-2
+    (λ c. search needs)
     returns-2)

@@ -1,52 +1,23 @@
+use Rattle.values.proofs.Recording.{put-ready, stores}
 use borrow.Author.Needs.{needs}
 use Rattle.values.proofs.table.store.Statement.{statement}
 use Rattle.values.proofs.table.store.Tie as tie
-use Rattle.values.proofs.table.store.Reads as reads
-use Rattle.values.proofs.table.store.Lts as lts
-use Rattle.values.proofs.slots.put.Reads as put-reads
-use Rattle.values.proofs.table.represent.Reads as represent-reads
 
--- src/table.rt:179:18
-mul-places : tie.Need-mul-places
-mul-places c = search needs
-
--- src/table.rt:180:16
-sub-put : tie.Need-sub-put
-sub-put c = search needs
-
--- src/table.rt:180:16
-part-put-start : tie.Need-part-put-start
-part-put-start c = search needs
-
--- src/table.rt:180:16
-part-put-end : tie.Need-part-put-end
-part-put-end c = search needs
-
--- src/table.rt:180:5
-put-requires : tie.Need-put-requires
-put-requires c κs = search needs
-
--- src/table.rt:181:9
 represent-requires : tie.Need-represent-requires
-represent-requires c κs = ?
+represent-requires c κs = (put-ready (c .before .before .before .before .before .before .before .pre .0) _ _ _ (c .before .before .before .before .before .before .before .pre .2) (c .before .before .before .put .ensures), c .before .before .before .before .before .before .before .pre .1, c .before .before .before .before .before .before .before .pre .2)
 
--- src/table.rt:175:1
-same-length : tie.Need-same-length
-same-length c = search needs
-
--- src/table.rt:175:1
 returns : tie.Need-returns
-returns c = ?
+returns c = stores (c .before .before .before .before .before .before .before .before .before .before .before .pre .0) _ _ _ (c .before .before .before .before .before .before .before .before .before .before .before .pre .2) (c .before .before .before .before .before .before .before .put .ensures) _ (c .before .before .before .represent .ensures)
 
 pub store-spec : {M : Type 1} → statement M
 store-spec =
     tie.close
     (tie.spec
-    mul-places
-    sub-put
-    part-put-start
-    part-put-end
-    put-requires
+    (λ c. search needs)
+    (λ c. search needs)
+    (λ c. search needs)
+    (λ c. search needs)
+    (λ c κs. search needs)
     represent-requires
-    same-length
+    (λ c. search needs)
     returns)

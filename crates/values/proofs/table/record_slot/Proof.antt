@@ -1,8 +1,8 @@
 use Rattle.values.proofs.Recording.{record-place, record-start, record-integer, record-float, record-none}
 use native.Mathlib.Omega.{arith}
 use borrow.Author.Needs.{needs}
-use Rattle.values.proofs.table.record.Statement.{statement}
-use Rattle.values.proofs.table.record.Tie as tie
+use Rattle.values.proofs.table.record_slot.Statement.{statement}
+use Rattle.values.proofs.table.record_slot.Tie as tie
 
 returns : tie.Need-returns
 returns c = rw (c .before .before .before .before .before .before .v3 .given .1) (record-place (c .before .before .before .before .before .before .before .before .before .pre .0) (c .before .before .mark .last .0) (c .before .before .before .before .before .before .before .before .before .args .s) (omega arith) _ _ (c .before .before .before .before .if1 .taken) (c .before .before .mark .ensures))
@@ -19,8 +19,8 @@ returns-4 c = rw (c .before .before .before .before .before .v2 .given .1, c .be
 returns-5 : tie.Need-returns-5
 returns-5 c = rw (c .before .before .before .v3 .given .1) (record-none (c .before .before .before .before .before .before .pre .0) _ _ _ (c .before .if1 .left) (c .if2 .left))
 
-pub record-spec : {M : Type 1} → statement M
-record-spec =
+pub record-slot-spec : {M : Type 1} → statement M
+record-slot-spec =
     tie.close
     (tie.spec
     (λ c. search needs)
