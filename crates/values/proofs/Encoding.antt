@@ -44,6 +44,12 @@ atom-same (Integer x) = eq-eqb x x refl
 atom-same (Float x) = eq-eqb x x refl
 atom-same (Definition p s) = rw (eq-eqb p p refl, eq-eqb s s refl)
 
+pub tag-low : (v : Atom) → tagOf v < 3
+unfolding tagOf
+tag-low (Integer x) = omega arith
+tag-low (Float x) = omega arith
+tag-low (Definition p s) = omega arith
+
 module _ (n S : ℕ) (few : n ≤ 65536) (dest : ℕ → ℕ) where
   place-fits : (p s : ℕ) → Sound n S dest (Definition p s) → p < 4294967296
   unfolding Sound
@@ -69,12 +75,6 @@ module _ (n S : ℕ) (few : n ≤ 65536) (dest : ℕ → ℕ) where
   same-words : (v w : Atom) → Sound n S dest v → Sound n S dest w → tagOf v ≡ tagOf w → bitsOf v ≡ bitsOf w → v ≡ w
   same-words v w h g e f =
       sym (decoded v h) ∙ ap (λ (x : ℕ). atomOf x (bitsOf v)) e ∙ ap (λ (x : ℕ). atomOf (tagOf w) x) f ∙ decoded w g
-
-  pub tag-low : (v : Atom) → tagOf v < 3
-  unfolding tagOf
-  tag-low (Integer x) = omega arith
-  tag-low (Float x) = omega arith
-  tag-low (Definition p s) = omega arith
 
   -- the head of a key has four digits
   digits : (o f l r o′ f′ l′ r′ : ℕ) → o < 256 → f < 256 → l < 3 → r < 3 → o′ < 256 → f′ < 256 → l′ < 3 → r′ < 3

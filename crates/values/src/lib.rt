@@ -3,6 +3,9 @@ pub mod entries;
 pub mod fold;
 pub mod slots;
 pub mod table;
+pub mod walk;
+
+use instruction::Instruction;
 
 // The value of a slot: a known 64-bit integer, a float constant's bits, or what the instruction at a place gave to a slot.
 pub enum Atom {
@@ -42,5 +45,11 @@ pub struct State {
 // The slot that stands for a value, and the state after it.
 pub struct Chosen {
     pub slot: u16,
+    pub state: State,
+}
+
+// An instruction as it becomes, and the state after it.
+pub struct Step {
+    pub instruction: Instruction,
     pub state: State,
 }
