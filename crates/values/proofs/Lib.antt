@@ -3,3 +3,4 @@ pub mod Parts
 pub mod Encoding
 pub mod Holding
 pub mod Recording
+pub mod Walking

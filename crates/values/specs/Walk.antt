@@ -78,10 +78,9 @@ pub record Becomes (n : ℕ) (types : List ℕ) (k r e : ℕ) (st : State) (t : 
 -- a new expression with that key, whose value is what the place defines
 pub record Defines (n : ℕ) (types : List ℕ) (st : State) (t : List ℕ) (i : Instruction) (p : ℕ) (k : Key) (x : Step) (t′ : List ℕ) : Type 0 where
   pub kept : Kept n (length types) 0 1 1 st t (x .state) t′
-  pub same : x .instruction ≡ i
   pub holds : (dest : ℕ → ℕ) (v : Values) (e : Expression) → Sound n (length types) dest (Definition p (i .a)) → SoundExpression n (length types) dest e → k ≡ keyOf e
       → Holds n (length types) dest v st (memoryOf n (length types) t)
-      → Holds n (length types) dest (store types (learn v e (Definition p (i .a))) (i .a) (Definition p (i .a))) (x .state) (memoryOf n (length types) t′)
+      → (x .instruction ≡ i) × Holds n (length types) dest (store types (learn v e (Definition p (i .a))) (i .a) (Definition p (i .a))) (x .state) (memoryOf n (length types) t′)
 
 -- room for what one instruction adds
 pub record Room (n S : ℕ) (st : State) (t : List ℕ) : Type 0 where
