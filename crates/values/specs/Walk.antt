@@ -73,7 +73,7 @@ pub record Becomes (n : ℕ) (types : List ℕ) (k r e : ℕ) (st : State) (t : 
   pub kept : Kept n (length types) k r e st t (x .state) t′
   pub holds : (dest : ℕ → ℕ) (constants : List ℕ) (locals : ℕ) (tables : Tables) (v : Values) → Good dest constants → Holds n (length types) dest v st (memoryOf n (length types) t)
       → (x .instruction ≡ f (sectionsOf types constants locals tables) v .instruction)
-        × Holds n (length types) dest (f (sectionsOf types constants locals tables) v .table) (x .state) (memoryOf n (length types) t′)
+      × Holds n (length types) dest (f (sectionsOf types constants locals tables) v .table) (x .state) (memoryOf n (length types) t′)
 
 -- a new expression with that key, whose value is what the place defines
 pub record Defines (n : ℕ) (types : List ℕ) (st : State) (t : List ℕ) (i : Instruction) (p : ℕ) (k : Key) (x : Step) (t′ : List ℕ) : Type 0 where

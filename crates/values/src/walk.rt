@@ -15,16 +15,16 @@ ghost use Rattle.values.specs.Walk.{Named, wordOf, Stands, Known, Become
 ghost use Rattle.values.specs.Kept.{cleared};
 ghost use Rattle.instruction.specs.declared.Class.the-variants.{Return};
 ghost use Rattle.values.specs.declared.Atom.the-variants.{Integer, Definition};
-use crate::entries;
-use crate::fold;
-use crate::slots;
-use crate::table;
 use crate::Atom;
 use crate::Folded;
 use crate::Found;
 use crate::Key;
 use crate::State;
 use crate::Step;
+use crate::entries;
+use crate::fold;
+use crate::slots;
+use crate::table;
 use instruction::Class;
 use instruction::Instruction;
 use unit::Constant;
@@ -79,7 +79,16 @@ fn copy_or_stay(t: &mut [u64], types: &[u8], n: usize, st: State, i: Instruction
 }
 
 // A new expression: its value is what this place defines.
-fn define(t: &mut [u64], types: &[u8], n: usize, st: State, i: Instruction, p: u32, k: Key, b: usize) -> Step
+fn define(
+    t: &mut [u64],
+    types: &[u8],
+    n: usize,
+    st: State,
+    i: Instruction,
+    p: u32,
+    k: Key,
+    b: usize,
+) -> Step
     requires { ⌜ Ready n (length (now types)) st (now t) × (st .rcount < 3 * n) × (st .ecount < n) × (i .a < length (now types)) × (b ≡ bucketOf n k) × (b < n) ⌝ }
     ensures { λ r. ⌜ Defines n (now (types .entry)) st (now (t .entry)) i p k r (now (t .exit)) ⌝ }
 {
@@ -89,7 +98,16 @@ fn define(t: &mut [u64], types: &[u8], n: usize, st: State, i: Instruction, p: u
 }
 
 // "An equal expression (opcode, flags, both values)"
-fn by_expression(t: &mut [u64], types: &[u8], n: usize, st: State, i: Instruction, p: u32, left: Atom, right: Atom) -> Step
+fn by_expression(
+    t: &mut [u64],
+    types: &[u8],
+    n: usize,
+    st: State,
+    i: Instruction,
+    p: u32,
+    left: Atom,
+    right: Atom,
+) -> Step
     requires { ⌜ Ready n (length (now types)) st (now t) × (st .rcount < 3 * n) × (st .ecount < n) × (i .a < length (now types)) ⌝ }
     ensures { λ r. ⌜ Becomes n (now (types .entry)) 0 1 1 st (now (t .entry)) r (now (t .exit)) (λ dest constants. Known n (length (now (types .entry))) p i left right dest) (λ S x. byExpression S p i x (expressionOf (i .op) (i .flags) left right) (expressionIn (x .expressions) (expressionOf (i .op) (i .flags) left right))) ⌝ }
 {
@@ -102,7 +120,17 @@ fn by_expression(t: &mut [u64], types: &[u8], n: usize, st: State, i: Instructio
 }
 
 // Folded, or looked up.
-fn by_value(t: &mut [u64], types: &[u8], n: usize, st: State, i: Instruction, p: u32, left: Atom, right: Atom, folded: Folded) -> Step
+fn by_value(
+    t: &mut [u64],
+    types: &[u8],
+    n: usize,
+    st: State,
+    i: Instruction,
+    p: u32,
+    left: Atom,
+    right: Atom,
+    folded: Folded,
+) -> Step
     requires { ⌜ Ready n (length (now types)) st (now t) × (st .rcount < 3 * n) × (st .ecount < n) × (i .a < length (now types)) ⌝ }
     ensures { λ r. ⌜ Becomes n (now (types .entry)) 0 1 1 st (now (t .entry)) r (now (t .exit)) (λ dest constants. Known n (length (now (types .entry))) p i left right dest) (λ S x. byValue S p i x (expressionOf (i .op) (i .flags) left right) (wordOf folded)) ⌝ }
 {
@@ -190,7 +218,14 @@ fn forget(st: State, i: Instruction) -> Step
     }
 }
 
-fn number_constant(t: &mut [u64], types: &[u8], n: usize, st: State, i: Instruction, constant: Constant) -> Step
+fn number_constant(
+    t: &mut [u64],
+    types: &[u8],
+    n: usize,
+    st: State,
+    i: Instruction,
+    constant: Constant,
+) -> Step
     requires { ⌜ Room n (length (now types)) st (now t) × (i .a < length (now types)) ⌝ }
     ensures { λ r. ⌜ Becomes n (now (types .entry)) 1 3 1 st (now (t .entry)) r (now (t .exit)) (λ dest constants. Unit {0}) (λ S x. numberConstant S i x (constantAtom constant)) ⌝ }
 {
@@ -219,7 +254,16 @@ fn scalar(types: &[u8], s: u16) -> bool
 }
 
 // The pure opcodes, of a scalar destination.
-fn number_pure(t: &mut [u64], types: &[u8], constants: &[u8], n: usize, st: State, i: Instruction, p: u32, k: Class) -> Step
+fn number_pure(
+    t: &mut [u64],
+    types: &[u8],
+    constants: &[u8],
+    n: usize,
+    st: State,
+    i: Instruction,
+    p: u32,
+    k: Class,
+) -> Step
     requires { ⌜ Room n (length (now types)) st (now t) × Named k (length (now types)) i ⌝ }
     ensures { λ r. ⌜ Becomes n (now (types .entry)) 1 3 1 st (now (t .entry)) r (now (t .exit)) (λ dest c. Stands n p i dest × (c ≡ now (constants .entry))) (λ S x. pureBy S k p i x) ⌝ }
 {
@@ -270,7 +314,17 @@ fn undecided(t: &mut [u64], types: &[u8], n: usize, st: State, i: Instruction) -
     }
 }
 
-// "JumpIf and JumpIfNot on a known integer become Jump or plain Hint": JumpIfNot takes the branch where the word is 0.
+// JumpIfNot takes its branch where the word is 0, JumpIf where it is not.
+fn taken(zero: bool, v: u64) -> bool
+    ensures { λ r. ⌜ r ≡ takes zero v ⌝ }
+{
+    if zero {
+        return v == 0;
+    }
+    v != 0
+}
+
+// "JumpIf and JumpIfNot on a known integer become Jump or plain Hint"
 fn number_jump(t: &mut [u64], types: &[u8], n: usize, st: State, i: Instruction, zero: bool) -> Step
     requires { ⌜ Room n (length (now types)) st (now t) × (i .a < length (now types)) ⌝ }
     ensures { λ r. ⌜ Becomes n (now (types .entry)) 1 3 1 st (now (t .entry)) r (now (t .exit)) (λ dest constants. Unit {0}) (λ S x. numberJump S (takes zero) i x (valueOf x (i .a))) ⌝ }
@@ -280,7 +334,7 @@ fn number_jump(t: &mut [u64], types: &[u8], n: usize, st: State, i: Instruction,
     let Atom::Integer(v) = value else {
         return undecided(t, types, n, st, i);
     };
-    if (v == 0) == zero {
+    if taken(zero, v) {
         return Step {
             instruction: Instruction::new(57, 0, i.b, i.c),
             state: st,
@@ -307,7 +361,16 @@ fn number_return(t: &mut [u64], types: &[u8], n: usize, st: State, i: Instructio
 }
 
 // All but jumps and returns: a store to a scalar, or all values are forgotten.
-fn number_other(t: &mut [u64], types: &[u8], constants: &[u8], n: usize, st: State, i: Instruction, p: u32, k: Class) -> Step
+fn number_other(
+    t: &mut [u64],
+    types: &[u8],
+    constants: &[u8],
+    n: usize,
+    st: State,
+    i: Instruction,
+    p: u32,
+    k: Class,
+) -> Step
     requires { ⌜ Room n (length (now types)) st (now t) × Named k (length (now types)) i ⌝ }
     ensures { λ r. ⌜ Becomes n (now (types .entry)) 1 3 1 st (now (t .entry)) r (now (t .exit)) (λ dest c. Stands n p i dest × (c ≡ now (constants .entry))) (λ S x. otherBy S k p i x) ⌝ }
 {
@@ -317,7 +380,15 @@ fn number_other(t: &mut [u64], types: &[u8], constants: &[u8], n: usize, st: Sta
     forget(st, i)
 }
 
-fn number_one(t: &mut [u64], types: &[u8], constants: &[u8], n: usize, st: State, i: Instruction, p: u32) -> Step
+fn number_one(
+    t: &mut [u64],
+    types: &[u8],
+    constants: &[u8],
+    n: usize,
+    st: State,
+    i: Instruction,
+    p: u32,
+) -> Step
     requires { ⌜ Room n (length (now types)) st (now t) × Named (class i) (length (now types)) i ⌝ }
     ensures { λ r. ⌜ Becomes n (now (types .entry)) 1 3 1 st (now (t .entry)) r (now (t .exit)) (λ dest c. Stands n p i dest × (c ≡ now (constants .entry))) (λ S x. number S p i x) ⌝ }
 {

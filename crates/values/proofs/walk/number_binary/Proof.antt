@@ -1,37 +1,21 @@
+use Rattle.values.proofs.Walking.{binary-becomes}
+use native.Mathlib.Omega.{arith}
 use borrow.Author.Needs.{needs}
 use Rattle.values.proofs.walk.number_binary.Statement.{statement}
 use Rattle.values.proofs.walk.number_binary.Tie as tie
-use Rattle.values.proofs.walk.number_binary.Reads as reads
-use Rattle.values.proofs.walk.number_binary.Lts as lts
-use Rattle.values.proofs.table.representative.Reads as representative-reads
-use Rattle.values.proofs.walk.combine.Reads as combine-reads
 
--- src/walk.rt:150:9
-representative-requires : tie.Need-representative-requires
-representative-requires c κs = search needs
-
--- src/walk.rt:152:9
-representative-requires-2 : tie.Need-representative-requires-2
-representative-requires-2 c κs = search needs
-
--- src/walk.rt:161:5
 combine-requires : tie.Need-combine-requires
-combine-requires c κs = ?
+combine-requires c κs = let r = c .before .before .before .before .before .before .before .before .before .representative .ensures .kept in let q = c .before .before .before .before .representative2 .ensures .kept in (q .ready, omega arith, omega arith, c .before .before .before .before .before .before .before .before .before .representative .ensures .low, c .before .before .before .before .representative2 .ensures .low, c .before .before .before .before .before .before .before .before .before .before .before .before .before .pre .3)
 
--- src/walk.rt:146:1
-same-length : tie.Need-same-length
-same-length c = search needs
-
--- src/walk.rt:146:1
 returns : tie.Need-returns
-returns c = ?
+returns c = binary-becomes (c .before .before .before .before .before .before .before .before .before .before .before .before .before .before .before .before .args .i) (c .before .before .before .before .before .before .before .before .before .before .before .before .before .before .before .before .args .p) (c .before .before .before .before .before .before .before .before .before .before .before .before .before .before .before .before .pre .1) (c .before .before .before .before .before .before .before .before .before .before .before .before .before .before .before .before .pre .2) (c .before .before .before .before .before .before .before .before .before .before .before .before .representative .ensures) (c .before .before .before .before .before .before .before .representative2 .ensures) (c .before .before .combine .ensures)
 
 pub number-binary-spec : {M : Type 1} → statement M
 number-binary-spec =
     tie.close
     (tie.spec
-    representative-requires
-    representative-requires-2
+    (λ c κs. search needs)
+    (λ c κs. search needs)
     combine-requires
-    same-length
+    (λ c. search needs)
     returns)

@@ -1,122 +1,58 @@
+use Rattle.values.proofs.Walking.{constant-becomes, forget-becomes}
+use native.Mathlib.Omega.{arith}
+use Rattle.values.specs.Number.{constantAtom, numberConstant}
+use Rattle.values.specs.Memory.{Sound}
 use borrow.Author.Needs.{needs}
 use Rattle.values.proofs.walk.number_constant.Statement.{statement}
 use Rattle.values.proofs.walk.number_constant.Tie as tie
-use Rattle.values.proofs.walk.number_constant.Reads as reads
-use Rattle.values.proofs.walk.number_constant.Lts as lts
-use Rattle.values.proofs.walk.forget.Reads as forget-reads
-use Rattle.values.proofs.walk.store.Reads as store-reads
 
--- src/walk.rt:198:32
-enum-told : tie.Need-enum-told
-enum-told c = search needs
-
--- src/walk.rt:198:26
-store-requires : tie.Need-store-requires
-store-requires c κs = search needs
-
--- src/walk.rt:199:24
-enum-known-constant : tie.Need-enum-known-constant
-enum-known-constant c = search needs
-
--- src/walk.rt:199:30
-store-requires-2 : tie.Need-store-requires-2
-store-requires-2 c κs = search needs
-
--- src/walk.rt:200:23
-enum-known-constant-2 : tie.Need-enum-known-constant-2
-enum-known-constant-2 c = search needs
-
--- src/walk.rt:200:29
-store-requires-3 : tie.Need-store-requires-3
-store-requires-3 c κs = search needs
-
--- src/walk.rt:201:25
-enum-known-constant-3 : tie.Need-enum-known-constant-3
-enum-known-constant-3 c = search needs
-
--- src/walk.rt:201:31
-store-requires-4 : tie.Need-store-requires-4
-store-requires-4 c κs = search needs
-
--- src/walk.rt:202:29
-enum-told-2 : tie.Need-enum-told-2
-enum-told-2 c = search needs
-
--- src/walk.rt:202:29
-forget-requires : tie.Need-forget-requires
-forget-requires c κs = search needs
-
--- src/walk.rt:203:30
-enum-told-3 : tie.Need-enum-told-3
-enum-told-3 c = search needs
-
--- src/walk.rt:203:30
-forget-requires-2 : tie.Need-forget-requires-2
-forget-requires-2 c κs = search needs
-
--- src/walk.rt:193:1
-same-length : tie.Need-same-length
-same-length c = search needs
-
--- src/walk.rt:193:1
 returns : tie.Need-returns
-returns c = ?
+unfolding constantAtom Sound
+returns c = constant-becomes (c .before .before .before .before .before .before .before .before .args .i) (rw (c .before .before .before .before .enum-told .given .1)) (λ dest. omega arith) (c .before .before .store .ensures)
 
--- src/walk.rt:193:1
-same-length-2 : tie.Need-same-length-2
-same-length-2 c = search needs
-
--- src/walk.rt:193:1
 returns-2 : tie.Need-returns-2
-returns-2 c = ?
+unfolding constantAtom Sound
+returns-2 c = constant-becomes (c .before .before .before .before .before .before .before .before .before .args .i) (rw (c .before .before .before .before .before .constant .given .1)) (λ dest. omega arith) (c .before .before .store2 .ensures)
 
--- src/walk.rt:193:1
-same-length-3 : tie.Need-same-length-3
-same-length-3 c = search needs
-
--- src/walk.rt:193:1
 returns-3 : tie.Need-returns-3
-returns-3 c = ?
+unfolding constantAtom Sound
+returns-3 c = constant-becomes (c .before .before .before .before .before .before .before .before .before .args .i) (rw (c .before .before .before .before .before .constant2 .given .1)) (λ dest. omega arith) (c .before .before .store3 .ensures)
 
--- src/walk.rt:193:1
-same-length-4 : tie.Need-same-length-4
-same-length-4 c = search needs
-
--- src/walk.rt:193:1
 returns-4 : tie.Need-returns-4
-returns-4 c = ?
+unfolding constantAtom Sound
+returns-4 c = constant-becomes (c .before .before .before .before .before .before .before .before .before .args .i) (rw (c .before .before .before .before .before .constant3 .given .1)) (λ dest. omega arith) (c .before .before .store4 .ensures)
 
--- src/walk.rt:193:1
 returns-5 : tie.Need-returns-5
-returns-5 c = ?
+unfolding constantAtom numberConstant
+returns-5 c = forget-becomes (c .before .before .before .before .before .pre .0) (c .forget .ensures .0) (c .forget .ensures .1) (λ d l T v. rw (c .before .enum-told2 .given .1))
 
--- src/walk.rt:193:1
 returns-6 : tie.Need-returns-6
-returns-6 c = ?
+unfolding constantAtom numberConstant
+returns-6 c = forget-becomes (c .before .before .before .before .before .pre .0) (c .forget2 .ensures .0) (c .forget2 .ensures .1) (λ d l T v. rw (c .before .enum-told3 .given .1))
 
 pub number-constant-spec : {M : Type 1} → statement M
 number-constant-spec =
     tie.close
     (tie.spec
-    enum-told
-    store-requires
-    enum-known-constant
-    store-requires-2
-    enum-known-constant-2
-    store-requires-3
-    enum-known-constant-3
-    store-requires-4
-    enum-told-2
-    forget-requires
-    enum-told-3
-    forget-requires-2
-    same-length
+    (λ c. search needs)
+    (λ c κs. search needs)
+    (λ c. search needs)
+    (λ c κs. search needs)
+    (λ c. search needs)
+    (λ c κs. search needs)
+    (λ c. search needs)
+    (λ c κs. search needs)
+    (λ c. search needs)
+    (λ c κs. search needs)
+    (λ c. search needs)
+    (λ c κs. search needs)
+    (λ c. search needs)
     returns
-    same-length-2
+    (λ c. search needs)
     returns-2
-    same-length-3
+    (λ c. search needs)
     returns-3
-    same-length-4
+    (λ c. search needs)
     returns-4
     returns-5
     returns-6)

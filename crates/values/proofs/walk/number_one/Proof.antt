@@ -1,94 +1,65 @@
+use Rattle.values.proofs.Walking.{as-becomes, number-other}
+use native.Mathlib.Omega.{arith}
+use mathlib.Core.Path.{sym, _∙_}
+use Rattle.values.specs.Number.{numberBy}
+use Rattle.values.specs.Walk.{Named, takes}
 use borrow.Author.Needs.{needs}
 use Rattle.values.proofs.walk.number_one.Statement.{statement}
 use Rattle.values.proofs.walk.number_one.Tie as tie
-use Rattle.values.proofs.walk.number_one.Reads as reads
-use Rattle.values.proofs.walk.number_one.Lts as lts
-use Rattle.instruction.proofs.Instruction.class.Reads as class-reads
-use Rattle.values.proofs.walk.number_jump.Reads as number-jump-reads
-use Rattle.values.proofs.walk.number_other.Reads as number-other-reads
-use Rattle.values.proofs.walk.number_return.Reads as number-return-reads
 
--- src/walk.rt:324:9
-class-requires : tie.Need-class-requires
-class-requires c κs = search needs
-
--- src/walk.rt:326:38
-enum-told : tie.Need-enum-told
-enum-told c = search needs
-
--- src/walk.rt:326:26
 number-jump-requires : tie.Need-number-jump-requires
-number-jump-requires c κs = ?
+unfolding Named
+number-jump-requires c κs = let k = sym (c .before .before .before .class .ensures) ∙ c .before .enum-told .given .1 in (c .before .before .before .before .before .before .before .pre .0, rw k at (c .before .before .before .before .before .before .before .pre .1))
 
--- src/walk.rt:327:41
-enum-told-2 : tie.Need-enum-told-2
-enum-told-2 c = search needs
-
--- src/walk.rt:327:29
 number-jump-requires-2 : tie.Need-number-jump-requires-2
-number-jump-requires-2 c κs = ?
+unfolding Named
+number-jump-requires-2 c κs = let k = sym (c .before .before .before .class .ensures) ∙ c .before .enum-told2 .given .1 in (c .before .before .before .before .before .before .before .pre .0, rw k at (c .before .before .before .before .before .before .before .pre .1))
 
--- src/walk.rt:328:40
-enum-told-3 : tie.Need-enum-told-3
-enum-told-3 c = search needs
-
--- src/walk.rt:328:26
 number-return-requires : tie.Need-number-return-requires
-number-return-requires c κs = ?
+unfolding Named
+number-return-requires c κs = let k = sym (c .before .before .before .class .ensures) ∙ c .before .enum-told3 .given .1 in (c .before .before .before .before .before .before .before .pre .0, rw k at (c .before .before .before .before .before .before .before .pre .1))
 
--- src/walk.rt:329:14
 number-other-requires : tie.Need-number-other-requires
-number-other-requires c κs = ?
+number-other-requires c κs = (c .before .before .before .before .before .before .pre .0, rw (c .before .before .class .ensures) (c .before .before .before .before .before .before .pre .1))
 
--- src/walk.rt:320:1
-same-length : tie.Need-same-length
-same-length c = search needs
-
--- src/walk.rt:320:1
 returns : tie.Need-returns
-returns c = ?
+unfolding Named numberBy takes
+returns c =
+    let k = sym (c .before .before .before .before .before .before .class .ensures) ∙ c .before .before .before .before .enum-told .given .1 in
+    as-becomes (omega arith) (omega arith) (omega arith) (λ dest d l T v y h. (tt, rw k)) (c .before .before .number-jump .ensures)
 
--- src/walk.rt:320:1
-same-length-2 : tie.Need-same-length-2
-same-length-2 c = search needs
-
--- src/walk.rt:320:1
 returns-2 : tie.Need-returns-2
-returns-2 c = ?
+unfolding Named numberBy takes
+returns-2 c =
+    let k = sym (c .before .before .before .before .before .before .class .ensures) ∙ c .before .before .before .before .enum-told2 .given .1 in
+    as-becomes (omega arith) (omega arith) (omega arith) (λ dest d l T v y h. (tt, rw k)) (c .before .before .number-jump2 .ensures)
 
--- src/walk.rt:320:1
-same-length-3 : tie.Need-same-length-3
-same-length-3 c = search needs
-
--- src/walk.rt:320:1
 returns-3 : tie.Need-returns-3
-returns-3 c = ?
+unfolding Named numberBy takes
+returns-3 c =
+    let k = sym (c .before .before .before .before .before .before .class .ensures) ∙ c .before .before .before .before .enum-told3 .given .1 in
+    as-becomes (omega arith) (omega arith) (omega arith) (λ dest d l T v y h. (tt, rw k)) (c .before .before .number-return .ensures)
 
--- src/walk.rt:320:1
-same-length-4 : tie.Need-same-length-4
-same-length-4 c = search needs
-
--- src/walk.rt:320:1
 returns-4 : tie.Need-returns-4
-returns-4 c = ?
+returns-4 c = as-becomes (omega arith) (omega arith) (omega arith) (λ dest d l T v y h. (y, sym (rw (← c .before .before .before .before .before .class .ensures) (number-other _ _ (c .before .before .before .before .before .before .before .before .before .args .p) (c .before .before .before .before .before .before .before .before .before .args .i) v (c .before .before .before .before .match .keys4))))) (c .before .before .number-other .ensures)
 
 pub number-one-spec : {M : Type 1} → statement M
 number-one-spec =
     tie.close
     (tie.spec
-    class-requires
-    enum-told
+    (λ c κs. search needs)
+    (λ c. search needs)
     number-jump-requires
-    enum-told-2
+    (λ c. search needs)
     number-jump-requires-2
-    enum-told-3
+    (λ c. search needs)
     number-return-requires
     number-other-requires
-    same-length
+    (λ c. search needs)
     returns
-    same-length-2
+    (λ c. search needs)
     returns-2
-    same-length-3
+    (λ c. search needs)
     returns-3
-    same-length-4
+    (λ c. search needs)
     returns-4)

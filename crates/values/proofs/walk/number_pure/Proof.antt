@@ -1,143 +1,81 @@
+use Rattle.values.proofs.Walking.{pure-by, pure-none, forget-becomes}
+use native.Mathlib.Omega.{arith}
+use mathlib.Core.Path.{refl}
+use Rattle.values.specs.Memory.{Sound}
+use Rattle.values.specs.Walk.{Named, pureBy}
 use borrow.Author.Needs.{needs}
 use Rattle.values.proofs.walk.number_pure.Statement.{statement}
 use Rattle.values.proofs.walk.number_pure.Tie as tie
-use Rattle.values.proofs.walk.number_pure.Reads as reads
-use Rattle.values.proofs.walk.number_pure.Lts as lts
-use Rattle.instruction.proofs.Instruction.imm32.Reads as imm32-reads
-use Rattle.unit.proofs.entry.constant.Reads as constant-reads
-use Rattle.values.proofs.walk.forget.Reads as forget-reads
-use Rattle.values.proofs.walk.number_binary.Reads as number-binary-reads
-use Rattle.values.proofs.walk.number_constant.Reads as number-constant-reads
-use Rattle.values.proofs.walk.number_copy.Reads as number-copy-reads
-use Rattle.values.proofs.walk.number_unary.Reads as number-unary-reads
-use Rattle.values.proofs.walk.store.Reads as store-reads
 
--- src/walk.rt:227:33
-enum-told : tie.Need-enum-told
-enum-told c = search needs
-
--- src/walk.rt:227:67
-imm32-requires : tie.Need-imm32-requires
-imm32-requires c κs = search needs
-
--- src/walk.rt:227:27
 store-requires : tie.Need-store-requires
-store-requires c κs = ?
+unfolding Named
+store-requires c κs = let h = rw (c .before .before .enum-told .given .1) at (c .before .before .before .before .before .before .before .pre .1) in (c .before .before .before .before .before .before .before .pre .0 .ready, omega arith, h)
 
--- src/walk.rt:229:61
-enum-told-2 : tie.Need-enum-told-2
-enum-told-2 c = search needs
-
--- src/walk.rt:229:61
-cast-constant : tie.Need-cast-constant
-cast-constant c = search needs
-
--- src/walk.rt:229:17
-constant-requires : tie.Need-constant-requires
-constant-requires c κs = search needs
-
--- src/walk.rt:230:13
 number-constant-requires : tie.Need-number-constant-requires
-number-constant-requires c κs = ?
+unfolding Named
+number-constant-requires c κs = (c .before .before .before .before .before .before .before .before .pre .0, rw (c .before .before .before .enum-told2 .given .1) at (c .before .before .before .before .before .before .before .before .pre .1))
 
--- src/walk.rt:232:36
-enum-told-3 : tie.Need-enum-told-3
-enum-told-3 c = search needs
-
--- src/walk.rt:232:24
 number-copy-requires : tie.Need-number-copy-requires
-number-copy-requires c κs = ?
+unfolding Named
+number-copy-requires c κs = let h = rw (c .before .enum-told3 .given .1) at (c .before .before .before .before .before .before .pre .1) in (c .before .before .before .before .before .before .pre .0, h .0, h .1)
 
--- src/walk.rt:233:38
-enum-told-4 : tie.Need-enum-told-4
-enum-told-4 c = search needs
-
--- src/walk.rt:233:25
 number-unary-requires : tie.Need-number-unary-requires
-number-unary-requires c κs = ?
+unfolding Named
+number-unary-requires c κs = let h = rw (c .before .enum-told4 .given .1) at (c .before .before .before .before .before .before .pre .1) in (c .before .before .before .before .before .before .pre .0, h .0, h .1)
 
--- src/walk.rt:234:40
-enum-told-5 : tie.Need-enum-told-5
-enum-told-5 c = search needs
-
--- src/walk.rt:234:26
 number-binary-requires : tie.Need-number-binary-requires
-number-binary-requires c κs = ?
+unfolding Named
+number-binary-requires c κs = let h = rw (c .before .enum-told5 .given .1) at (c .before .before .before .before .before .before .pre .1) in (c .before .before .before .before .before .before .pre .0, h .0, h .1, h .2)
 
--- src/walk.rt:235:14
-forget-requires : tie.Need-forget-requires
-forget-requires c κs = search needs
-
--- src/walk.rt:222:1
-same-length : tie.Need-same-length
-same-length c = search needs
-
--- src/walk.rt:222:1
 returns : tie.Need-returns
-returns c = ?
+unfolding pureBy Sound
+returns c = pure-by (c .before .before .before .before .before .before .before .before .before .before .args .i) (c .before .before .before .before .before .before .before .before .before .before .args .p) _ (c .before .before .before .before .before .enum-told .given .1) (λ dest d l T v y. (omega arith, rw (c .before .before .before .imm32 .ensures))) (omega arith) (omega arith) (omega arith) (c .before .before .store .ensures)
 
--- src/walk.rt:222:1
-same-length-2 : tie.Need-same-length-2
-same-length-2 c = search needs
-
--- src/walk.rt:222:1
 returns-2 : tie.Need-returns-2
-returns-2 c = ?
+unfolding pureBy
+returns-2 c = pure-by (c .before .before .before .before .before .before .before .before .before .before .before .args .i) (c .before .before .before .before .before .before .before .before .before .before .before .args .p) _ (c .before .before .before .before .before .before .enum-told2 .given .1) (λ dest d l T v y. (tt, rw (y .1, c .before .before .before .before .constant .ensures))) (omega arith) (omega arith) (omega arith) (c .before .before .number-constant .ensures)
 
--- src/walk.rt:222:1
-same-length-3 : tie.Need-same-length-3
-same-length-3 c = search needs
-
--- src/walk.rt:222:1
 returns-3 : tie.Need-returns-3
-returns-3 c = ?
+unfolding pureBy
+returns-3 c = pure-by (c .before .before .before .before .before .before .before .before .before .args .i) (c .before .before .before .before .before .before .before .before .before .args .p) _ (c .before .before .before .before .enum-told3 .given .1) (λ dest d l T v y. (tt, refl)) (omega arith) (omega arith) (omega arith) (c .before .before .number-copy .ensures)
 
--- src/walk.rt:222:1
-same-length-4 : tie.Need-same-length-4
-same-length-4 c = search needs
-
--- src/walk.rt:222:1
 returns-4 : tie.Need-returns-4
-returns-4 c = ?
+unfolding pureBy
+returns-4 c = pure-by (c .before .before .before .before .before .before .before .before .before .args .i) (c .before .before .before .before .before .before .before .before .before .args .p) _ (c .before .before .before .before .enum-told4 .given .1) (λ dest d l T v y. (y .0, refl)) (omega arith) (omega arith) (omega arith) (c .before .before .number-unary .ensures)
 
--- src/walk.rt:222:1
-same-length-5 : tie.Need-same-length-5
-same-length-5 c = search needs
-
--- src/walk.rt:222:1
 returns-5 : tie.Need-returns-5
-returns-5 c = ?
+unfolding pureBy
+returns-5 c = pure-by (c .before .before .before .before .before .before .before .before .before .args .i) (c .before .before .before .before .before .before .before .before .before .args .p) _ (c .before .before .before .before .enum-told5 .given .1) (λ dest d l T v y. (y .0, refl)) (omega arith) (omega arith) (omega arith) (c .before .before .number-binary .ensures)
 
--- src/walk.rt:222:1
 returns-6 : tie.Need-returns-6
-returns-6 c = ?
+returns-6 c = forget-becomes (c .before .before .before .before .before .pre .0) (c .forget .ensures .0) (c .forget .ensures .1) (λ d l T v. pure-none _ (c .before .before .before .before .before .args .k) (c .before .before .before .before .before .args .p) (c .before .before .before .before .before .args .i) v (c .before .match .keys6))
 
 pub number-pure-spec : {M : Type 1} → statement M
 number-pure-spec =
     tie.close
     (tie.spec
-    enum-told
-    imm32-requires
+    (λ c. search needs)
+    (λ c κs. search needs)
     store-requires
-    enum-told-2
-    cast-constant
-    constant-requires
+    (λ c. search needs)
+    (λ c. search needs)
+    (λ c κs. search needs)
     number-constant-requires
-    enum-told-3
+    (λ c. search needs)
     number-copy-requires
-    enum-told-4
+    (λ c. search needs)
     number-unary-requires
-    enum-told-5
+    (λ c. search needs)
     number-binary-requires
-    forget-requires
-    same-length
+    (λ c κs. search needs)
+    (λ c. search needs)
     returns
-    same-length-2
+    (λ c. search needs)
     returns-2
-    same-length-3
+    (λ c. search needs)
     returns-3
-    same-length-4
+    (λ c. search needs)
     returns-4
-    same-length-5
+    (λ c. search needs)
     returns-5
     returns-6)

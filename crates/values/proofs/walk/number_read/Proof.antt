@@ -1,21 +1,11 @@
+use Rattle.values.proofs.Walking.{read-becomes}
+use mathlib.Core.Path.{refl}
 use borrow.Author.Needs.{needs}
 use Rattle.values.proofs.walk.number_read.Statement.{statement}
 use Rattle.values.proofs.walk.number_read.Tie as tie
-use Rattle.values.proofs.walk.number_read.Reads as reads
-use Rattle.values.proofs.walk.number_read.Lts as lts
-use Rattle.values.proofs.table.representative.Reads as representative-reads
 
--- src/walk.rt:244:9
-representative-requires : tie.Need-representative-requires
-representative-requires c κs = search needs
-
--- src/walk.rt:240:1
-same-length : tie.Need-same-length
-same-length c = search needs
-
--- src/walk.rt:240:1
 returns : tie.Need-returns
-returns c = ?
+returns c = read-becomes (c .before .before .before .before .before .before .before .args .i) (c .before .before .before .before .before .before .before .pre .1) (c .before .before .before .representative .ensures) refl refl
 
 pub number-read-spec : {M : Type 1} → statement M
-number-read-spec = tie.close (tie.spec representative-requires same-length returns)
+number-read-spec = tie.close (tie.spec (λ c κs. search needs) (λ c. search needs) returns)
