@@ -4,3 +4,5 @@ pub mod Encoding
 pub mod Holding
 pub mod Recording
 pub mod Walking
+pub mod Starting
+pub mod Loop

@@ -27,6 +27,7 @@ use Rattle.values.specs.declared.Folded.{Folded}
 use Rattle.values.specs.declared.Folded.the-variants.{Word, Not}
 use Rattle.values.specs.declared.State.{State}
 use Rattle.values.specs.declared.Step.{Step}
+use Rattle.values.specs.declared.Turn.{Turn}
 
 -- the slots that numbering an instruction looks at are below S
 unfoldable pub Named : Class → ℕ → Instruction → Type 0
@@ -174,3 +175,32 @@ module _ (S : Sections) (leaders : List ℕ) where
   pub code-words : (words metadata : List ℕ) → map (λ (x : Cell). toWord (x .instruction)) (numberCode S leaders (cellsBy words metadata)) ≡ numberWords 0 empty words
   unfolding numberCode cellsBy
   code-words words metadata = number-words metadata 0 0 empty words
+
+-- ---- what the walk starts from
+
+-- the first state: no entries, and an epoch that no word is of
+abbrev pub started : State
+started = record { epoch = 1; rbase = 0; rcount = 0; ebase = 0; ecount = 0 }
+
+pub record Begins (n S : ℕ) (t t′ : List ℕ) : Type 0 where
+  pub ready : Ready n S started t′
+  pub holds : (dest : ℕ → ℕ) → Holds n S dest empty started (memoryOf n S t′)
+
+-- a block starts with nothing known
+abbrev pub entered : State → ℕ → State
+entered st leader = cond (eqb leader 1) (record { epoch = st .epoch + 1; rbase = st .rcount; rcount = st .rcount; ebase = st .ecount; ecount = st .ecount }) st
+
+-- a turn of the walk at place p, at the word w
+pub record Turns (n : ℕ) (types constants : List ℕ) (leader w p : ℕ) (st : State) (t : List ℕ) (x : Turn) (t′ : List ℕ) : Type 0 where
+  pub kept : Kept n (length types) 2 3 1 st t (x .state) t′
+  pub holds : (dest : ℕ → ℕ) (locals : ℕ) (tables : Tables) (v : Values) → Stands n p (ofWord w) dest → Holds n (length types) dest v st (memoryOf n (length types) t)
+      → (x .word ≡ toWord (number (sectionsOf types constants locals tables) p (ofWord w) (cond (eqb leader 1) empty v) .instruction))
+      × Holds n (length types) dest (number (sectionsOf types constants locals tables) p (ofWord w) (cond (eqb leader 1) empty v) .table) (x .state) (memoryOf n (length types) t′)
+
+-- what the walk asks: "slots below s" is what the check of all operands shows
+pub record Numberable (words leaders types table : List ℕ) : Type 0 where
+  pub few : length words ≤ 65536
+  pub marks : length leaders ≡ length words
+  pub locals : length types ≤ 65536
+  pub long : 23 * length words + 4 * length types ≤ length table
+  pub named : (p : ℕ) → p < length words → Named (class (ofWord (getD words p 0))) (length types) (ofWord (getD words p 0))

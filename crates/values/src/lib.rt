@@ -53,3 +53,9 @@ pub struct Step {
     pub instruction: Instruction,
     pub state: State,
 }
+
+// An instruction's word as it becomes, and the state after it.
+pub struct Turn {
+    pub word: u64,
+    pub state: State,
+}

@@ -1,17 +1,19 @@
 // The walk over the function: each instruction rewritten by the values known before it.
 ghost use mathlib.Core.Path.{_≡_};
 ghost use mathlib.Core.Bool.{Bool, cond, not};
-ghost use mathlib.Core.List.{List};
+ghost use mathlib.Core.List.{List, map};
 ghost use Prim.Native.Nat.{ℕ, _+_, _*_, _≤_, _<_};
 ghost use lib.Dec.{eqb};
 ghost use lib.ListN.{length, getD};
-ghost use Rattle.instruction.specs.Instruction.{class};
+ghost use Rattle.instruction.specs.Instruction.{class, ofWord, toWord};
+ghost use Rattle.effects.specs.Shape.{Cell, Tables};
+ghost use Rattle.effects.specs.Cells.{cellsBy};
 ghost use Rattle.values.specs.Table.{valueOf, expressionIn, recordedSlot};
-ghost use Rattle.values.specs.Number.{loadOrStay, isScalar, copyOrStay, constantAtom, stored as storedBy, byExpression, byValue, numberUnary, numberBinary, numberCopy, numberConstant, numberRead, numberJump, numberBy, number};
+ghost use Rattle.values.specs.Number.{loadOrStay, isScalar, copyOrStay, constantAtom, stored as storedBy, byExpression, byValue, numberUnary, numberBinary, numberCopy, numberConstant, numberRead, numberJump, numberBy, number, numberCode};
 ghost use Rattle.values.specs.Folded.{expressionOf};
-ghost use Rattle.values.specs.Memory.{memoryOf, keyOf, Ready, Sound, SoundExpression};
+ghost use Rattle.values.specs.Memory.{memoryOf, endAt, keyOf, Ready, Sound, SoundExpression};
 ghost use Rattle.values.specs.Entries.{bucketOf};
-ghost use Rattle.values.specs.Walk.{Named, wordOf, Stands, Known, Becomes, Defines, Room, combined, scalarIn, pureBy, undecidedBy, takes, otherBy};
+ghost use Rattle.values.specs.Walk.{Named, wordOf, Stands, Known, Becomes, Defines, Room, combined, scalarIn, pureBy, undecidedBy, takes, otherBy, sectionsOf, started, Begins, entered, Turns, Numberable};
 ghost use Rattle.values.specs.Kept.{cleared};
 ghost use Rattle.instruction.specs.declared.Class.the-variants.{Return};
 ghost use Rattle.values.specs.declared.Atom.the-variants.{Integer, Definition};
@@ -21,6 +23,7 @@ use crate::Found;
 use crate::Key;
 use crate::State;
 use crate::Step;
+use crate::Turn;
 use crate::entries;
 use crate::fold;
 use crate::slots;
@@ -398,5 +401,87 @@ fn number_one(
         Class::JumpIfNot => number_jump(t, types, n, st, i, true),
         Class::Return => number_return(t, types, n, st, i),
         _ => number_other(t, types, constants, n, st, i, p, k),
+    }
+}
+
+// An empty table of values: the words of slots and places and the heads of both tables of entries are 0.
+fn begin(t: &mut [u64], n: usize, locals: usize) -> State
+    requires { ⌜ (0 < n) × (n ≤ 65536) × (locals ≤ 65536) × (endAt n locals ≤ length (now t)) ⌝ }
+    ensures { λ r. ⌜ (r ≡ started) × Begins n locals (now (t .entry)) (now (t .exit)) ⌝ }
+{
+    let heads = 4 * locals + n + n;
+    words::fill::zero_u64(&mut t[0..heads]);
+    let expressions = 4 * locals + n + 16 * n;
+    let end = expressions + n;
+    words::fill::zero_u64(&mut t[expressions..end]);
+    State {
+        epoch: 1,
+        rbase: 0,
+        rcount: 0,
+        ebase: 0,
+        ecount: 0,
+    }
+}
+
+// The state at a place: cleared where a block starts.
+fn enter(st: State, leader: u32) -> State
+    requires { ⌜ st .epoch < 2199023255552 ⌝ }
+    ensures { λ r. ⌜ r ≡ entered st leader ⌝ }
+{
+    if leader == 1 {
+        return table::clear(st);
+    }
+    st
+}
+
+// A turn of the walk.
+fn turn(
+    t: &mut [u64],
+    types: &[u8],
+    constants: &[u8],
+    n: usize,
+    st: State,
+    leader: u32,
+    w: u64,
+    p: u32,
+) -> Turn
+    requires { ⌜ Room n (length (now types)) st (now t) × (st .epoch + 2 < 1099511627776) × Named (class (ofWord w)) (length (now types)) (ofWord w) ⌝ }
+    ensures { λ r. ⌜ Turns n (now (types .entry)) (now (constants .entry)) leader w p st (now (t .entry)) r (now (t .exit)) ⌝ }
+{
+    let at = enter(st, leader);
+    let i = Instruction::from_word(w);
+    let step = number_one(t, types, constants, n, at, i, p);
+    let state = step.state;
+    let numbered = step.instruction;
+    Turn {
+        word: numbered.word(),
+        state,
+    }
+}
+
+// Value numbering of a whole function, `words` its code, in the lent memory `memory`.
+pub fn number_code(
+    code: &mut [u64],
+    leaders: &[u32],
+    types: &[u8],
+    constants: &[u8],
+    memory: &mut [u64],
+)
+    requires { ⌜ Numberable (now code) (now leaders) (now types) (now memory) ⌝ }
+    ensures { λ _. ⌜ ((metadata : List ℕ) (locals : ℕ) (tables : Tables) → now (code .exit) ≡ map (λ (x : Cell). toWord (x .instruction)) (numberCode (sectionsOf (now (types .entry)) (now (constants .entry)) locals tables) (now (leaders .entry)) (cellsBy (now (code .entry)) metadata))) ⌝ }
+{
+    let n = code.len();
+    if n == 0 {
+        return;
+    }
+    let mut st = begin(memory, n, types.len());
+    let mut p = 0;
+    while p < n {
+        let w = code[p];
+        let leader = leaders[p];
+        let r = turn(memory, types, constants, n, st, leader, w, p as u32);
+        code[p] = r.word;
+        st = r.state;
+        p += 1;
     }
 }
