@@ -1,3 +1,11 @@
 pub mod Fold
+pub mod Bitwise
 pub mod Table
 pub mod Number
+pub mod Folded
+pub mod Entries
+pub mod Chain
+pub mod Adding
+pub mod Memory
+pub mod Kept
+pub mod Walk

@@ -1,0 +1,181 @@
+-- The walk's invariant: what is numbered so far, followed by what the definition makes of the rest.
+-- Assumes nothing.
+use mathlib.Core.Path.{_≡_, refl, sym, ap, _∙_}
+use mathlib.Core.Bool.{Bool, true, false, cond}
+use mathlib.Core.List.{List, [], _∷_, _++_, append-assoc, append-nil, map}
+use Prim.Native.Nat.{ℕ, suc, _+_, _*_, _-_, _^_, _≤_, _<_}
+use native.Mathlib.Numerals.{add-one}
+use native.Mathlib.Omega.{arith}
+use lib.Dec.{eqb}
+use lib.ListN.{length, getD, set, take, drop, length-set}
+use lib.Seq.{take-suc-set, drop-cons, take-all, getD-set-other, drop-length}
+use Rattle.instruction.specs.declared.Instruction.{Instruction}
+use Rattle.instruction.specs.Instruction.{class, ofWord, toWord}
+use Rattle.effects.specs.Shape.{Sections, Tables, Cell}
+use Rattle.effects.specs.Cells.{cellsBy}
+use Rattle.values.specs.Table.{Values, empty}
+use Rattle.values.specs.Number.{number, numberCode}
+use Rattle.values.specs.Memory.{endAt, memoryOf, Ready, Holds}
+use Rattle.values.specs.Kept.{Kept, cleared}
+use Rattle.values.specs.Walk.{sectionsOf, Stands, Room, Becomes, numberWords, code-words, started, Begins, entered, Turns, Numberable}
+use Rattle.values.specs.declared.State.{State}
+use Rattle.values.specs.declared.Step.{Step}
+use Rattle.values.specs.declared.Turn.{Turn}
+use Rattle.values.proofs.Holding.{hold-nothing}
+
+-- the destinations of the places
+abbrev pub destOf : List ℕ → ℕ → ℕ
+destOf code q = ofWord (getD code q 0) .a
+
+-- the fields of a word fit
+pub stands : (code : List ℕ) (n p : ℕ) → p < n → Stands n p (ofWord (getD code p 0)) (destOf code)
+unfolding ofWord
+stands code n p h = record { op = omega arith; flags = omega arith; a = omega arith; place = h; own = refl }
+
+-- a block's start
+module _ {n S : ℕ} {st : State} {t : List ℕ} (g : Room n S st t) (more : st .epoch + 2 < 2 ^ 40) where
+  pub enter-room : (leader : ℕ) → Room n S (entered st leader) t
+  enter-room leader = go (eqb leader 1)
+    where
+      go : (b : Bool) → Room n S (cond b (cleared st) st) t
+      go false = g
+      go true =
+          record {
+            ready = record {
+              locals = g .ready .locals;
+              long = g .ready .long;
+              constants = g .ready .constants;
+              expressions = g .ready .expressions;
+              constants-base = omega arith;
+              expressions-base = omega arith;
+              epoch = g .epoch;
+            };
+            constants = g .constants;
+            expressions = g .expressions;
+            epoch = omega arith;
+          }
+
+  enter-holds : (leader : ℕ) (dest : ℕ → ℕ) (v : Values) → Holds n S dest v st (memoryOf n S t)
+      → Holds n S dest (cond (eqb leader 1) empty v) (entered st leader) (memoryOf n S t)
+  enter-holds leader dest v h = go (eqb leader 1)
+    where
+      go : (b : Bool) → Holds n S dest (cond b empty v) (cond b (cleared st) st) (memoryOf n S t)
+      go false = h
+      go true =
+          hold-nothing n S (g .ready .constants .few) dest (cleared st) (memoryOf n S t)
+          (λ s. omega (arith, h .past .slots s)) (λ s. omega (arith, h .past .starts s)) (λ s. omega (arith, h .past .places s)) refl refl (g .ready .locals)
+
+  entered-counts : (leader : ℕ) → (entered st leader .epoch ≤ st .epoch + 1) × (entered st leader .rcount ≡ st .rcount) × (entered st leader .ecount ≡ st .ecount)
+  entered-counts leader = go (eqb leader 1)
+    where
+      go : (b : Bool) → (cond b (cleared st) st .epoch ≤ st .epoch + 1) × (cond b (cleared st) st .rcount ≡ st .rcount) × (cond b (cleared st) st .ecount ≡ st .ecount)
+      go false = (omega arith, refl, refl)
+      go true = (omega arith, refl, refl)
+
+pub turns : {n : ℕ} {types : List ℕ} {st : State} {t : List ℕ} {constants : List ℕ} {leader w p : ℕ} {x : Step} {y : Turn} {t′ : List ℕ} → Room n (length types) st t → st .epoch + 2 < 2 ^ 40
+    → Becomes n types 1 3 1 (entered st leader) t x t′ (λ dest c. Stands n p (ofWord w) dest × (c ≡ constants)) (λ S v. number S p (ofWord w) v)
+    → y .word ≡ toWord (x .instruction) → y .state ≡ x .state → Turns n types constants leader w p st t y t′
+turns {n} {types} {st} {t} {constants} {leader} {w} {p} {x} {y} {t′} g more b e q =
+    let c = entered-counts g more leader in
+    record {
+      kept = rw q (record {
+        ready = b .kept .ready;
+        long = b .kept .long;
+        epochs = omega (arith, b .kept .epochs, c .0);
+        constants = omega (arith, b .kept .constants, c .1);
+        expressions = omega (arith, b .kept .expressions, c .2);
+      });
+      holds = λ dest l T v z h.
+          let r = b .holds dest constants l T (cond (eqb leader 1) empty v) (z, refl) (enter-holds g more leader dest v h) in
+          (e ∙ ap toWord (r .0), rw q (r .1));
+    }
+
+-- the invariant at place p
+pub record Progress (code₀ leaders types constants : List ℕ) (n : ℕ) (long : ℕ) (code memory : List ℕ) (st : State) (p : ℕ) : Type 0 where
+  pub here : p ≤ n
+  pub size : length code ≡ n
+  pub size₀ : length code₀ ≡ n
+  pub room : length memory ≡ long
+  pub ready : Ready n (length types) st memory
+  pub constants-few : st .rcount ≤ 3 * p
+  pub expressions-few : st .ecount ≤ p
+  pub epochs-few : st .epoch ≤ 2 * p + 1
+  pub later : (q : ℕ) → p ≤ q → getD code q 0 ≡ getD code₀ q 0
+  pub walk : (locals : ℕ) (tables : Tables) → (v : Values) × Holds n (length types) (destOf code₀) v st (memoryOf n (length types) memory)
+      × (take p code ++ numberWords (sectionsOf types constants locals tables) leaders p v (drop p code₀) ≡ numberWords (sectionsOf types constants locals tables) leaders 0 empty code₀)
+
+module _ {code₀ leaders types constants : List ℕ} {n long : ℕ} where
+  pub progress-start : {memory : List ℕ} → length code₀ ≡ n → length memory ≡ long → (memory₀ : List ℕ) → Begins n (length types) memory₀ memory
+      → Progress code₀ leaders types constants n long code₀ memory started 0
+  progress-start e l memory₀ b =
+      record {
+        here = omega arith;
+        size = e;
+        size₀ = e;
+        room = l;
+        ready = b .ready;
+        constants-few = omega arith;
+        expressions-few = omega arith;
+        epochs-few = omega arith;
+        later = λ q h. refl;
+        walk = λ locals tables. (empty, b .holds (destOf code₀), refl);
+      }
+
+  -- room for a turn
+  module _ {code memory : List ℕ} {st : State} {p : ℕ} (g : Progress code₀ leaders types constants n long code memory st p) (l : p < n) where
+    pub turn-room : n ≤ 65536 → Room n (length types) st memory
+    turn-room few =
+        record {
+          ready = g .ready;
+          constants = omega (arith, g .constants-few);
+          expressions = omega (arith, g .expressions-few);
+          epoch = omega (arith, g .epochs-few);
+        }
+
+    pub progress-turn : {leader w : ℕ} {x : Turn} {memory′ : List ℕ} → leader ≡ getD leaders p 0 → w ≡ getD code p 0 → Turns n types constants leader w p st memory x memory′
+        → Progress code₀ leaders types constants n long (set code p (x .word)) memory′ (x .state) (p + 1)
+    unfolding numberWords
+    progress-turn {leader} {w} {x} {memory′} q r b =
+        let same : w ≡ getD code₀ p 0 = r ∙ g .later p (omega arith) in
+        let inside : p < length code = omega (arith, g .size) in
+        let inside₀ : p < length code₀ = omega (arith, g .size₀) in
+        record {
+          here = omega arith;
+          size = length-set code p (x .word) ∙ g .size;
+          size₀ = g .size₀;
+          room = b .kept .long ∙ g .room;
+          ready = b .kept .ready;
+          constants-few = omega (arith, b .kept .constants, g .constants-few);
+          expressions-few = omega (arith, b .kept .expressions, g .expressions-few);
+          epochs-few = omega (arith, b .kept .epochs, g .epochs-few);
+          later = λ i h. getD-set-other code p i (x .word) 0 (λ e. omega arith) ∙ g .later i (omega arith);
+          walk = λ locals tables.
+              let k = g .walk locals tables in
+              let s : Stands n p (ofWord w) (destOf code₀) = rw same (stands code₀ n p l) in
+              let y = b .holds (destOf code₀) locals tables (k .0) s (k .1) in (
+                number (sectionsOf types constants locals tables) p (ofWord w) (cond (eqb leader 1) empty (k .0)) .table,
+                y .1,
+                rw (add-one p, take-suc-set code p (x .word) inside)
+                    (append-assoc (take p code) (x .word ∷ []) _
+                    ∙ rw (y .0, q, same) (ap (λ (z : List ℕ). take p code ++ numberWords (sectionsOf types constants locals tables) leaders p (k .0) z) (sym (drop-cons code₀ p 0 inside₀)) ∙ k .2)),
+              );
+        }
+
+  pub progress-end : {code memory : List ℕ} {st : State} {p : ℕ} → Progress code₀ leaders types constants n long code memory st p → n ≤ p → (metadata : List ℕ) (locals : ℕ) (tables : Tables)
+      → code ≡ map (λ (x : Cell). toWord (x .instruction)) (numberCode (sectionsOf types constants locals tables) leaders (cellsBy code₀ metadata))
+  unfolding numberWords
+  progress-end {code} {memory} {st} {p} g h metadata locals tables =
+      let k = g .walk locals tables in
+      let at : p ≡ n = omega (arith, g .here) in
+      let all : take p code ≡ code = take-all p code (omega (arith, g .size)) in
+      let none : drop p code₀ ≡ [] = ap (λ (i : ℕ). drop i code₀) (at ∙ sym (g .size₀)) ∙ drop-length code₀ in
+      let whole = k .2 in
+      let done : code ++ numberWords (sectionsOf types constants locals tables) leaders p (k .0) [] ≡ numberWords (sectionsOf types constants locals tables) leaders 0 empty code₀ = rw (all, none) at whole in
+      sym (append-nil code) ∙ done ∙ sym (code-words (sectionsOf types constants locals tables) leaders code₀ metadata)
+
+-- no code
+pub no-code : (code leaders types constants : List ℕ) → length code ≡ 0 → (metadata : List ℕ) (locals : ℕ) (tables : Tables)
+    → code ≡ map (λ (x : Cell). toWord (x .instruction)) (numberCode (sectionsOf types constants locals tables) leaders (cellsBy code metadata))
+unfolding numberWords
+no-code [] leaders types constants e metadata locals tables = sym (code-words (sectionsOf types constants locals tables) leaders [] metadata)
+no-code (w ∷ ws) leaders types constants e metadata locals tables = absurd (omega arith)

@@ -1,0 +1,16 @@
+use Rattle.values.specs.Memory.{markAt}
+use borrow.Author.Tests.{ne-eqb, eq-eqb}
+use borrow.Author.Needs.{needs}
+use Rattle.values.proofs.slots.marked.Statement.{statement}
+use Rattle.values.proofs.slots.marked.Tie as tie
+
+returns : tie.Need-returns
+unfolding markAt
+returns c = rw (eq-eqb _ _ (c .if1 .taken))
+
+returns-2 : tie.Need-returns-2
+unfolding markAt
+returns-2 c = rw (ne-eqb _ _ (c .if1 .left))
+
+pub marked-spec : {M : Type 1} → statement M
+marked-spec = tie.close (tie.spec (λ c. search needs) (λ c. search needs) returns returns-2)

@@ -1,0 +1,27 @@
+use Rattle.values.proofs.Walking.{expression-found, expression-none}
+use borrow.Author.Needs.{needs}
+use Rattle.values.proofs.walk.by_expression.Statement.{statement}
+use Rattle.values.proofs.walk.by_expression.Tie as tie
+
+returns : tie.Need-returns
+returns c = expression-found (c .before .before .before .before .before .before .before .before .before .before .before .before .before .before .args .i) (c .before .before .before .before .before .before .before .before .before .before .before .before .before .before .args .p) (c .before .before .before .before .before .before .before .before .before .before .before .before .before .before .args .left) (c .before .before .before .before .before .before .before .before .before .before .before .before .before .before .args .right) (c .before .before .before .before .before .before .before .before .before .before .before .key-of .ensures) (c .before .before .before .before .before .before .before .before .find-expression .ensures) (c .before .before .before .before .before .before .x .given .1) (c .before .before .before .decode .ensures) (c .before .before .copy-or-stay .ensures)
+
+returns-2 : tie.Need-returns-2
+returns-2 c = expression-none (c .before .before .before .before .before .before .before .before .before .before .before .before .args .i) (c .before .before .before .before .before .before .before .before .before .before .before .before .args .p) (c .before .before .before .before .before .before .before .before .before .before .before .before .args .left) (c .before .before .before .before .before .before .before .before .before .before .before .before .args .right) (c .before .before .before .before .before .before .before .before .before .key-of .ensures) (c .before .before .before .before .before .before .find-expression .ensures) (c .before .before .before .before .enum-told .given .1) (c .before .before .define .ensures)
+
+pub by-expression-spec : {M : Type 1} → statement M
+by-expression-spec =
+    tie.close
+    (tie.spec
+    (λ c κs. search needs)
+    (λ c κs. search needs)
+    (λ c κs. search needs)
+    (λ c. search needs)
+    (λ c κs. search needs)
+    (λ c κs. search needs)
+    (λ c. search needs)
+    (λ c κs. search needs)
+    (λ c. search needs)
+    returns
+    (λ c. search needs)
+    returns-2)

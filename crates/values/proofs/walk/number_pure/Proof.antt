@@ -1,0 +1,81 @@
+use Rattle.values.proofs.Walking.{pure-by, pure-none, forget-becomes}
+use native.Mathlib.Omega.{arith}
+use mathlib.Core.Path.{refl}
+use Rattle.values.specs.Memory.{Sound}
+use Rattle.values.specs.Walk.{Named, pureBy}
+use borrow.Author.Needs.{needs}
+use Rattle.values.proofs.walk.number_pure.Statement.{statement}
+use Rattle.values.proofs.walk.number_pure.Tie as tie
+
+store-requires : tie.Need-store-requires
+unfolding Named
+store-requires c κs = let h = rw (c .before .before .enum-told .given .1) at (c .before .before .before .before .before .before .before .pre .1) in (c .before .before .before .before .before .before .before .pre .0 .ready, omega arith, h)
+
+number-constant-requires : tie.Need-number-constant-requires
+unfolding Named
+number-constant-requires c κs = (c .before .before .before .before .before .before .before .before .pre .0, rw (c .before .before .before .enum-told2 .given .1) at (c .before .before .before .before .before .before .before .before .pre .1))
+
+number-copy-requires : tie.Need-number-copy-requires
+unfolding Named
+number-copy-requires c κs = let h = rw (c .before .enum-told3 .given .1) at (c .before .before .before .before .before .before .pre .1) in (c .before .before .before .before .before .before .pre .0, h .0, h .1)
+
+number-unary-requires : tie.Need-number-unary-requires
+unfolding Named
+number-unary-requires c κs = let h = rw (c .before .enum-told4 .given .1) at (c .before .before .before .before .before .before .pre .1) in (c .before .before .before .before .before .before .pre .0, h .0, h .1)
+
+number-binary-requires : tie.Need-number-binary-requires
+unfolding Named
+number-binary-requires c κs = let h = rw (c .before .enum-told5 .given .1) at (c .before .before .before .before .before .before .pre .1) in (c .before .before .before .before .before .before .pre .0, h .0, h .1, h .2)
+
+returns : tie.Need-returns
+unfolding pureBy Sound
+returns c = pure-by (c .before .before .before .before .before .before .before .before .before .before .args .i) (c .before .before .before .before .before .before .before .before .before .before .args .p) _ (c .before .before .before .before .before .enum-told .given .1) (λ dest d l T v y. (omega arith, rw (c .before .before .before .imm32 .ensures))) (omega arith) (omega arith) (omega arith) (c .before .before .store .ensures)
+
+returns-2 : tie.Need-returns-2
+unfolding pureBy
+returns-2 c = pure-by (c .before .before .before .before .before .before .before .before .before .before .before .args .i) (c .before .before .before .before .before .before .before .before .before .before .before .args .p) _ (c .before .before .before .before .before .before .enum-told2 .given .1) (λ dest d l T v y. (tt, rw (y .1, c .before .before .before .before .constant .ensures))) (omega arith) (omega arith) (omega arith) (c .before .before .number-constant .ensures)
+
+returns-3 : tie.Need-returns-3
+unfolding pureBy
+returns-3 c = pure-by (c .before .before .before .before .before .before .before .before .before .args .i) (c .before .before .before .before .before .before .before .before .before .args .p) _ (c .before .before .before .before .enum-told3 .given .1) (λ dest d l T v y. (tt, refl)) (omega arith) (omega arith) (omega arith) (c .before .before .number-copy .ensures)
+
+returns-4 : tie.Need-returns-4
+unfolding pureBy
+returns-4 c = pure-by (c .before .before .before .before .before .before .before .before .before .args .i) (c .before .before .before .before .before .before .before .before .before .args .p) _ (c .before .before .before .before .enum-told4 .given .1) (λ dest d l T v y. (y .0, refl)) (omega arith) (omega arith) (omega arith) (c .before .before .number-unary .ensures)
+
+returns-5 : tie.Need-returns-5
+unfolding pureBy
+returns-5 c = pure-by (c .before .before .before .before .before .before .before .before .before .args .i) (c .before .before .before .before .before .before .before .before .before .args .p) _ (c .before .before .before .before .enum-told5 .given .1) (λ dest d l T v y. (y .0, refl)) (omega arith) (omega arith) (omega arith) (c .before .before .number-binary .ensures)
+
+returns-6 : tie.Need-returns-6
+returns-6 c = forget-becomes (c .before .before .before .before .before .pre .0) (c .forget .ensures .0) (c .forget .ensures .1) (λ d l T v. pure-none _ (c .before .before .before .before .before .args .k) (c .before .before .before .before .before .args .p) (c .before .before .before .before .before .args .i) v (c .before .match .keys6))
+
+pub number-pure-spec : {M : Type 1} → statement M
+number-pure-spec =
+    tie.close
+    (tie.spec
+    (λ c. search needs)
+    (λ c κs. search needs)
+    store-requires
+    (λ c. search needs)
+    (λ c. search needs)
+    (λ c κs. search needs)
+    number-constant-requires
+    (λ c. search needs)
+    number-copy-requires
+    (λ c. search needs)
+    number-unary-requires
+    (λ c. search needs)
+    number-binary-requires
+    (λ c κs. search needs)
+    (λ c. search needs)
+    returns
+    (λ c. search needs)
+    returns-2
+    (λ c. search needs)
+    returns-3
+    (λ c. search needs)
+    returns-4
+    (λ c. search needs)
+    returns-5
+    returns-6)

@@ -1,0 +1,169 @@
+// Folding: the words that integer opcodes give, and the known integer that an expression folds to.
+ghost use mathlib.Core.Path.{_≡_};
+ghost use Prim.Native.Nat.{_%_, _^_, _≤_};
+ghost use Rattle.words.specs.Lists.{isIn};
+ghost use Rattle.values.specs.Fold.{bool, lowBits, trunc, bitWord, foldingUnary, foldingBinary, foldWord, fitsImm32};
+ghost use Rattle.values.specs.Number.{foldUnary, foldBinary};
+ghost use Rattle.values.specs.Folded.{answered, expressionOf};
+ghost use Rattle.values.specs.declared.Atom.the-variants.{Integer};
+use crate::Atom;
+use crate::Folded;
+use words::word;
+
+// "comparisons and BoolNot give 1 or 0"
+fn word_of(t: bool) -> u64
+    ensures { λ r. ⌜ r ≡ bool t ⌝ }
+{
+    if t { 1 } else { 0 }
+}
+
+fn low_8(flags: u8, x: u64) -> u64
+    ensures { λ r. ⌜ r ≡ lowBits 8 flags x ⌝ }
+{
+    let low = x % 256;
+    if 128 <= flags {
+        return word::sign_extend_8(low as u8);
+    }
+    low
+}
+
+fn low_16(flags: u8, x: u64) -> u64
+    ensures { λ r. ⌜ r ≡ lowBits 16 flags x ⌝ }
+{
+    let low = x % 65536;
+    if 128 <= flags {
+        return word::sign_extend_16(low as u16);
+    }
+    low
+}
+
+fn low_32(flags: u8, x: u64) -> u64
+    ensures { λ r. ⌜ r ≡ lowBits 32 flags x ⌝ }
+{
+    let low = x % 4294967296;
+    if 128 <= flags {
+        return word::sign_extend_32(low as u32);
+    }
+    low
+}
+
+// "Trunc keeps the low 1, 2 or 4 bytes by flags modulo 128 (otherwise the whole word)"
+fn truncate(flags: u8, x: u64) -> u64
+    ensures { λ r. ⌜ r ≡ trunc flags x ⌝ }
+{
+    match flags % 128 {
+        1 => low_8(flags, x),
+        2 => low_16(flags, x),
+        4 => low_32(flags, x),
+        _ => x,
+    }
+}
+
+// And, Or, Xor, AndNot, Not, BoolNot, Trunc.
+fn bit_word(op: u8, flags: u8, x: u64, y: u64) -> u64
+    ensures { λ r. ⌜ r ≡ bitWord op flags x y ⌝ }
+{
+    match op {
+        48 => x & y,
+        49 => x | y,
+        50 => x ^ y,
+        51 => x & !y,
+        52 => !x,
+        56 => word_of(x == 0),
+        _ => truncate(flags, x),
+    }
+}
+
+// The word that a folding opcode gives: AddI, SubI, MulI, NegI, the ten comparisons EqI to GeU, and the bitwise ones.
+pub fn fold_word(op: u8, flags: u8, x: u64, y: u64) -> u64
+    ensures { λ r. ⌜ r ≡ foldWord op flags x y ⌝ }
+{
+    match op {
+        19 => std::num::wrapping_add_u64(x, y),
+        20 => std::num::wrapping_sub_u64(x, y),
+        21 => word::wrapping_mul(x, y),
+        26 => word::wrapping_neg(x),
+        32 => word_of(x == y),
+        33 => word_of(x != y),
+        34 => word_of(word::signed_less(x, y)),
+        35 => word_of(x < y),
+        36 => word_of(!word::signed_less(y, x)),
+        37 => word_of(x <= y),
+        38 => word_of(word::signed_less(y, x)),
+        39 => word_of(y < x),
+        40 => word_of(!word::signed_less(x, y)),
+        41 => word_of(y <= x),
+        _ => bit_word(op, flags, x, y),
+    }
+}
+
+// "its signed reading fits 32 bits"
+pub fn fits_imm32(v: u64) -> bool
+    ensures { λ r. ⌜ r ≡ fitsImm32 v ⌝ }
+{
+    if v < 2147483648 {
+        true
+    } else {
+        18446744071562067968 <= v
+    }
+}
+
+// NegI, Not, BoolNot, Trunc.
+fn folds_unary(op: u8) -> bool
+    ensures { λ r. ⌜ r ≡ isIn op foldingUnary ⌝ }
+{
+    if op == 26 {
+        return true;
+    }
+    if op == 52 {
+        return true;
+    }
+    if op == 56 {
+        return true;
+    }
+    op == 120
+}
+
+// AddI to MulI, EqI to GeU, And to AndNot.
+fn folds_binary(op: u8) -> bool
+    ensures { λ r. ⌜ r ≡ isIn op foldingBinary ⌝ }
+{
+    if op < 22 {
+        return 19 <= op;
+    }
+    if op < 42 {
+        return 32 <= op;
+    }
+    if op < 52 {
+        return 48 <= op;
+    }
+    false
+}
+
+// "A slot either holds a known integer or the rule goes no further."
+pub fn fold_unary(op: u8, flags: u8, left: Atom) -> Folded
+    ensures { λ r. ⌜ r ≡ answered (foldUnary (expressionOf op flags left (Integer 0)) left) ⌝ }
+{
+    let Atom::Integer(x) = left else {
+        return Folded::Not;
+    };
+    if folds_unary(op) {
+        return Folded::Word(fold_word(op, flags, x, 0));
+    }
+    Folded::Not
+}
+
+pub fn fold_binary(op: u8, flags: u8, left: Atom, right: Atom) -> Folded
+    ensures { λ r. ⌜ r ≡ answered (foldBinary (expressionOf op flags left right) left right) ⌝ }
+{
+    let Atom::Integer(x) = left else {
+        return Folded::Not;
+    };
+    let Atom::Integer(y) = right else {
+        return Folded::Not;
+    };
+    if folds_binary(op) {
+        return Folded::Word(fold_word(op, flags, x, y));
+    }
+    Folded::Not
+}

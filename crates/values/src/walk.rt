@@ -1,0 +1,487 @@
+// The walk over the function: each instruction rewritten by the values known before it.
+ghost use mathlib.Core.Path.{_≡_};
+ghost use mathlib.Core.Bool.{Bool, cond, not};
+ghost use mathlib.Core.List.{List, map};
+ghost use Prim.Native.Nat.{ℕ, _+_, _*_, _≤_, _<_};
+ghost use lib.Dec.{eqb};
+ghost use lib.ListN.{length, getD};
+ghost use Rattle.instruction.specs.Instruction.{class, ofWord, toWord};
+ghost use Rattle.effects.specs.Shape.{Cell, Tables};
+ghost use Rattle.effects.specs.Cells.{cellsBy};
+ghost use Rattle.values.specs.Table.{valueOf, expressionIn, recordedSlot};
+ghost use Rattle.values.specs.Number.{loadOrStay, isScalar, copyOrStay, constantAtom, stored as storedBy, byExpression, byValue, numberUnary, numberBinary, numberCopy, numberConstant, numberRead, numberJump, numberBy, number, numberCode};
+ghost use Rattle.values.specs.Folded.{expressionOf};
+ghost use Rattle.values.specs.Memory.{memoryOf, endAt, keyOf, Ready, Sound, SoundExpression};
+ghost use Rattle.values.specs.Entries.{bucketOf};
+ghost use Rattle.values.specs.Walk.{Named, wordOf, Stands, Known, Becomes, Defines, Room, combined, scalarIn, pureBy, undecidedBy, takes, otherBy, sectionsOf, started, Begins, entered, Turns, Numberable};
+ghost use Rattle.values.specs.Kept.{cleared};
+ghost use Rattle.instruction.specs.declared.Class.the-variants.{Return};
+ghost use Rattle.values.specs.declared.Atom.the-variants.{Integer, Definition};
+use crate::Atom;
+use crate::Folded;
+use crate::Found;
+use crate::Key;
+use crate::State;
+use crate::Step;
+use crate::Turn;
+use crate::entries;
+use crate::fold;
+use crate::slots;
+use crate::table;
+use instruction::Class;
+use instruction::Instruction;
+use unit::Constant;
+
+// "A folded result becomes LoadInt exactly if its signed reading fits 32 bits; otherwise the instruction stays"
+fn load_or_stay(i: Instruction, v: u64) -> Instruction
+    ensures { λ r. ⌜ r ≡ loadOrStay i v ⌝ }
+{
+    if fold::fits_imm32(v) {
+        return Instruction::new(1, i.a, 0, 0).with_imm32((v % 4294967296) as u32);
+    }
+    i
+}
+
+fn key_of(op: u8, flags: u8, left: Atom, right: Atom) -> Key
+    ensures { λ r. ⌜ r ≡ keyOf (expressionOf op flags left right) ⌝ }
+{
+    let l = slots::tag(left);
+    let r = slots::tag(right);
+    Key {
+        head: (op as u64) + 256 * (flags as u64) + 65536 * l + 262144 * r,
+        left: slots::bits(left),
+        right: slots::bits(right),
+    }
+}
+
+fn store(t: &mut [u64], types: &[u8], n: usize, st: State, i: Instruction, v: Atom) -> Step
+    requires { ⌜ Ready n (length (now types)) st (now t) × (st .rcount < 3 * n) × (i .a < length (now types)) ⌝ }
+    ensures { λ r. ⌜ Becomes n (now (types .entry)) 0 1 0 st (now (t .entry)) r (now (t .exit)) (λ dest constants. Sound n (length (now (types .entry))) dest v) (λ S x. storedBy S i x v) ⌝ }
+{
+    let state = table::store(t, types, n, st, i.a, v);
+    Step {
+        instruction: i,
+        state,
+    }
+}
+
+// An equal expression: Copy from the slot of its value where that is usable at the destination's type.
+fn copy_or_stay(t: &mut [u64], types: &[u8], n: usize, st: State, i: Instruction, v: Atom) -> Step
+    requires { ⌜ Ready n (length (now types)) st (now t) × (st .rcount < 3 * n) × (i .a < length (now types)) ⌝ }
+    ensures { λ r. ⌜ Becomes n (now (types .entry)) 0 1 0 st (now (t .entry)) r (now (t .exit)) (λ dest constants. Sound n (length (now (types .entry))) dest v) (λ S x. storedBy S (copyOrStay S i (recordedSlot (S .types) x v (getD (S .types) (i .a) 0))) x v) ⌝ }
+{
+    let a = i.a as usize;
+    let kind = types[a];
+    match table::usable(t, types, n, st, v, kind) {
+        Found::At(r) => {
+            let copy = Instruction::new(3, i.a, r as u16, 0);
+            store(t, types, n, st, copy, v)
+        }
+        Found::Nothing => store(t, types, n, st, i, v),
+    }
+}
+
+// A new expression: its value is what this place defines.
+fn define(
+    t: &mut [u64],
+    types: &[u8],
+    n: usize,
+    st: State,
+    i: Instruction,
+    p: u32,
+    k: Key,
+    b: usize,
+) -> Step
+    requires { ⌜ Ready n (length (now types)) st (now t) × (st .rcount < 3 * n) × (st .ecount < n) × (i .a < length (now types)) × (b ≡ bucketOf n k) × (b < n) ⌝ }
+    ensures { λ r. ⌜ Defines n (now (types .entry)) st (now (t .entry)) i p k r (now (t .exit)) ⌝ }
+{
+    let a = i.a;
+    let learnt = table::learn(t, n, types.len(), st, k, b, p, a);
+    store(t, types, n, learnt, i, Atom::Definition(p, a))
+}
+
+// "An equal expression (opcode, flags, both values)"
+fn by_expression(
+    t: &mut [u64],
+    types: &[u8],
+    n: usize,
+    st: State,
+    i: Instruction,
+    p: u32,
+    left: Atom,
+    right: Atom,
+) -> Step
+    requires { ⌜ Ready n (length (now types)) st (now t) × (st .rcount < 3 * n) × (st .ecount < n) × (i .a < length (now types)) ⌝ }
+    ensures { λ r. ⌜ Becomes n (now (types .entry)) 0 1 1 st (now (t .entry)) r (now (t .exit)) (λ dest constants. Known n (length (now (types .entry))) p i left right dest) (λ S x. byExpression S p i x (expressionOf (i .op) (i .flags) left right) (expressionIn (x .expressions) (expressionOf (i .op) (i .flags) left right))) ⌝ }
+{
+    let k = key_of(i.op, i.flags, left, right);
+    let b = entries::bucket(n, k);
+    match table::find_expression(t, n, types.len(), st, k, b) {
+        Found::At(x) => copy_or_stay(t, types, n, st, i, slots::decode(2, x)),
+        Found::Nothing => define(t, types, n, st, i, p, k, b),
+    }
+}
+
+// Folded, or looked up.
+fn by_value(
+    t: &mut [u64],
+    types: &[u8],
+    n: usize,
+    st: State,
+    i: Instruction,
+    p: u32,
+    left: Atom,
+    right: Atom,
+    folded: Folded,
+) -> Step
+    requires { ⌜ Ready n (length (now types)) st (now t) × (st .rcount < 3 * n) × (st .ecount < n) × (i .a < length (now types)) ⌝ }
+    ensures { λ r. ⌜ Becomes n (now (types .entry)) 0 1 1 st (now (t .entry)) r (now (t .exit)) (λ dest constants. Known n (length (now (types .entry))) p i left right dest) (λ S x. byValue S p i x (expressionOf (i .op) (i .flags) left right) (wordOf folded)) ⌝ }
+{
+    match folded {
+        Folded::Word(v) => store(t, types, n, st, load_or_stay(i, v), Atom::Integer(v)),
+        Folded::Not => by_expression(t, types, n, st, i, p, left, right),
+    }
+}
+
+fn number_unary(t: &mut [u64], types: &[u8], n: usize, st: State, i: Instruction, p: u32) -> Step
+    requires { ⌜ Room n (length (now types)) st (now t) × (i .b < length (now types)) × (i .a < length (now types)) ⌝ }
+    ensures { λ r. ⌜ Becomes n (now (types .entry)) 1 3 1 st (now (t .entry)) r (now (t .exit)) (λ dest constants. Stands n p i dest) (λ S x. numberUnary S p i x) ⌝ }
+{
+    let l = table::representative(t, types, n, st, i.b);
+    let places = 4 * types.len();
+    let left = slots::get(&t[0..places], l.state.epoch, l.slot);
+    let folded = fold::fold_unary(i.op, i.flags, left);
+    let named = Instruction {
+        op: i.op,
+        flags: i.flags,
+        a: i.a,
+        b: l.slot,
+        c: i.c,
+    };
+    let state = l.state;
+    by_value(t, types, n, state, named, p, left, Atom::Integer(0), folded)
+}
+
+// The values of two operands that were represented "(left first)".
+fn combine(t: &mut [u64], types: &[u8], n: usize, st: State, i: Instruction, p: u32) -> Step
+    requires { ⌜ Ready n (length (now types)) st (now t) × (st .rcount < 3 * n) × (st .ecount < n) × (i .b < length (now types)) × (i .c < length (now types)) × (i .a < length (now types)) ⌝ }
+    ensures { λ r. ⌜ Becomes n (now (types .entry)) 0 1 1 st (now (t .entry)) r (now (t .exit)) (λ dest constants. Stands n p i dest) (λ S x. combined S p i x) ⌝ }
+{
+    let places = 4 * types.len();
+    let left = slots::get(&t[0..places], st.epoch, i.b);
+    let right = slots::get(&t[0..places], st.epoch, i.c);
+    let folded = fold::fold_binary(i.op, i.flags, left, right);
+    by_value(t, types, n, st, i, p, left, right, folded)
+}
+
+fn number_binary(t: &mut [u64], types: &[u8], n: usize, st: State, i: Instruction, p: u32) -> Step
+    requires { ⌜ Room n (length (now types)) st (now t) × (i .b < length (now types)) × (i .c < length (now types)) × (i .a < length (now types)) ⌝ }
+    ensures { λ r. ⌜ Becomes n (now (types .entry)) 1 3 1 st (now (t .entry)) r (now (t .exit)) (λ dest constants. Stands n p i dest) (λ S x. numberBinary S p i x) ⌝ }
+{
+    let l = table::representative(t, types, n, st, i.b);
+    let after = l.state;
+    let r = table::representative(t, types, n, after, i.c);
+    let named = Instruction {
+        op: i.op,
+        flags: i.flags,
+        a: i.a,
+        b: l.slot,
+        c: r.slot,
+    };
+    let state = r.state;
+    combine(t, types, n, state, named, p)
+}
+
+fn number_copy(t: &mut [u64], types: &[u8], n: usize, st: State, i: Instruction) -> Step
+    requires { ⌜ Room n (length (now types)) st (now t) × (i .b < length (now types)) × (i .a < length (now types)) ⌝ }
+    ensures { λ r. ⌜ Becomes n (now (types .entry)) 1 3 1 st (now (t .entry)) r (now (t .exit)) (λ dest constants. Unit {0}) (λ S x. numberCopy S i x) ⌝ }
+{
+    let l = table::representative(t, types, n, st, i.b);
+    let places = 4 * types.len();
+    let value = slots::get(&t[0..places], l.state.epoch, l.slot);
+    let named = Instruction {
+        op: i.op,
+        flags: i.flags,
+        a: i.a,
+        b: l.slot,
+        c: i.c,
+    };
+    let state = l.state;
+    store(t, types, n, state, named, value)
+}
+
+// The instruction stays, and all values are forgotten.
+fn forget(st: State, i: Instruction) -> Step
+    requires { ⌜ st .epoch < 2199023255552 ⌝ }
+    ensures { λ r. ⌜ (r .instruction ≡ i) × (r .state ≡ cleared st) ⌝ }
+{
+    Step {
+        instruction: i,
+        state: table::clear(st),
+    }
+}
+
+fn number_constant(
+    t: &mut [u64],
+    types: &[u8],
+    n: usize,
+    st: State,
+    i: Instruction,
+    constant: Constant,
+) -> Step
+    requires { ⌜ Room n (length (now types)) st (now t) × (i .a < length (now types)) ⌝ }
+    ensures { λ r. ⌜ Becomes n (now (types .entry)) 1 3 1 st (now (t .entry)) r (now (t .exit)) (λ dest constants. Unit {0}) (λ S x. numberConstant S i x (constantAtom constant)) ⌝ }
+{
+    match constant {
+        Constant::Nil => store(t, types, n, st, i, Atom::Integer(0)),
+        Constant::Bool(v) => store(t, types, n, st, i, Atom::Integer(v)),
+        Constant::Int(v) => store(t, types, n, st, i, Atom::Integer(v)),
+        Constant::Float(v) => store(t, types, n, st, i, Atom::Float(v)),
+        Constant::String => forget(st, i),
+        Constant::Missing => forget(st, i),
+    }
+}
+
+// "scalar": a slot of type Value or Float.
+fn scalar(types: &[u8], s: u16) -> bool
+    ensures { λ r. ⌜ r ≡ scalarIn (now (types .entry)) s ⌝ }
+{
+    let at = s as usize;
+    if at < types.len() {
+        if types[at] == 0 {
+            return true;
+        }
+        return types[at] == 5;
+    }
+    false
+}
+
+// The pure opcodes, of a scalar destination.
+fn number_pure(
+    t: &mut [u64],
+    types: &[u8],
+    constants: &[u8],
+    n: usize,
+    st: State,
+    i: Instruction,
+    p: u32,
+    k: Class,
+) -> Step
+    requires { ⌜ Room n (length (now types)) st (now t) × Named k (length (now types)) i ⌝ }
+    ensures { λ r. ⌜ Becomes n (now (types .entry)) 1 3 1 st (now (t .entry)) r (now (t .exit)) (λ dest c. Stands n p i dest × (c ≡ now (constants .entry))) (λ S x. pureBy S k p i x) ⌝ }
+{
+    match k {
+        Class::LoadInt => store(t, types, n, st, i, Atom::Integer(i.imm32())),
+        Class::LoadConst => {
+            let constant = unit::entry::constant(constants, i.b as usize);
+            number_constant(t, types, n, st, i, constant)
+        }
+        Class::Copy => number_copy(t, types, n, st, i),
+        Class::Unary => number_unary(t, types, n, st, i, p),
+        Class::Binary => number_binary(t, types, n, st, i, p),
+        _ => forget(st, i),
+    }
+}
+
+// An operand `a` that is read.
+fn number_read(t: &mut [u64], types: &[u8], n: usize, st: State, i: Instruction) -> Step
+    requires { ⌜ Room n (length (now types)) st (now t) × (i .a < length (now types)) ⌝ }
+    ensures { λ r. ⌜ Becomes n (now (types .entry)) 1 3 1 st (now (t .entry)) r (now (t .exit)) (λ dest constants. Unit {0}) (λ S x. numberRead S i x) ⌝ }
+{
+    let l = table::representative(t, types, n, st, i.a);
+    let named = Instruction {
+        op: i.op,
+        flags: i.flags,
+        a: l.slot,
+        b: i.b,
+        c: i.c,
+    };
+    let state = l.state;
+    Step {
+        instruction: named,
+        state,
+    }
+}
+
+// "an undecided conditional jump on a scalar"
+fn undecided(t: &mut [u64], types: &[u8], n: usize, st: State, i: Instruction) -> Step
+    requires { ⌜ Room n (length (now types)) st (now t) × (i .a < length (now types)) ⌝ }
+    ensures { λ r. ⌜ Becomes n (now (types .entry)) 1 3 1 st (now (t .entry)) r (now (t .exit)) (λ dest constants. Unit {0}) (λ S x. undecidedBy S i x) ⌝ }
+{
+    if scalar(types, i.a) {
+        return number_read(t, types, n, st, i);
+    }
+    Step {
+        instruction: i,
+        state: st,
+    }
+}
+
+// JumpIfNot takes its branch where the word is 0, JumpIf where it is not.
+fn taken(zero: bool, v: u64) -> bool
+    ensures { λ r. ⌜ r ≡ takes zero v ⌝ }
+{
+    if zero {
+        return v == 0;
+    }
+    v != 0
+}
+
+// "JumpIf and JumpIfNot on a known integer become Jump or plain Hint"
+fn number_jump(t: &mut [u64], types: &[u8], n: usize, st: State, i: Instruction, zero: bool) -> Step
+    requires { ⌜ Room n (length (now types)) st (now t) × (i .a < length (now types)) ⌝ }
+    ensures { λ r. ⌜ Becomes n (now (types .entry)) 1 3 1 st (now (t .entry)) r (now (t .exit)) (λ dest constants. Unit {0}) (λ S x. numberJump S (takes zero) i x (valueOf x (i .a))) ⌝ }
+{
+    let places = 4 * types.len();
+    let value = slots::get(&t[0..places], st.epoch, i.a);
+    let Atom::Integer(v) = value else {
+        return undecided(t, types, n, st, i);
+    };
+    if taken(zero, v) {
+        return Step {
+            instruction: Instruction::new(57, 0, i.b, i.c),
+            state: st,
+        };
+    }
+    Step {
+        instruction: Instruction::new(0, 0, 0, 0),
+        state: st,
+    }
+}
+
+// "a one-scalar Return"
+fn number_return(t: &mut [u64], types: &[u8], n: usize, st: State, i: Instruction) -> Step
+    requires { ⌜ Room n (length (now types)) st (now t) × (i .b ≡ 1 → i .a < length (now types)) ⌝ }
+    ensures { λ r. ⌜ Becomes n (now (types .entry)) 1 3 1 st (now (t .entry)) r (now (t .exit)) (λ dest constants. Unit {0}) (λ S x. numberBy S Return 0 i x) ⌝ }
+{
+    if i.b == 1 {
+        if scalar(types, i.a) {
+            return number_read(t, types, n, st, i);
+        }
+        return forget(st, i);
+    }
+    forget(st, i)
+}
+
+// All but jumps and returns: a store to a scalar, or all values are forgotten.
+fn number_other(
+    t: &mut [u64],
+    types: &[u8],
+    constants: &[u8],
+    n: usize,
+    st: State,
+    i: Instruction,
+    p: u32,
+    k: Class,
+) -> Step
+    requires { ⌜ Room n (length (now types)) st (now t) × Named k (length (now types)) i ⌝ }
+    ensures { λ r. ⌜ Becomes n (now (types .entry)) 1 3 1 st (now (t .entry)) r (now (t .exit)) (λ dest c. Stands n p i dest × (c ≡ now (constants .entry))) (λ S x. otherBy S k p i x) ⌝ }
+{
+    if scalar(types, i.a) {
+        return number_pure(t, types, constants, n, st, i, p, k);
+    }
+    forget(st, i)
+}
+
+fn number_one(
+    t: &mut [u64],
+    types: &[u8],
+    constants: &[u8],
+    n: usize,
+    st: State,
+    i: Instruction,
+    p: u32,
+) -> Step
+    requires { ⌜ Room n (length (now types)) st (now t) × Named (class i) (length (now types)) i ⌝ }
+    ensures { λ r. ⌜ Becomes n (now (types .entry)) 1 3 1 st (now (t .entry)) r (now (t .exit)) (λ dest c. Stands n p i dest × (c ≡ now (constants .entry))) (λ S x. number S p i x) ⌝ }
+{
+    let k = i.class();
+    match k {
+        Class::JumpIf => number_jump(t, types, n, st, i, false),
+        Class::JumpIfNot => number_jump(t, types, n, st, i, true),
+        Class::Return => number_return(t, types, n, st, i),
+        _ => number_other(t, types, constants, n, st, i, p, k),
+    }
+}
+
+// An empty table of values: the words of slots and places and the heads of both tables of entries are 0.
+fn begin(t: &mut [u64], n: usize, locals: usize) -> State
+    requires { ⌜ (0 < n) × (n ≤ 65536) × (locals ≤ 65536) × (endAt n locals ≤ length (now t)) ⌝ }
+    ensures { λ r. ⌜ (r ≡ started) × Begins n locals (now (t .entry)) (now (t .exit)) ⌝ }
+{
+    let heads = 4 * locals + n + n;
+    words::fill::zero_u64(&mut t[0..heads]);
+    let expressions = 4 * locals + n + 16 * n;
+    let end = expressions + n;
+    words::fill::zero_u64(&mut t[expressions..end]);
+    State {
+        epoch: 1,
+        rbase: 0,
+        rcount: 0,
+        ebase: 0,
+        ecount: 0,
+    }
+}
+
+// The state at a place: cleared where a block starts.
+fn enter(st: State, leader: u32) -> State
+    requires { ⌜ st .epoch < 2199023255552 ⌝ }
+    ensures { λ r. ⌜ r ≡ entered st leader ⌝ }
+{
+    if leader == 1 {
+        return table::clear(st);
+    }
+    st
+}
+
+// A turn of the walk.
+fn turn(
+    t: &mut [u64],
+    types: &[u8],
+    constants: &[u8],
+    n: usize,
+    st: State,
+    leader: u32,
+    w: u64,
+    p: u32,
+) -> Turn
+    requires { ⌜ Room n (length (now types)) st (now t) × (st .epoch + 2 < 1099511627776) × Named (class (ofWord w)) (length (now types)) (ofWord w) ⌝ }
+    ensures { λ r. ⌜ Turns n (now (types .entry)) (now (constants .entry)) leader w p st (now (t .entry)) r (now (t .exit)) ⌝ }
+{
+    let at = enter(st, leader);
+    let i = Instruction::from_word(w);
+    let step = number_one(t, types, constants, n, at, i, p);
+    let state = step.state;
+    let numbered = step.instruction;
+    Turn {
+        word: numbered.word(),
+        state,
+    }
+}
+
+// Value numbering of a whole function, `words` its code, in the lent memory `memory`.
+pub fn number_code(
+    code: &mut [u64],
+    leaders: &[u32],
+    types: &[u8],
+    constants: &[u8],
+    memory: &mut [u64],
+)
+    requires { ⌜ Numberable (now code) (now leaders) (now types) (now memory) ⌝ }
+    ensures { λ _. ⌜ ((metadata : List ℕ) (locals : ℕ) (tables : Tables) → now (code .exit) ≡ map (λ (x : Cell). toWord (x .instruction)) (numberCode (sectionsOf (now (types .entry)) (now (constants .entry)) locals tables) (now (leaders .entry)) (cellsBy (now (code .entry)) metadata))) ⌝ }
+{
+    let n = code.len();
+    if n == 0 {
+        return;
+    }
+    let mut st = begin(memory, n, types.len());
+    let mut p = 0;
+    while p < n {
+        let w = code[p];
+        let leader = leaders[p];
+        let r = turn(memory, types, constants, n, st, leader, w, p as u32);
+        code[p] = r.word;
+        st = r.state;
+        p += 1;
+    }
+}
