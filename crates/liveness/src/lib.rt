@@ -1,1 +1,2 @@
 // Live slots, and stores that nothing reads.
+pub mod row;
