@@ -1,3 +1,3 @@
-mod Classes
+pub mod Classes
 mod Numbering
 mod Pushing

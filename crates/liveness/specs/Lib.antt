@@ -1,3 +1,4 @@
 pub mod Live
 pub mod Dead
 pub mod Sets
+pub mod Touched

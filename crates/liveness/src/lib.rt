@@ -1,2 +1,3 @@
 // Live slots, and stores that nothing reads.
 pub mod row;
+pub mod touch;
