@@ -19,6 +19,7 @@ use Rattle.effects.specs.Shape.{Tables, Cell}
 use Rattle.effects.specs.Effects.{allReads, writes, rangeHas, rangeWithin, anyOf, allOf}
 use Rattle.effects.specs.Form.{emptyRange}
 use Rattle.effects.specs.Operands.{left-true, right-true}
+use Rattle.effects.specs.Ranges.{CasesInside}
 use Rattle.effects.specs.Sound.{isOutside, readsByClass, writesByClass, reads-by-class, writes-by-class}
 use Rattle.liveness.specs.Sets.{Put, put-none, put-more, put-as, has-none}
 
@@ -35,6 +36,27 @@ writing T x = touches (writes T x)
 -- no range leaves the s slots
 abbrev pub Within : ℕ → List Range → Type 0
 Within s l = allOf (rangeWithin s) l ≡ true
+
+-- an instruction whose slots all have a bit in a set of that many words
+pub record Fits (count : ℕ) (T : Tables) (x : Cell) : Type 0 where
+  pub few : count ≤ 1024
+  pub cases : CasesInside (T .cases) x
+  pub reads-fit : Within (64 * count) (allReads T x)
+  pub writes-fit : Within (64 * count) (writes T x)
+
+-- what is live before an instruction, of what is live after it
+abbrev pub Before : Tables → Cell → List ℕ → List ℕ → Type 0
+Before T x l l′ = (t : ℕ) → member l′ t ≡ (reading T x t || (member l t && not (writing T x t)))
+
+pub before : (T : Tables) (x : Cell) (l l₁ l₂ : List ℕ) → Put false (writing T x) l l₁ → Put true (reading T x) l₁ l₂ → Before T x l l₂
+before T x l l₁ l₂ p q t = q t ∙ rw (p t) (go (reading T x t) (writing T x t) (member l t))
+  where
+    go : (r w m : Bool) → cond r true (cond w false m) ≡ (r || (m && not w))
+    go true w m = refl
+    go false true true = refl
+    go false true false = refl
+    go false false true = refl
+    go false false false = refl
 
 pub within-at : (s : ℕ) (l : List Range) → Within s l → (k : ℕ) → k < length l → rangeWithin s (getD l k emptyRange) ≡ true
 unfolding allOf
@@ -131,23 +153,25 @@ touches-one [] h t = rw (has-none 0 t)
 touches-one (r ∷ []) h t = rw (or-false (rangeHas t r))
 touches-one (r ∷ s ∷ l) h t = absurd (omega arith)
 
-module _ (T : Tables) (x : Cell) (inside : isOutside (class (x .instruction)) ≡ false) where
-  abbrev kind : Class
-  kind = class (x .instruction)
+module _ (T : Tables) (x : Cell) (k : Class) (e : k ≡ class (x .instruction)) (inside : isOutside k ≡ false) where
+  reads-here : allReads T x ≡ readsByClass k (x .instruction)
+  reads-here = rw e (reads-by-class T x (rw e at inside))
 
-  pub put-reads : (b : Bool) (l l₁ l₂ : List ℕ) (f g : Range) → f ≡ getD (readsByClass (class (x .instruction)) (x .instruction)) 0 emptyRange
-      → g ≡ getD (readsByClass (class (x .instruction)) (x .instruction)) 1 emptyRange → Put b (λ t. rangeHas t f) l l₁ → Put b (λ t. rangeHas t g) l₁ l₂ → Put b (reading T x) l l₂
-  put-reads b l l₁ l₂ f g d e p q =
+  writes-here : writes T x ≡ writesByClass k (x .instruction)
+  writes-here = rw e (writes-by-class T x (rw e at inside))
+
+  pub put-reads : (b : Bool) (l l₁ l₂ : List ℕ) (f g : Range) → f ≡ getD (readsByClass k (x .instruction)) 0 emptyRange → g ≡ getD (readsByClass k (x .instruction)) 1 emptyRange
+      → Put b (λ t. rangeHas t f) l l₁ → Put b (λ t. rangeHas t g) l₁ l₂ → Put b (reading T x) l l₂
+  put-reads b l l₁ l₂ f g d a p q =
       put-more b (λ t. rangeHas t f) (λ t. rangeHas t g) (reading T x) l l₁ l₂ p q
-      (λ t. rw (reads-by-class T x inside, d, e) (touches-two (readsByClass kind (x .instruction)) (reads-two kind (x .instruction)) t))
+      (λ t. rw (reads-here, d, a) (touches-two (readsByClass k (x .instruction)) (reads-two k (x .instruction)) t))
 
-  pub put-writes : (b : Bool) (l l′ : List ℕ) (f : Range) → f ≡ getD (writesByClass (class (x .instruction)) (x .instruction)) 0 emptyRange
-      → Put b (λ t. rangeHas t f) l l′ → Put b (writing T x) l l′
+  pub put-writes : (b : Bool) (l l′ : List ℕ) (f : Range) → f ≡ getD (writesByClass k (x .instruction)) 0 emptyRange → Put b (λ t. rangeHas t f) l l′ → Put b (writing T x) l l′
   put-writes b l l′ f d p =
-      put-as b (λ t. rangeHas t f) (writing T x) l l′ p (λ t. rw (writes-by-class T x inside, d) (touches-one (writesByClass kind (x .instruction)) (writes-one kind (x .instruction)) t))
+      put-as b (λ t. rangeHas t f) (writing T x) l l′ p (λ t. rw (writes-here, d) (touches-one (writesByClass k (x .instruction)) (writes-one k (x .instruction)) t))
 
-  pub reads-in : (s : ℕ) → Within s (allReads T x) → (k : ℕ) (f : Range) → f ≡ getD (readsByClass (class (x .instruction)) (x .instruction)) k emptyRange → rangeWithin s f ≡ true
-  reads-in s w k f e = rw e (within-any s (readsByClass kind (x .instruction)) (rw (reads-by-class T x inside) at w) k)
+  pub reads-in : (s j : ℕ) (f : Range) → Within s (allReads T x) → f ≡ getD (readsByClass k (x .instruction)) j emptyRange → rangeWithin s f ≡ true
+  reads-in s j f w d = rw d (within-any s (readsByClass k (x .instruction)) (rw reads-here at w) j)
 
-  pub writes-in : (s : ℕ) → Within s (writes T x) → (k : ℕ) (f : Range) → f ≡ getD (writesByClass (class (x .instruction)) (x .instruction)) k emptyRange → rangeWithin s f ≡ true
-  writes-in s w k f e = rw e (within-any s (writesByClass kind (x .instruction)) (rw (writes-by-class T x inside) at w) k)
+  pub writes-in : (s j : ℕ) (f : Range) → Within s (writes T x) → f ≡ getD (writesByClass k (x .instruction)) j emptyRange → rangeWithin s f ≡ true
+  writes-in s j f w d = rw d (within-any s (writesByClass k (x .instruction)) (rw writes-here at w) j)

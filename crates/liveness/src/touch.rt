@@ -1,21 +1,24 @@
 // What an instruction reads and writes, as sets of slots.
 ghost use mathlib.Core.Path.{_≡_};
 ghost use mathlib.Core.Bool.{true};
-ghost use Prim.Native.Nat.{_*_, _≤_};
+ghost use Prim.Native.Nat.{_+_, _*_, _≤_};
 ghost use lib.ListN.{length, getD};
+ghost use Rattle.unit.specs.Entry.{metadataAt};
+ghost use Rattle.unit.specs.Size.{metadataSize};
 ghost use Rattle.effects.specs.Shape.{tablesOf};
 ghost use Rattle.effects.specs.Effects.{allReads, writes};
 ghost use Rattle.effects.specs.Form.{emptyRange};
 ghost use Rattle.effects.specs.Ranges.{CasesInside};
 ghost use Rattle.effects.specs.Sound.{isOutside, readsByClass, writesByClass};
 ghost use Rattle.liveness.specs.Sets.{Put};
-ghost use Rattle.liveness.specs.Touched.{Within, reading, writing};
+ghost use Rattle.liveness.specs.Touched.{Within, reading, writing, Fits, Before};
 use crate::row;
 use effects::Range;
 use effects::ranges;
 use instruction::Class;
 use instruction::Instruction;
 use unit::Metadata;
+use unit::entry;
 
 fn slots(start: u16, count: u16) -> Range
     ensures { λ r. ⌜ r ≡ record { start = start; count = count } ⌝ }
@@ -116,4 +119,66 @@ fn put_each_write(
         row::put_range(row, r, on);
         k += 1;
     }
+}
+
+// By class, or by its metadata where the class does not tell.
+pub fn put_reads(
+    row: &mut [u64],
+    i: Instruction,
+    metadata: &[u8],
+    p: usize,
+    functions: &[u8],
+    externs: &[u8],
+    cases: &[u8],
+)
+    requires { ⌜ (metadataSize * p + metadataSize ≤ length (now metadata)) × Fits (length (now row)) (tablesOf (now functions) (now externs) (now cases)) (record { instruction = i; metadata = metadataAt (now metadata) p }) ⌝ }
+    ensures { λ _. ⌜ Put true (reading (tablesOf (now (functions .entry)) (now (externs .entry)) (now (cases .entry))) (record { instruction = i; metadata = metadataAt (now (metadata .entry)) p })) (now (row .entry)) (now (row .exit)) ⌝ }
+{
+    let c = i.class();
+    if is_outside(c) {
+        let m = entry::metadata(metadata, p);
+        put_each_read(row, i, m, functions, externs, cases);
+        return;
+    }
+    row::put_range(row, first_read(c, i), true);
+    row::put_range(row, second_read(c, i), true);
+}
+
+pub fn put_writes(
+    row: &mut [u64],
+    on: bool,
+    i: Instruction,
+    metadata: &[u8],
+    p: usize,
+    functions: &[u8],
+    externs: &[u8],
+    cases: &[u8],
+)
+    requires { ⌜ (metadataSize * p + metadataSize ≤ length (now metadata)) × Fits (length (now row)) (tablesOf (now functions) (now externs) (now cases)) (record { instruction = i; metadata = metadataAt (now metadata) p }) ⌝ }
+    ensures { λ _. ⌜ Put on (writing (tablesOf (now (functions .entry)) (now (externs .entry)) (now (cases .entry))) (record { instruction = i; metadata = metadataAt (now (metadata .entry)) p })) (now (row .entry)) (now (row .exit)) ⌝ }
+{
+    let c = i.class();
+    if is_outside(c) {
+        let m = entry::metadata(metadata, p);
+        put_each_write(row, on, i, m, functions, externs, cases);
+        return;
+    }
+    row::put_range(row, write(c, i), on);
+}
+
+// What is live before the instruction at place p, of what is live after it.
+pub fn live_before(
+    row: &mut [u64],
+    i: Instruction,
+    metadata: &[u8],
+    p: usize,
+    functions: &[u8],
+    externs: &[u8],
+    cases: &[u8],
+)
+    requires { ⌜ (metadataSize * p + metadataSize ≤ length (now metadata)) × Fits (length (now row)) (tablesOf (now functions) (now externs) (now cases)) (record { instruction = i; metadata = metadataAt (now metadata) p }) ⌝ }
+    ensures { λ _. ⌜ Before (tablesOf (now (functions .entry)) (now (externs .entry)) (now (cases .entry))) (record { instruction = i; metadata = metadataAt (now (metadata .entry)) p }) (now (row .entry)) (now (row .exit)) ⌝ }
+{
+    put_writes(row, false, i, metadata, p, functions, externs, cases);
+    put_reads(row, i, metadata, p, functions, externs, cases);
 }
