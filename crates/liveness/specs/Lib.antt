@@ -2,3 +2,4 @@ pub mod Live
 pub mod Dead
 pub mod Sets
 pub mod Touched
+pub mod Wordwise
