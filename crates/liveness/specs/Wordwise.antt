@@ -51,6 +51,16 @@ stored-end f l₀ l k s h z j = elim (decLe k j) [
   | no g ↦ s .done j (omega arith)
 ]
 
+pub filled : (v : ℕ) (l₀ l : List ℕ) (k : ℕ) → Stored (λ j. v) l₀ l k → length l₀ ≤ k → l ≡ replicate (length l₀) v
+filled v l₀ l k s h =
+    ext-getD 0 l (replicate (length l₀) v) (s .long ∙ sym (length-replicate (length l₀) v))
+    (λ j g. let m = s .long in s .done j (omega arith) ∙ sym (get-filled (length l₀) j (omega arith)))
+  where
+    get-filled : (n j : ℕ) → j < n → getD (replicate n v) j 0 ≡ v
+    get-filled zero j h = absurd (omega arith)
+    get-filled (suc n) zero h = refl
+    get-filled (suc n) (suc j) h = get-filled n j (omega arith)
+
 -- ---- bits
 
 or-bit : (x y : ℕ) → x < 2 → y < 2 → eqb (max x y) 1 ≡ (eqb x 1 || eqb y 1)
@@ -147,13 +157,14 @@ pub record Storing (f : ℕ → ℕ) (l₀ l : List ℕ) (k d : ℕ) : Type 0 wh
   pub stored : Stored f l₀ l k
   pub same : d ≡ 0 → (j : ℕ) → j < k → f j ≡ getD l₀ j 0
   pub other : ((j : ℕ) → j < k → f j ≡ getD l₀ j 0) → d ≡ 0
+  pub fit : (j : ℕ) → j < k → (getD l₀ j 0 < 2 ^ 64) × (f j < 2 ^ 64)
 
 module _ (f : ℕ → ℕ) (l₀ : List ℕ) where
   pub storing-begin : Storing f l₀ l₀ 0 0
-  storing-begin = record { stored = stored-begin f l₀; same = λ e j h. absurd (omega arith); other = λ g. refl }
+  storing-begin = record { stored = stored-begin f l₀; same = λ e j h. absurd (omega arith); other = λ g. refl; fit = λ j h. absurd (omega arith) }
 
-  pub storing-turn : (l : List ℕ) (k d v : ℕ) → Storing f l₀ l k d → k < length l → v ≡ f k → Storing f l₀ (set l k v) (k + 1) (bitOr d (bitXor (getD l k 0) v))
-  storing-turn l k d v s h e = record { stored = stored-turn f l₀ l k v (s .stored) h e; same = same; other = other }
+  pub storing-turn : (l : List ℕ) (k d v : ℕ) → Storing f l₀ l k d → k < length l → v ≡ f k → getD l k 0 < 2 ^ 64 → f k < 2 ^ 64 → Storing f l₀ (set l k v) (k + 1) (bitOr d (bitXor (getD l k 0) v))
+  storing-turn l k d v s h e below new = record { stored = stored-turn f l₀ l k v (s .stored) h e; same = same; other = other; fit = fit }
     where
       old : getD l k 0 ≡ getD l₀ k 0
       old = s .stored .rest k (omega arith)
@@ -163,6 +174,9 @@ module _ (f : ℕ → ℕ) (l₀ : List ℕ) where
         | yes q ↦ rw q (sym e ∙ sym (xor-none (getD l k 0) v (both .1)) ∙ old)
         | no q ↦ s .same (both .0) j (omega arith)
       ]
+
+      fit : (j : ℕ) → j < k + 1 → (getD l₀ j 0 < 2 ^ 64) × (f j < 2 ^ 64)
+      fit j g = elim (ℕ-discrete j k) [ yes q ↦ rw (q, ← old) (below, new) | no q ↦ s .fit j (omega arith) ]
 
       other : ((j : ℕ) → j < k + 1 → f j ≡ getD l₀ j 0) → bitOr d (bitXor (getD l k 0) v) ≡ 0
       other g =
@@ -175,9 +189,18 @@ pub record Moved (r : Bool) (l₀ l : List ℕ) : Type 0 where
   pub no : r ≡ false → l ≡ l₀
   pub yes : r ≡ true → ((t : ℕ) → member l t ≡ member l₀ t) → ⊥
 
-pub moved : (f : ℕ → ℕ) (l₀ l : List ℕ) (k d : ℕ) → Storing f l₀ l k d → length l₀ ≤ k → Words l₀ → Words l → Moved (not (eqb d 0)) l₀ l
-moved f l₀ l k d s h v w = go (eqb d 0) refl
+pub moved : (f : ℕ → ℕ) (l₀ l : List ℕ) (k d : ℕ) → Storing f l₀ l k d → length l₀ ≤ k → Moved (not (eqb d 0)) l₀ l
+moved f l₀ l k d s h = go (eqb d 0) refl
   where
+    v : Words l₀
+    v j = elim (decLe k j) [ yes g ↦ rw (get-past l₀ j (omega arith)) (omega arith) | no g ↦ s .fit j (omega arith) .0 ]
+
+    w : Words l
+    w j = elim (decLe k j) [
+      | yes g ↦ let m = s .stored .long in rw (get-past l j (omega arith)) (omega arith)
+      | no g ↦ rw (s .stored .done j (omega arith)) (s .fit j (omega arith) .1)
+    ]
+
     same : d ≡ 0 → l ≡ l₀
     same z = ext-getD 0 l l₀ (s .stored .long) (λ j g. let m = s .stored .long in s .stored .done j (omega arith) ∙ s .same z j (omega arith))
 
@@ -187,10 +210,7 @@ moved f l₀ l k d s h v w = go (eqb d 0) refl
       no = λ q. absurd (false≢true (sym q));
       yes = λ q g.
           let e′ : l ≡ l₀ = set-ext l l₀ w v (s .stored .long) g in
-          eqb-false d 0 e (s .other (λ j a. elim (decLe (length l₀) j) [
-            | yes b ↦ sym (s .stored .done j a) ∙ ap (λ (m : List ℕ). getD m j 0) e′
-            | no b ↦ sym (s .stored .done j a) ∙ ap (λ (m : List ℕ). getD m j 0) e′
-          ]));
+          eqb-false d 0 e (s .other (λ j a. sym (s .stored .done j a) ∙ ap (λ (m : List ℕ). getD m j 0) e′));
     }
 
 -- ---- all slots or none

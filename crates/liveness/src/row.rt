@@ -1,11 +1,13 @@
 // Sets of slots: slot t is bit t % 64 of word t / 64.
 ghost use mathlib.Core.Path.{_≡_};
-ghost use Prim.Native.Nat.{_*_, _≤_, _<_};
-ghost use mathlib.Core.Bool.{true};
+ghost use Prim.Native.Nat.{ℕ, _*_, _≤_, _<_};
+ghost use mathlib.Core.Bool.{true, _&&_, _||_};
 ghost use lib.Dec.{eqb};
-ghost use lib.ListN.{length};
+ghost use lib.ListN.{length, replicate};
+ghost use Rattle.words.specs.Bits.{member};
 ghost use Rattle.effects.specs.Effects.{rangeHas, rangeWithin};
 ghost use Rattle.liveness.specs.Sets.{Put, range};
+ghost use Rattle.liveness.specs.Wordwise.{Moved};
 use effects::Range;
 use words::bits;
 
@@ -45,4 +47,46 @@ pub fn put_range(row: &mut [u64], r: Range, on: bool)
     } else {
         put_each(row, start, count, on);
     }
+}
+
+// All words become v: 0 for no slot, 2^64 - 1 for all.
+pub fn fill(row: &mut [u64], v: u64)
+    ensures { λ _. ⌜ now (row .exit) ≡ replicate (length (now (row .entry))) v ⌝ }
+{
+    let mut k: usize = 0;
+    while k < row.len() {
+        row[k] = v;
+        k += 1;
+    }
+}
+
+// Puts in all slots of another set.
+pub fn join(row: &mut [u64], other: &[u64])
+    requires { ⌜ length (now other) ≡ length (now row) ⌝ }
+    ensures { λ _. ⌜ ((t : ℕ) → member (now (row .exit)) t ≡ (member (now (row .entry)) t || member (now (other .entry)) t)) ⌝ }
+{
+    let mut k: usize = 0;
+    while k < row.len() {
+        let x = row[k];
+        row[k] = x | other[k];
+        k += 1;
+    }
+}
+
+// What is live at a block's start, of what is live at its end: the slots that the block uses, and those that it preserves.
+// The answer is whether the set is another one now.
+pub fn transfer(live: &mut [u64], uses: &[u64], preserved: &[u64], out: &[u64]) -> bool
+    requires { ⌜ (length (now uses) ≡ length (now live)) × (length (now preserved) ≡ length (now live)) × (length (now out) ≡ length (now live)) ⌝ }
+    ensures { λ r. ⌜ ((t : ℕ) → member (now (live .exit)) t ≡ (member (now (uses .entry)) t || (member (now (out .entry)) t && member (now (preserved .entry)) t))) × Moved r (now (live .entry)) (now (live .exit)) ⌝ }
+{
+    let mut changes: u64 = 0;
+    let mut k: usize = 0;
+    while k < live.len() {
+        let x = live[k];
+        let y = uses[k] | (out[k] & preserved[k]);
+        live[k] = y;
+        changes = changes | (x ^ y);
+        k += 1;
+    }
+    changes != 0
 }
