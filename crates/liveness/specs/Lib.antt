@@ -3,3 +3,4 @@ pub mod Dead
 pub mod Sets
 pub mod Touched
 pub mod Wordwise
+pub mod Through

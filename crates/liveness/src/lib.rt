@@ -1,3 +1,4 @@
 // Live slots, and stores that nothing reads.
-pub mod row;
-pub mod touch;
+mod block;
+mod row;
+mod touch;
