@@ -4,3 +4,5 @@ pub mod Sets
 pub mod Touched
 pub mod Wordwise
 pub mod Through
+pub mod Rows
+pub mod Shown
