@@ -6,3 +6,4 @@ pub mod Wordwise
 pub mod Through
 pub mod Rows
 pub mod Shown
+pub mod Round
