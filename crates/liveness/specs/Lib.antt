@@ -7,3 +7,4 @@ pub mod Through
 pub mod Rows
 pub mod Shown
 pub mod Round
+pub mod Out
