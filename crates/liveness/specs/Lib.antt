@@ -8,3 +8,4 @@ pub mod Rows
 pub mod Shown
 pub mod Round
 pub mod Out
+pub mod Visit

@@ -8,6 +8,7 @@ ghost use Rattle.effects.specs.Cells.{cellOf, cellsBy};
 ghost use Rattle.pc_map.specs.Boundary.{isKept};
 ghost use Rattle.liveness.specs.Touched.{Fits};
 ghost use Rattle.liveness.specs.Through.{Placed, Summary};
+ghost use Rattle.liveness.specs.Visit.{Rising, Summed};
 use crate::row;
 use crate::touch;
 use instruction::Instruction;
@@ -59,5 +60,43 @@ pub fn summarize_block(
         summarize_place(
             uses, preserved, words, metadata, keep, functions, externs, cases, p,
         );
+    }
+}
+
+// The sets of all blocks, w words to each.
+pub fn summarize(
+    uses: &mut [u64],
+    preserved: &mut [u64],
+    words: &[u64],
+    metadata: &[u8],
+    keep: &[u32],
+    functions: &[u8],
+    externs: &[u8],
+    cases: &[u8],
+    starts: &[u32],
+    count: usize,
+    w: usize,
+)
+    requires { ⌜ (count < length (now starts)) × Rising (now starts) count (length (now words)) × (metadataSize * length (now words) ≤ length (now metadata)) × (length (now keep) ≡ length (now words)) × (length (now uses) ≡ w * count) × (length (now preserved) ≡ w * count) × ((p : ℕ) → p < length (now words) → Fits w (tablesOf (now functions) (now externs) (now cases)) (cellOf (now metadata) p (getD (now words) p 0))) ⌝ }
+    ensures { λ _. ⌜ Summed (tablesOf (now (functions .entry)) (now (externs .entry)) (now (cases .entry))) (now (keep .entry)) (cellsBy (now (words .entry)) (now (metadata .entry))) w (now (starts .entry)) (now (uses .exit)) (now (preserved .exit)) count ⌝ }
+{
+    let mut b: usize = 0;
+    while b < count {
+        let at = w * b;
+        let start = starts[b] as usize;
+        let end = starts[b + 1] as usize;
+        summarize_block(
+            &mut uses[at..at + w],
+            &mut preserved[at..at + w],
+            words,
+            metadata,
+            keep,
+            functions,
+            externs,
+            cases,
+            start,
+            end,
+        );
+        b += 1;
     }
 }
