@@ -9,3 +9,4 @@ pub mod Shown
 pub mod Round
 pub mod Out
 pub mod Visit
+pub mod Rounding
