@@ -1,12 +1,17 @@
 // Rounds over the blocks, from the last to the first.
 ghost use mathlib.Core.Path.{_≡_};
 ghost use mathlib.Core.Bool.{true};
+ghost use mathlib.Core.List.{List};
 ghost use Prim.Native.Nat.{ℕ, _+_, _*_, _-_, _≤_, _<_};
 ghost use lib.ListN.{length, getD};
 ghost use Rattle.instruction.specs.Instruction.{ofWord};
 ghost use Rattle.unit.specs.Size.{maxInstructions};
 ghost use Rattle.flow.specs.Branch.{branchInside};
-ghost use Rattle.liveness.specs.Visit.{Rising, Visited};
+ghost use Rattle.effects.specs.Shape.{Sections};
+ghost use Rattle.effects.specs.Cells.{cellsBy};
+ghost use Rattle.liveness.specs.Live.{Row};
+ghost use Rattle.liveness.specs.Rounding.{Around, Rounded, Ready};
+ghost use Rattle.liveness.specs.Visit.{Visited};
 use crate::out;
 use crate::row;
 
@@ -34,4 +39,28 @@ fn visit_block(
         &preserved[at..at + w],
         &out[..],
     )
+}
+
+// One round. The answer is whether it changed any row.
+fn round(
+    live: &mut [u64],
+    out: &mut [u64],
+    uses: &[u64],
+    preserved: &[u64],
+    words: &[u64],
+    blocks: &[u32],
+    starts: &[u32],
+    count: usize,
+) -> bool
+    requires { ⌜ Ready (length (now out)) count (now words) (now blocks) (now starts) (length (now live)) (length (now uses)) (length (now preserved)) ⌝ }
+    ensures { λ r. ⌜ ((S : Sections) (leaders keep metadata : List ℕ) (rows : List Row) → Around S leaders keep (cellsBy (now (words .entry)) metadata) (length (now (out .entry))) count rows (now (blocks .entry)) (now (starts .entry)) (now (uses .entry)) (now (preserved .entry)) (now (live .entry)) → Rounded S leaders keep (cellsBy (now (words .entry)) metadata) (length (now (out .entry))) rows (now (live .exit)) r) ⌝ }
+{
+    let mut changed = false;
+    let mut b = count;
+    while b > 0 {
+        b -= 1;
+        let moved = visit_block(live, out, uses, preserved, words, blocks, starts, b);
+        changed = changed | moved;
+    }
+    changed
 }
