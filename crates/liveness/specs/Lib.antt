@@ -10,3 +10,4 @@ pub mod Round
 pub mod Out
 pub mod Visit
 pub mod Rounding
+pub mod Solving

@@ -11,6 +11,7 @@ ghost use Rattle.effects.specs.Shape.{Sections};
 ghost use Rattle.effects.specs.Cells.{cellsBy};
 ghost use Rattle.liveness.specs.Live.{Row};
 ghost use Rattle.liveness.specs.Rounding.{Around, Rounded, Ready};
+ghost use Rattle.liveness.specs.Solving.{Solved};
 ghost use Rattle.liveness.specs.Visit.{Visited};
 use crate::out;
 use crate::row;
@@ -63,4 +64,29 @@ fn round(
         changed = changed | moved;
     }
     changed
+}
+
+// At most so many rounds, until one changes nothing. The answer is whether one did not.
+pub fn solve(
+    live: &mut [u64],
+    out: &mut [u64],
+    uses: &[u64],
+    preserved: &[u64],
+    words: &[u64],
+    blocks: &[u32],
+    starts: &[u32],
+    count: usize,
+    limit: usize,
+) -> bool
+    requires { ⌜ Ready (length (now out)) count (now words) (now blocks) (now starts) (length (now live)) (length (now uses)) (length (now preserved)) ⌝ }
+    ensures { λ r. ⌜ ((S : Sections) (leaders keep metadata : List ℕ) (rows : List Row) → Around S leaders keep (cellsBy (now (words .entry)) metadata) (length (now (out .entry))) count rows (now (blocks .entry)) (now (starts .entry)) (now (uses .entry)) (now (preserved .entry)) (now (live .entry)) → Solved S leaders keep (cellsBy (now (words .entry)) metadata) (length (now (out .entry))) limit rows (now (live .exit)) r) ⌝ }
+{
+    let mut k = limit;
+    while k > 0 {
+        if !round(live, out, uses, preserved, words, blocks, starts, count) {
+            return true;
+        }
+        k -= 1;
+    }
+    false
 }
