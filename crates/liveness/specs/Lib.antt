@@ -11,3 +11,4 @@ pub mod Out
 pub mod Visit
 pub mod Rounding
 pub mod Solving
+pub mod Unread
