@@ -5,6 +5,7 @@ use mathlib.Core.Bool.{Bool, true, false, cond, not, _&&_, _||_, and-true}
 use mathlib.Core.List.{List, [], _∷_}
 use Prim.Native.Nat.{ℕ, zero, suc, _+_, _*_, _≤_, _<_}
 use native.Mathlib.Nat.{add-zero}
+use native.Mathlib.Decide.{ℕ-discrete}
 use native.Mathlib.Omega.{arith}
 use lib.Dec.{eqb}
 use lib.ListN.{length, getD}
@@ -18,7 +19,7 @@ use Rattle.instruction.specs.Instruction.{class}
 use Rattle.unit.specs.Entry.{typeValue, typeFloat}
 use Rattle.effects.specs.declared.Range.{Range}
 use Rattle.effects.specs.Shape.{Sections, Cell}
-use Rattle.effects.specs.Effects.{writes, allOf}
+use Rattle.effects.specs.Effects.{writes, rangeWithin, allOf}
 use Rattle.effects.specs.Form.{emptyRange}
 use Rattle.effects.specs.Sound.{isOutside, writesByClass, writes-by-class}
 use Rattle.values.specs.Number.{isScalar}
@@ -100,3 +101,24 @@ dead-by S x after row h = go (isPure (class (x .instruction))) refl
         (pure-one (class (x .instruction)) (x .instruction) (unread S after) e
         ∙ every-same (r .count) (λ k. isScalar S (r .start + k) && not (getD after (r .start + k) false)) (λ k. freeSlot (S .types) row (r .start + k)) (λ k. rw (h (r .start + k))))
     go false e = refl
+
+-- a range whose slots all have a type and a bit
+pub record Spans (types row : List ℕ) (r : Range) : Type 0 where
+  pub few : length row ≤ 1024
+  pub typed : rangeWithin (length types) r ≡ true
+  pub inside : rangeWithin (64 * length row) r ≡ true
+
+-- a loop over the slots of a range
+pub not-free : (types row : List ℕ) (start count k : ℕ) → k < count → freeSlot types row (start + k) ≡ false → false ≡ freeRange types row (record { start = start; count = count })
+not-free types row start count k h e = sym (every-not count (λ k. freeSlot types row (start + k)) k h e)
+
+pub all-free : (types row : List ℕ) (start count : ℕ) → ((k : ℕ) → k < count → freeSlot types row (start + k) ≡ true) → true ≡ freeRange types row (record { start = start; count = count })
+all-free types row start count f = sym (every-all count (λ k. freeSlot types row (start + k)) f)
+
+pub get-any : (l : List ℕ) (j : ℕ) → j < length l → getD l j 0 ≡ getD l j 1
+get-any [] j h = absurd (omega arith)
+get-any (x ∷ l) zero h = refl
+get-any (x ∷ l) (suc j) h = get-any l j (omega arith)
+
+pub free-more : (types row : List ℕ) (start k : ℕ) → ((j : ℕ) → j < k → freeSlot types row (start + j) ≡ true) → freeSlot types row (start + k) ≡ true → (j : ℕ) → j < k + 1 → freeSlot types row (start + j) ≡ true
+free-more types row start k f e j h = elim (ℕ-discrete j k) [ yes d ↦ rw d e | no d ↦ f j (omega arith) ]

@@ -1,5 +1,6 @@
 // Live slots, and stores that nothing reads.
 mod block;
+mod dead;
 mod out;
 mod round;
 mod row;

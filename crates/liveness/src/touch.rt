@@ -64,7 +64,7 @@ fn second_read(c: Class, i: Instruction) -> Range
 }
 
 // The range that it writes.
-fn write(c: Class, i: Instruction) -> Range
+pub fn write(c: Class, i: Instruction) -> Range
     ensures { λ r. ⌜ r ≡ getD (writesByClass c i) 0 emptyRange ⌝ }
 {
     match c {
