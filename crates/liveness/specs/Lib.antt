@@ -12,3 +12,4 @@ pub mod Visit
 pub mod Rounding
 pub mod Solving
 pub mod Unread
+pub mod Sweeping

@@ -84,7 +84,7 @@ module _ (S : Sections) (n : ℕ) (leaders keep : List ℕ) (long : length leade
 
         go : (f l : Bool) → ltb (suc p) n ≡ l → (j : Bool) → cond j (ltb (target p (x .instruction)) n) true ≡ true
             → ((f && l && startBit w live blocks (suc p) t) || (j && startBit w live blocks (target p (x .instruction)) t))
-              ≡ getD (joined S n leaders keep rows (cond (f && l) (suc p ∷ []) [] ++ cond j (target p (x .instruction) ∷ []) [])) t false
+            ≡ getD (joined S n leaders keep rows (cond (f && l) (suc p ∷ []) [] ++ cond j (target p (x .instruction) ∷ []) [])) t false
         go true true q true e =
             rw (start-bit (suc p) t (ltb-true (suc p) n q), start-bit (target p (x .instruction)) t (ltb-true (target p (x .instruction)) n e))
             (sym (union-bit (getD rows (blockOf leaders (suc p)) (noRow S n leaders keep)) (joined S n leaders keep rows (target p (x .instruction) ∷ [])) t

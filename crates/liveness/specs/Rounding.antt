@@ -240,8 +240,8 @@ module _ (S : Sections) (leaders keep : List ℕ) (cells : List Cell) (w count :
             go true q =
                 let e : rows ≡ next = same-rows rows next q in
                 absurd (g refl (λ i l h t.
-                    let k : i < length rows = rw (a .each, ← a .total) h in
-                    final .held i (rw next-long k) t ∙ ap (λ (r : List Row). getD (getD r i none) t false) (sym e) ∙ sym (a .shown .held i k t)))
+                let k : i < length rows = rw (a .each, ← a .total) h in
+                final .held i (rw next-long k) t ∙ ap (λ (r : List Row). getD (getD r i none) t false) (sym e) ∙ sym (a .shown .held i k t)))
 
 -- the code's own words for a place's instruction
 pub visited-cells : (words metadata : List ℕ) (w q p : ℕ) (blocks uses preserved live live′ : List ℕ) (r : Bool) → p < length words

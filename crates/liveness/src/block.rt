@@ -58,7 +58,15 @@ pub fn summarize_block(
     while p > start {
         p -= 1;
         summarize_place(
-            uses, preserved, words, metadata, keep, functions, externs, cases, p,
+            uses,
+            preserved,
+            words,
+            metadata,
+            keep,
+            functions,
+            externs,
+            cases,
+            p,
         );
     }
 }

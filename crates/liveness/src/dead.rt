@@ -66,7 +66,7 @@ fn is_range_free(types: &[u8], row: &[u64], r: Range) -> bool
 }
 
 // "dead pure stores (all slots Value or Float, none live; empty CopyN too)", the row being what is live after the instruction.
-fn is_dead(types: &[u8], row: &[u64], i: Instruction) -> bool
+pub fn is_dead(types: &[u8], row: &[u64], i: Instruction) -> bool
     requires { ⌜ Spans (now types) (now row) (getD (writesByClass (class i) i) 0 emptyRange) ⌝ }
     ensures { λ r. ⌜ r ≡ deadBy (now (types .entry)) (now (row .entry)) i ⌝ }
 {

@@ -4,4 +4,5 @@ mod dead;
 mod out;
 mod round;
 mod row;
+mod sweep;
 mod touch;

@@ -33,6 +33,12 @@ pub fn live_out(out: &mut [u64], live: &[u64], words: &[u64], blocks: &[u32], p:
     let c = i.class();
     let next = p as u64 + 1;
     row::fill(out, 0);
-    join_if(out, live, blocks, branch::falls(c) & (next < n as u64), next);
+    join_if(
+        out,
+        live,
+        blocks,
+        branch::falls(c) & (next < n as u64),
+        next,
+    );
     join_if(out, live, blocks, branch::branches(c), branch::target(p, i));
 }

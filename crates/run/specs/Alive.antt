@@ -251,7 +251,7 @@ module _ (S : Sections) (leaders keep : List ℕ) (cells : List Cell) (rows : Li
         let h : p < n = omega arith in
         whole-flow p s h l
         ∙ flow-less (dead p) (isKept keep p) (reads p s) (bit (after p) s) (written p s) (bit (wholeAfter p) s) (up (isLast n leaders p) refl (less d (suc p) s (omega arith) l))
-          (λ u v. A .unread p s h u v) (sym (before-flow p s h l) ∙ b)
+        (λ u v. A .unread p s h u v) (sym (before-flow p s h l) ∙ b)
       where
         up : (t : Bool) → isLast n leaders p ≡ t → (bit (before (suc p)) s ≡ true → bit (whole (suc p)) s ≡ true) → bit (after p) s ≡ true → bit (wholeAfter p) s ≡ true
         up true t ih a = ap (λ (r : Row). bit r s) (after-last p t (whole (suc p)) ∙ sym (after-last p t (before (suc p)))) ∙ a
@@ -290,7 +290,7 @@ module _ (S : Sections) (leaders keep : List ℕ) (cells : List Cell) (rows : Li
     joins p q s l k e m i b =
         ap (λ (r : Row). bit r s) (after-last p e (before (suc p)))
         ∙ joined-bit S n leaders keep rows s i
-          (ap (λ (r : Row). bit r s) (row-at S leaders keep cells (A .long) (A .flags) (A .one) rows (A .count) (A .rest) q k m) ∙ less (n - q) q s (omega arith) l b)
+        (ap (λ (r : Row). bit r s) (row-at S leaders keep cells (A .long) (A .flags) (A .one) rows (A .count) (A .rest) q k m) ∙ less (n - q) q s (omega arith) l b)
 
     -- what is live at a successor is live after the place
     pub out : (p q s : ℕ) → s < S .locals → p < n → Succ (class (cell p .instruction)) p (cell p .instruction) q → bit (before q) s ≡ true → bit (after p) s ≡ true

@@ -72,12 +72,12 @@ module _ (S : Sections) (W : World) (x : Cell) (σ σ′ : Words) where
       silent= (λ s t. b)
   frame CopyN e ag =
       silent= λ s t.
-        let g : byFields (class (x .instruction)) ≡ true = rw e refl in
-        let given : anyOf (rangeHas s) (record { start = x .instruction .a + 0; count = x .instruction .c } ∷ []) ≡ true = rw (given-by T x g, e) at t in
-        let r = has-range (x .instruction .a + 0) (x .instruction .c) s given in
-        let at : ℕ = x .instruction .b + (s - x .instruction .a) in
-        let i : In at (slotsFrom (x .instruction .b + 0) (x .instruction .c)) = slots-in (x .instruction .b + 0) (x .instruction .c) at (omega arith) (omega arith) in
-        ag at (reads-in CopyN e refl at (rw append-nil i))
+      let g : byFields (class (x .instruction)) ≡ true = rw e refl in
+      let given : anyOf (rangeHas s) (record { start = x .instruction .a + 0; count = x .instruction .c } ∷ []) ≡ true = rw (given-by T x g, e) at t in
+      let r = has-range (x .instruction .a + 0) (x .instruction .c) s given in
+      let at : ℕ = x .instruction .b + (s - x .instruction .a) in
+      let i : In at (slotsFrom (x .instruction .b + 0) (x .instruction .c)) = slots-in (x .instruction .b + 0) (x .instruction .c) at (omega arith) (omega arith) in
+      ag at (reads-in CopyN e refl at (rw append-nil i))
   frame Unary e ag =
       let b : σ′ (x .instruction .b) ≡ σ (x .instruction .b) = ag (x .instruction .b) (reads-in Unary e refl _ (rw add-zero here)) in
       rw b (silent= (λ s t. refl))

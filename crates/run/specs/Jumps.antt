@@ -140,9 +140,9 @@ module _ (anchors : List ℕ) (cells : List Cell) where
           let w = round-why keep p h kp u in
           let o : p < target p (cellAt cells p .instruction) = onward-of keep b p _ (omega arith) (w .1) in
           let f = bare-of keep b p (target p (cellAt cells p .instruction)) (omega arith) kp (w .1) (omega arith) in
-          let r : length (jumpRounds i anchors cells (dropIdle anchors cells keep)) ≡ length cells = rounds-long i (dropIdle anchors cells keep) (round-long keep) in
-          ( w .0
-          , o
-          , bare-stays (jumpRounds i anchors cells (dropIdle anchors cells keep)) (rounds-bits i (dropIdle anchors cells keep) (round-bits keep b)) p _ o (omega arith) e
-            (λ q x y. rounds-fewer i (dropIdle anchors cells keep) q (round-fewer keep q (f q x y)))
+          let r : length (jumpRounds i anchors cells (dropIdle anchors cells keep)) ≡ length cells = rounds-long i (dropIdle anchors cells keep) (round-long keep) in (
+            w .0,
+            o,
+            bare-stays (jumpRounds i anchors cells (dropIdle anchors cells keep)) (rounds-bits i (dropIdle anchors cells keep) (round-bits keep b)) p _ o (omega arith) e
+                (λ q x y. rounds-fewer i (dropIdle anchors cells keep) q (round-fewer keep q (f q x y))),
           )

@@ -168,7 +168,7 @@ module _ (G : Function) (leaders : List ℕ) (N : Removing G leaders) where
         wide = solve-wide S n leaders useful _ code _ rows (start-wide S n leaders useful (blockCount leaders)) f;
         inner = inner G leaders N;
         targets = N .targets;
-        unread = λ p s h d w. dead-unread S (cell p) (after S leaders useful code rows p) s d w
+        unread = λ p s h d w. dead-unread S (cell p) (after S leaders useful code rows p) s d w;
       }
 
       go : (a b : Bool)

@@ -52,7 +52,7 @@ module _ {W : World} {P P′ : Program} {I : ℕ → Words → Type 0} (L : Lock
   twin-step x past e = let z : _≡_ {A = ℕ} 0 1 = cc in absurd (omega arith)
 
   twin-move : (x y : State) → Twin I x y → wayOf P x ≡ none
-    → ((wayOf P′ y ≡ none) × Twin I (step W P x) (step W P′ y)) ⊎ (Twin I (step W P x) y × (0 < 0))
+      → ((wayOf P′ y ≡ none) × Twin I (step W P x) (step W P′ y)) ⊎ (Twin I (step W P x) y × (0 < 0))
   twin-move x y (twin h) e = inl (way= x ∙ e, twin-step x h e)
 
   lock-sim : Sim (system W P) (system W P′)

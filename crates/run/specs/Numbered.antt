@@ -214,7 +214,7 @@ module _ (F : Function) (leaders : List ℕ) (N : Numberable F leaders) where
       size= = numbered-long;
       step= = step-numbered;
       keeps = λ p σ R h i.
-        rw (step-do F W p σ R h) (after-holds p σ R h (sound-at p σ R h (static-at p h) .after (i h .0) (i h .1)))
+          rw (step-do F W p σ R h) (after-holds p σ R h (sound-at p σ R h (static-at p h) .after (i h .0) (i h .1)));
     }
 
     -- the operands of the numbered function are not refused either

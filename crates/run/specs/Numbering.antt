@@ -184,7 +184,7 @@ module _ (F : Function) (W : World) (p : ℕ) (σ : Words) (R : List Event) wher
           record {
             justified = copy-sound v st _ refl;
             static = rw a (told-static t₁ v s k (k .expression< e v q .0));
-            after = λ ρ H. rw a (told t₁ v s st ρ H (h ρ H))
+            after = λ ρ H. rw a (told t₁ v s st ρ H (h ρ H));
           }
       expression-sound none q =
           let w : ℕ = gave F W p σ R (class i) x in
@@ -193,9 +193,9 @@ module _ (F : Function) (W : World) (p : ℕ) (σ : Words) (R : List Event) wher
             justified = replaced;
             static = rw a= (store-static (S .types) (i .a) (Definition p (i .a)) (slot-a s) (static-learn e (i .a) k below) (before n));
             after = λ ρ H.
-              rw a=
-              (sets w (do-single F W p σ R (class i) x refl s m) (define ρ p w)
-              (store-valid (S .types) (i .a) (Definition p (i .a)) w (valid-learn e (i .a) w early k (h ρ H) below (sym (word ρ H))) (word-new ρ p (i .a) w early)))
+                rw a=
+                (sets w (do-single F W p σ R (class i) x refl s m) (define ρ p w)
+                (store-valid (S .types) (i .a) (Definition p (i .a)) w (valid-learn e (i .a) w early k (h ρ H) below (sym (word ρ H))) (word-new ρ p (i .a) w early)));
           }
 
       value-sound : (o : Option ℕ) → ((v : ℕ) → o ≡ some v → Stores S t i (Integer v) × (v < 2 ^ 64)) → Sound (byValue S p j t₁ e o)
@@ -205,7 +205,7 @@ module _ (F : Function) (W : World) (p : ℕ) (σ : Words) (R : List Event) wher
           record {
             justified = load-sound v (f .0) (f .1);
             static = rw (load-a v) (told-static t₁ (Integer v) s k (integer (f .1)));
-            after = λ ρ H. rw (load-a v) (told t₁ (Integer v) s (f .0) ρ H (h ρ H))
+            after = λ ρ H. rw (load-a v) (told t₁ (Integer v) s (f .0) ρ H (h ρ H));
           }
       value-sound none folds = expression-sound (expressionIn (t₁ .expressions) e) refl
 
@@ -261,10 +261,10 @@ module _ (F : Function) (W : World) (p : ℕ) (σ : Words) (R : List Event) wher
         (λ v q. equalsOne c (ap (expressionIn (t .expressions)) (sym e=) ∙ q))
         (foldUnary e (valueOf (r .table) (r .slot)))
         (λ v q.
-          let f = fold-one e (valueOf (r .table) (r .slot)) v q in
-          let k : valueOf t (i .b) ≡ Integer (f .0) = sym l= ∙ f .1 in
-          let y : f .0 < 2 ^ 64 = int-inside (f .0) (valueOf t (i .b)) k (Q .slot< (i .b)) in
-          (rw (← f .3) (foldsOne c (f .2) k), rw (← f .3) (fold-small (i .op) (i .flags) (f .0) 0 y)))
+        let f = fold-one e (valueOf (r .table) (r .slot)) v q in
+        let k : valueOf t (i .b) ≡ Integer (f .0) = sym l= ∙ f .1 in
+        let y : f .0 < 2 ^ 64 = int-inside (f .0) (valueOf t (i .b)) k (Q .slot< (i .b)) in
+        (rw (← f .3) (foldsOne c (f .2) k), rw (← f .3) (fold-small (i .op) (i .flags) (f .0) 0 y)))
 
     binary-sound : class i ≡ Binary → Sound (numberBinary S p i t)
     unfolding numberBinary isSingle Named
@@ -277,7 +277,7 @@ module _ (F : Function) (W : World) (p : ℕ) (σ : Words) (R : List Event) wher
         let hl : Static (S .locals) (l .table) p = rep-static (S .types) Q (i .b) (n .0) in
         let slots= : r .table .slots ≡ t .slots = sr .slots= ∙ sl .slots= in
         let q= : valueOf t (r .slot) ≡ valueOf t (i .c) =
-          ap (λ (k : List _). valueIn k (r .slot)) (sym (sl .slots=)) ∙ sr .value= ∙ ap (λ (k : List _). valueIn k (i .c)) (sl .slots=) in
+        ap (λ (k : List _). valueIn k (r .slot)) (sym (sl .slots=)) ∙ sr .value= ∙ ap (λ (k : List _). valueIn k (i .c)) (sl .slots=) in
         let l= : valueOf (r .table) (l .slot) ≡ valueOf t (i .b) = ap (λ (k : List _). valueIn k (l .slot)) slots= ∙ sl .value= in
         let r= : valueOf (r .table) (r .slot) ≡ valueOf t (i .c) = ap (λ (k : List _). valueIn k (r .slot)) slots= ∙ q= in
         let e : Expression = binaryExpression i (valueOf (r .table) (l .slot)) (valueOf (r .table) (r .slot)) in
@@ -290,11 +290,11 @@ module _ (F : Function) (W : World) (p : ℕ) (σ : Words) (R : List Event) wher
         (λ v q. equalsTwo c (ap (expressionIn (t .expressions)) (sym e=) ∙ q))
         (foldBinary e (valueOf (r .table) (l .slot)) (valueOf (r .table) (r .slot)))
         (λ v q.
-          let f = fold-two e (valueOf (r .table) (l .slot)) (valueOf (r .table) (r .slot)) v q in
-          let j : valueOf t (i .b) ≡ Integer (f .0) = sym l= ∙ f .2 in
-          let k : valueOf t (i .c) ≡ Integer (f .1) = sym r= ∙ f .3 in
-          let y : f .0 < 2 ^ 64 = int-inside (f .0) (valueOf t (i .b)) j (Q .slot< (i .b)) in
-          (rw (← f .5) (foldsTwo c (f .4) j k), rw (← f .5) (fold-small (i .op) (i .flags) (f .0) (f .1) y)))
+        let f = fold-two e (valueOf (r .table) (l .slot)) (valueOf (r .table) (r .slot)) v q in
+        let j : valueOf t (i .b) ≡ Integer (f .0) = sym l= ∙ f .2 in
+        let k : valueOf t (i .c) ≡ Integer (f .1) = sym r= ∙ f .3 in
+        let y : f .0 < 2 ^ 64 = int-inside (f .0) (valueOf t (i .b)) j (Q .slot< (i .b)) in
+        (rw (← f .5) (foldsTwo c (f .4) j k), rw (← f .5) (fold-small (i .op) (i .flags) (f .0) (f .1) y)))
 
     copies-sound : class i ≡ Copy → Sound (numberCopy S i t)
     unfolding numberCopy stored isSingle Named
@@ -306,7 +306,7 @@ module _ (F : Function) (W : World) (p : ℕ) (σ : Words) (R : List Event) wher
         record {
           justified = operand (inl c) (st .value=) (rep-inside (S .types) Q (i .b) b);
           static = rw v= (told-static (r .table) (valueOf t (i .b)) (rw c refl) (rep-static (S .types) Q (i .b) b) (Q .slot< (i .b)));
-          after = λ ρ H. rw v= (told (r .table) (valueOf t (i .b)) (rw c refl) (copies c) ρ H (rep-valid (S .types) H (i .b)))
+          after = λ ρ H. rw v= (told (r .table) (valueOf t (i .b)) (rw c refl) (copies c) ρ H (rep-valid (S .types) H (i .b)));
         }
 
     load-int-sound : class i ≡ LoadInt → Fields i → Sound (stored S i t (Integer (imm32 i)))
@@ -316,7 +316,7 @@ module _ (F : Function) (W : World) (p : ℕ) (σ : Words) (R : List Event) wher
         record {
           justified = stays;
           static = told-static t (Integer (imm32 i)) (rw c refl) Q (integer (sign-small 32 _ (omega arith) k));
-          after = λ ρ H. told t (Integer (imm32 i)) (rw c refl) (loads c) ρ H H
+          after = λ ρ H. told t (Integer (imm32 i)) (rw c refl) (loads c) ρ H H;
         }
 
     constant-sound : class i ≡ LoadConst → ((v : Atom) → constantAtom (constantAt (S .constants) (i .b)) ≡ some v → Below p v)
@@ -329,7 +329,6 @@ module _ (F : Function) (W : World) (p : ℕ) (σ : Words) (R : List Event) wher
             unfold numberConstant stored in
             record { justified = stays; static = told-static t v (rw c refl) Q (small v q); after = λ ρ H. told t v (rw c refl) (constant c q) ρ H H }
         go none q = unfold numberConstant in clear-sound
-
 
     -- an operand that is read, of an instruction after which a block ends
     read-sound : Justified S t i (setA i (representative (S .types) t (i .a) .slot)) → i .a < S .locals → After x (representative (S .types) t (i .a) .table) → Sound (numberRead S i t)

@@ -216,7 +216,7 @@ module _ (G : Function) (leaders : List ℕ) (N : Removing G leaders) where
             let inside : target p (cell p .instruction) ≤ length final = rw (← final-long) (target-le p h) in
             let m = target-moves final final-flags small p (rw (← final-long) h) (cell p) e (rw c br) inside in
             let m′ : targetBy (class (cell p .instruction)) (boundary final p) (relocate final p (cell p) .instruction) ≡ boundary final (target p (cell p .instruction)) =
-              ap (λ (k : Class). targetBy k (boundary final p) (relocate final p (cell p) .instruction)) (sym same) ∙ m in
+            ap (λ (k : Class). targetBy k (boundary final p) (relocate final p (cell p) .instruction)) (sym same) ∙ m in
             rw c at m′
 
         go : (k : Class) → class (cell p .instruction) ≡ k
@@ -250,7 +250,7 @@ module _ (G : Function) (leaders : List ℕ) (N : Removing G leaders) where
     module _ (live : ℕ → ℕ → Type 0)
         (reads : (p : ℕ) → p < n → Reach p → isKept final p ≡ true → (s : ℕ) → In s (slotsOf (allReads T (cell p))) → live p s)
         (flows : (p : ℕ) → p < n → Reach p → isKept final p ≡ true → (q : ℕ) → Succ (class (cell p .instruction)) p (cell p .instruction) q
-          → (s : ℕ) → live q s → anyOf (rangeHas s) (givenRanges T (cell p)) ≡ false → live p s)
+        → (s : ℕ) → live q s → anyOf (rangeHas s) (givenRanges T (cell p)) ≡ false → live p s)
         (drops : (p : ℕ) → p < n → Reach p → isKept final p ≡ false → Dropped G final Reach live p) where
       pub removable : Removable G final Reach live
       removable = record {
@@ -264,7 +264,7 @@ module _ (G : Function) (leaders : List ℕ) (N : Removing G leaders) where
         onward = onward;
         reads = reads;
         flows = flows;
-        drops = drops
+        drops = drops;
       }
 
   -- ---- where dead stores are skipped, every slot counts as live

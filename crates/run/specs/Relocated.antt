@@ -29,40 +29,40 @@ module _ (keep : List ℕ) (p : ℕ) (x : Cell) where
   -- the opcode stays
   pub relocated-op : (k : Class) → relocateBy keep k p x .instruction .op ≡ x .instruction .op
   unfolding relocateBy movedJump movedForLoop movedHint
-  relocated-op Hint  = pick (λ (y : Cell). y .instruction .op ≡ x .instruction .op) (isLoopHint (x .instruction)) refl refl
-  relocated-op LoadInt  = refl
-  relocated-op LoadConst  = refl
-  relocated-op Copy  = refl
-  relocated-op CopyN  = refl
-  relocated-op Unary  = refl
-  relocated-op Binary  = refl
-  relocated-op Jump  = refl
-  relocated-op JumpIf  = refl
-  relocated-op JumpIfNot  = refl
-  relocated-op ForLoop  = refl
-  relocated-op Return  = refl
-  relocated-op Panic  = refl
-  relocated-op Outside  = refl
-  relocated-op Invalid  = refl
+  relocated-op Hint = pick (λ (y : Cell). y .instruction .op ≡ x .instruction .op) (isLoopHint (x .instruction)) refl refl
+  relocated-op LoadInt = refl
+  relocated-op LoadConst = refl
+  relocated-op Copy = refl
+  relocated-op CopyN = refl
+  relocated-op Unary = refl
+  relocated-op Binary = refl
+  relocated-op Jump = refl
+  relocated-op JumpIf = refl
+  relocated-op JumpIfNot = refl
+  relocated-op ForLoop = refl
+  relocated-op Return = refl
+  relocated-op Panic = refl
+  relocated-op Outside = refl
+  relocated-op Invalid = refl
 
   -- the metadata stays but for end
   relocated-metadata : (k : Class) → recordedMetadata (relocateBy keep k p x .metadata) ≡ recordedMetadata (x .metadata)
   unfolding relocateBy movedJump movedForLoop movedHint recordedMetadata
-  relocated-metadata Hint  = pick (λ (y : Cell). recordedMetadata (y .metadata) ≡ recordedMetadata (x .metadata)) (isLoopHint (x .instruction)) refl refl
-  relocated-metadata LoadInt  = refl
-  relocated-metadata LoadConst  = refl
-  relocated-metadata Copy  = refl
-  relocated-metadata CopyN  = refl
-  relocated-metadata Unary  = refl
-  relocated-metadata Binary  = refl
-  relocated-metadata Jump  = refl
-  relocated-metadata JumpIf  = refl
-  relocated-metadata JumpIfNot  = refl
-  relocated-metadata ForLoop  = refl
-  relocated-metadata Return  = refl
-  relocated-metadata Panic  = refl
-  relocated-metadata Outside  = refl
-  relocated-metadata Invalid  = refl
+  relocated-metadata Hint = pick (λ (y : Cell). recordedMetadata (y .metadata) ≡ recordedMetadata (x .metadata)) (isLoopHint (x .instruction)) refl refl
+  relocated-metadata LoadInt = refl
+  relocated-metadata LoadConst = refl
+  relocated-metadata Copy = refl
+  relocated-metadata CopyN = refl
+  relocated-metadata Unary = refl
+  relocated-metadata Binary = refl
+  relocated-metadata Jump = refl
+  relocated-metadata JumpIf = refl
+  relocated-metadata JumpIfNot = refl
+  relocated-metadata ForLoop = refl
+  relocated-metadata Return = refl
+  relocated-metadata Panic = refl
+  relocated-metadata Outside = refl
+  relocated-metadata Invalid = refl
 
   -- so does the class
   same-class : (k : Class) → class (x .instruction) ≡ k → class (relocateBy keep k p x .instruction) ≡ k
@@ -81,9 +81,9 @@ module _ (keep : List ℕ) (p : ℕ) (x : Cell) where
         → (writes T (relocateBy keep k p x) ≡ writes T x) × (givenRanges T (relocateBy keep k p x) ≡ givenRanges T x)
     writes-parts k e f q =
         let g : byFields (class (relocateBy keep k p x .instruction)) ≡ true = rw (same-class k e) f in
-        let h : byFields (class (x .instruction)) ≡ true = rw e f in
-        ( writes-by T (relocateBy keep k p x) g ∙ rw (same-class k e, q) (sym (writes-by T x h ∙ rw e))
-        , given-by T (relocateBy keep k p x) g ∙ rw (same-class k e, q) (sym (given-by T x h ∙ rw e))
+        let h : byFields (class (x .instruction)) ≡ true = rw e f in (
+          writes-by T (relocateBy keep k p x) g ∙ rw (same-class k e, q) (sym (writes-by T x h ∙ rw e)),
+          given-by T (relocateBy keep k p x) g ∙ rw (same-class k e, q) (sym (given-by T x h ∙ rw e)),
         )
 
     pub relocated-reads : (k : Class) → class (x .instruction) ≡ k → allReads T (relocateBy keep k p x) ≡ allReads T x

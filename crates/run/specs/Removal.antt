@@ -37,7 +37,7 @@ module _ (reach : ℕ → Type 0) (live : ℕ → ℕ → Type 0) (bnd : ℕ →
     pub goto= : (j : Bool) → goto (P′ .node (bnd p)) (bnd p) j ≡ bnd (goto (P .node p) p j)
     pub reach+ : (σ : Words) (j : Bool) → Goes (P .node p .act σ) j → reach (goto (P .node p) p j)
     pub live+ : (σ : Words) (j : Bool) → Goes (P .node p .act σ) j
-      → (s : ℕ) → live (goto (P .node p) p j) s → P .node p .gives s ≡ false → live p s
+        → (s : ℕ) → live (goto (P .node p) p j) s → P .node p .gives s ≡ false → live p s
 
   -- a place p that is removed: a silent step forward, over nothing that is kept, that gives no live slot a word
   pub record Gone (P : Program) (p : ℕ) : Type 0 where
@@ -61,7 +61,7 @@ module _ (reach : ℕ → Type 0) (live : ℕ → ℕ → Type 0) (bnd : ℕ →
 
 -- words given alike, over slots that agree
 put-agree : (g g′ : ℕ → Bool) (w w′ σ σ′ : Words) (L M : ℕ → Type 0) → ((s : ℕ) → g′ s ≡ g s) → ((s : ℕ) → g s ≡ true → w′ s ≡ w s)
-  → ((s : ℕ) → M s → g s ≡ false → L s) → Agree L σ σ′ → Agree M (put g w σ) (put g′ w′ σ′)
+    → ((s : ℕ) → M s → g s ≡ false → L s) → Agree L σ σ′ → Agree M (put g w σ) (put g′ w′ σ′)
 unfolding put
 put-agree g g′ w w′ σ σ′ L M g= w= l+ ag s m = go (g s) (g= s) refl
   where
@@ -71,7 +71,7 @@ put-agree g g′ w w′ σ σ′ L M g= w= l+ ag s m = go (g s) (g= s) refl
 
 -- words given to slots that nobody reads
 put-unread : (g : ℕ → Bool) (w σ σ′ : Words) (L M : ℕ → Type 0) → ((s : ℕ) → M s → L s) → ((s : ℕ) → M s → g s ≡ false)
-  → Agree L σ σ′ → Agree M (put g w σ) σ′
+    → Agree L σ σ′ → Agree M (put g w σ) σ′
 unfolding put
 put-unread g w σ σ′ L M l+ dead ag s m = rw (dead s m) (ag s (l+ s m))
 
@@ -113,7 +113,7 @@ le-of-way P p σ R w e = go (ltb p (P .size)) refl
 
 module _ (reach : ℕ → Type 0) (live : ℕ → ℕ → Type 0) (bnd : ℕ → ℕ) (W : World) (P P′ : Program) (G : Removal reach live bnd P P′) where
   kept-answer : (p : ℕ) → Kept reach live bnd P P′ p → (σ σ′ : Words) (R : List Event) → Agree (live p) σ σ′ → (e : Event)
-    → P .node p .act σ ≡ ask e → (r : Reply) → Rel reach live bnd (answered (P .node p) p σ R r) (answered (P′ .node (bnd p)) (bnd p) σ′ R r)
+      → P .node p .act σ ≡ ask e → (r : Reply) → Rel reach live bnd (answered (P .node p) p σ R r) (answered (P′ .node (bnd p)) (bnd p) σ′ R r)
   unfolding answered
   kept-answer p K σ σ′ R ag e q (words w j) =
       let g : Goes (P .node p .act σ) j = rw q asked in
@@ -121,8 +121,8 @@ module _ (reach : ℕ → Type 0) (live : ℕ → ℕ → Type 0) (bnd : ℕ →
   kept-answer p K σ σ′ R ag e q finish = off
 
   kept-move : (p : ℕ) → Kept reach live bnd P P′ p → (σ σ′ : Words) (R : List Event) → Agree (live p) σ σ′
-    → (A A′ : Act) → P .node p .act σ ≡ A → SameAct (P .node p .gives) A A′
-    → Rel reach live bnd (perform W (P .node p) p σ R A) (perform W (P′ .node (bnd p)) (bnd p) σ′ R A′)
+      → (A A′ : Act) → P .node p .act σ ≡ A → SameAct (P .node p .gives) A A′
+      → Rel reach live bnd (perform W (P .node p) p σ R A) (perform W (P′ .node (bnd p)) (bnd p) σ′ R A′)
   unfolding perform
   kept-move p K σ σ′ R ag A A′ q (silent= {w = w} {w′ = w′} {j = j} w=) =
       let g : Goes (P .node p .act σ) j = rw q silently in
@@ -132,7 +132,7 @@ module _ (reach : ℕ → Type 0) (live : ℕ → ℕ → Type 0) (bnd : ℕ →
   kept-move p K σ σ′ R ag A A′ q fail= = off
 
   gone-move : (p : ℕ) (N : Gone reach live bnd P p) (σ σ′ : Words) (R : List Event) → Agree (live p) σ σ′ → (w : Words) → P .node p .act σ ≡ silent w (N .jumps)
-    → Rel reach live bnd (perform W (P .node p) p σ R (P .node p .act σ)) (at (bnd p) σ′ R)
+      → Rel reach live bnd (perform W (P .node p) p σ R (P .node p .act σ)) (at (bnd p) σ′ R)
   unfolding perform
   gone-move p N σ σ′ R ag w q =
       rw (q, ← (N .stays)) (on (N .reach+) (put-unread _ w σ σ′ (live p) _ (N .live+) (N .unread) ag))
@@ -146,24 +146,24 @@ module _ (reach : ℕ → Type 0) (live : ℕ → ℕ → Type 0) (bnd : ℕ →
   step-in Q p σ R h = rw (ltb-is p (Q .size) h)
 
   gone-less : (p : ℕ) (N : Gone reach live bnd P p) (σ : Words) (R : List Event) → p < P .size → (w : Words) → P .node p .act σ ≡ silent w (N .jumps)
-    → left (perform W (P .node p) p σ R (P .node p .act σ)) < left (at p σ R)
+      → left (perform W (P .node p) p σ R (P .node p .act σ)) < left (at p σ R)
   unfolding perform left
   gone-less p N σ R h w q = rw q (let o = N .onward in let i = G .within _ (N .reach+) in omega arith)
 
   move-at : (p : ℕ) (σ σ′ : Words) (R : List Event) → p < P .size → Agree (live p) σ σ′ → Kept reach live bnd P P′ p ⊎ Gone reach live bnd P p
-    → ((wayOf P′ (at (bnd p) σ′ R) ≡ none) × Rel reach live bnd (step W P (at p σ R)) (step W P′ (at (bnd p) σ′ R)))
+      → ((wayOf P′ (at (bnd p) σ′ R) ≡ none) × Rel reach live bnd (step W P (at p σ R)) (step W P′ (at (bnd p) σ′ R)))
       ⊎ (Rel reach live bnd (step W P (at p σ R)) (at (bnd p) σ′ R) × (left (step W P (at p σ R)) < left (at p σ R)))
   move-at p σ σ′ R h ag (inl K) =
       inl (
         way-of-lt P′ (bnd p) σ′ R (K .inside),
-        rw (step-in P p σ R h, step-in P′ (bnd p) σ′ R (K .inside)) (kept-move p K σ σ′ R ag _ _ refl (K .acts σ σ′ ag))
+        rw (step-in P p σ R h, step-in P′ (bnd p) σ′ R (K .inside)) (kept-move p K σ σ′ R ag _ _ refl (K .acts σ σ′ ag)),
       )
   move-at p σ σ′ R h ag (inr N) =
       let w = N .still σ in
       inr (rw (step-in P p σ R h) (gone-move p N σ σ′ R ag (w .0) (w .1)), rw (step-in P p σ R h) (gone-less p N σ R h (w .0) (w .1)))
 
   rel-move : (x y : State) → Rel reach live bnd x y → wayOf P x ≡ none
-    → ((wayOf P′ y ≡ none) × Rel reach live bnd (step W P x) (step W P′ y)) ⊎ (Rel reach live bnd (step W P x) y × (left (step W P x) < left x))
+      → ((wayOf P′ y ≡ none) × Rel reach live bnd (step W P x) (step W P′ y)) ⊎ (Rel reach live bnd (step W P x) y × (left (step W P x) < left x))
   unfolding wayOf
   rel-move x y (on {p = p} {σ = σ} {σ′ = σ′} {R = R} r ag) e =
       let h = lt-of-way P p σ R e in move-at p σ σ′ R h ag (G .place p h r)

@@ -144,12 +144,12 @@ module _ (F : Function) (keep : List ℕ) (reach : ℕ → Type 0) (live : ℕ �
       kept-place p h r e = record {
         inside = inside p h e;
         acts = λ σ σ′ ag.
-          rw (moved-cell p h e, class-moved p h e, class-given p h, relocated-act keep p (cell p) (F .sections) W σ′ (classAt p) refl)
+            rw (moved-cell p h e, class-moved p h e, class-given p h, relocated-act keep p (cell p) (F .sections) W σ′ (classAt p) refl)
             (frame (F .sections) W (cell p) σ σ′ (classAt p) refl (λ s i. ag s (A .reads p h r e s i)));
         gives= = λ s. rw (moved-cell p h e, relocated-writes keep p (cell p) T (classAt p) refl .1);
         goto= = goto-moved p h e;
         reach+ = λ σ j g. A .onward p h r _ (rw (class-given p h) (goes-succ F W (classAt p) p (cell p) σ j (rw (class-given p h) at g)));
-        live+ = λ σ j g. A .flows p h r e _ (rw (class-given p h) (goes-succ F W (classAt p) p (cell p) σ j (rw (class-given p h) at g)))
+        live+ = λ σ j g. A .flows p h r e _ (rw (class-given p h) (goes-succ F W (classAt p) p (cell p) σ j (rw (class-given p h) at g)));
       }
 
       -- the acts of what may be removed
@@ -191,7 +191,7 @@ module _ (F : Function) (keep : List ℕ) (reach : ℕ → Type 0) (live : ℕ �
         stays = boundary-no keep (A .bits) p (rw (← A .long) h) e;
         reach+ = A .onward p h r _ (next (passing-falls (classAt p) k));
         live+ = l+;
-        unread = dead
+        unread = dead;
       }
       gone-place p h r e (skip k fwd b l+) = record {
         jumps = true;
@@ -200,7 +200,7 @@ module _ (F : Function) (keep : List ℕ) (reach : ℕ → Type 0) (live : ℕ �
         stays = rw (class-given p h, k) b;
         reach+ = rw (class-given p h) (A .onward p h r _ (branch (rw k refl)));
         live+ = rw (class-given p h, k) l+;
-        unread = λ s m. jump-gives p s k
+        unread = λ s m. jump-gives p s k;
       }
 
       sound : Removal reach live (boundary keep) (programOf F W) (programOf F′ W)
@@ -209,7 +209,7 @@ module _ (F : Function) (keep : List ℕ) (reach : ℕ → Type 0) (live : ℕ �
         within = A .within;
         first = boundary-zero keep;
         last = sym (kept-long keep (A .bits) (F .cells) (A .long));
-        place = λ p h r. which p h r (isKept keep p) refl
+        place = λ p h r. which p h r (isKept keep p) refl;
       }
         where
           which : (p : ℕ) → p < length (F .cells) → reach p → (t : Bool) → isKept keep p ≡ t

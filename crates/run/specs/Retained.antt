@@ -80,8 +80,8 @@ retained-at keep b q (x ∷ xs) e (suc k) h y =
 
     go : (t : Bool) → isKept keep q ≡ t → cellAt (cellsAfter (retainFrom keep (suc q) xs)) (boundary keep (suc q + k) - boundary keep (suc q)) ≡ relocate keep (suc q + k) (cellAt xs k)
         → cellAt (cellsAfter (cond t (record { instruction = relocate keep q x .instruction; metadata = relocate keep q x .metadata; place = q } ∷ retainFrom keep (suc q) xs) (retainFrom keep (suc q) xs)))
-          (boundary keep (suc q + k) - boundary keep q)
-          ≡ relocate keep (suc q + k) (cellAt xs k)
+        (boundary keep (suc q + k) - boundary keep q)
+        ≡ relocate keep (suc q + k) (cellAt xs k)
     go true t r =
         let s = boundary-yes keep q (omega arith) t in
         let u = up in
@@ -99,8 +99,8 @@ retained-long keep b q (x ∷ xs) e = go (isKept keep q) refl (retained-long kee
   where
     go : (t : Bool) → isKept keep q ≡ t → boundary keep (suc q) + length (retainFrom keep (suc q) xs) ≡ boundary keep (length keep)
         → boundary keep q
-          + length (cond t (record { instruction = relocate keep q x .instruction; metadata = relocate keep q x .metadata; place = q } ∷ retainFrom keep (suc q) xs) (retainFrom keep (suc q) xs))
-          ≡ boundary keep (length keep)
+        + length (cond t (record { instruction = relocate keep q x .instruction; metadata = relocate keep q x .metadata; place = q } ∷ retainFrom keep (suc q) xs) (retainFrom keep (suc q) xs))
+        ≡ boundary keep (length keep)
     go true t r = let s = boundary-yes keep q (omega arith) t in omega arith
     go false t r = let s = boundary-no keep b q (omega arith) t in omega arith
 

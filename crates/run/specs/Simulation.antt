@@ -16,7 +16,7 @@ module _ {R W : Type 0} where
     pub log= : (x : S .State) (y : S′ .State) → rel x y → S′ .log y ≡ S .log x
     pub end= : (x : S .State) (y : S′ .State) (w : W) → rel x y → S .way x ≡ some w → S′ .way y ≡ some w
     pub move : (x : S .State) (y : S′ .State) → rel x y → S .way x ≡ none
-      → ((S′ .way y ≡ none) × rel (S .next x) (S′ .next y)) ⊎ (rel (S .next x) y × (size (S .next x) < size x))
+        → ((S′ .way y ≡ none) × rel (S .next x) (S′ .next y)) ⊎ (rel (S .next x) y × (size (S .next x) < size x))
 
   module _ {S S′ : System R W} (M : Sim S S′) where
     open Sim M using (rel, size, log=, end=, move)
@@ -62,11 +62,11 @@ module _ {R W : Type 0} where
     settle (suc f) x y w b r e = go (settle f) (S .way x) refl
       where
         go : ((x₁ : S .State) (y₁ : S′ .State) (w₁ : W) → size x₁ < f → rel x₁ y₁ → S′ .way y₁ ≡ some w₁ → Settled x₁ y₁ w₁)
-          → (o : Option W) → S .way x ≡ o → Settled x y w
+            → (o : Option W) → S .way x ≡ o → Settled x y w
         go ih none p =
             elim (move x y r p) [
-              inl m ↦ let q : S′ .way y ≡ none = m .0 in let z : _≡_ {A = ℕ} 0 1 = cc in absurd (omega arith)
-            | inr m ↦ settled-alone x y w (ih (S .next x) y w (let h = m .1 in omega arith) (m .0) e)
+              | inl m ↦ let q : S′ .way y ≡ none = m .0 in let z : _≡_ {A = ℕ} 0 1 = cc in absurd (omega arith)
+              | inr m ↦ settled-alone x y w (ih (S .next x) y w (let h = m .1 in omega arith) (m .0) e)
             ]
         go ih (some v) p = let q : S′ .way y ≡ some v = end= x y v r p in (zero, cc, r)
 
@@ -86,8 +86,8 @@ module _ {R W : Type 0} where
         go : ((x₁ : S .State) (y₁ : S′ .State) → size x₁ < f → rel x₁ y₁ → Caught x₁ y₁) → (o : Option W) → S .way x ≡ o → Caught x y
         go ih none p =
             elim (move x y r p) [
-              inl m ↦ (1, m .1)
-            | inr m ↦ caught-alone x y (ih (S .next x) y (let h = m .1 in omega arith) (m .0))
+              | inl m ↦ (1, m .1)
+              | inr m ↦ caught-alone x y (ih (S .next x) y (let h = m .1 in omega arith) (m .0))
             ]
         go ih (some v) p = (zero, rw (S′ .stays y v (end= x y v r p)) r)
 
@@ -112,7 +112,7 @@ module _ {R W : Type 0} where
       ends = λ k w e. let a = forward k x y r in (a .0, a .1, end= _ _ w (a .2) e, log= _ _ (a .2));
       logs⁻ = λ j. let b = backward j x y r in (b .0, sym (log= _ _ (b .1)));
       ends⁻ = λ j w e.
-        let b = backward j x y r in
-        let c = settle (suc (size (after S (b .0) x))) _ _ w (le-refl _) (b .1) e in
-        (b .0 + c .0, rw (after-add S (b .0) (c .0) x) (c .1), rw (after-add S (b .0) (c .0) x) (sym (log= _ _ (c .2))))
+          let b = backward j x y r in
+          let c = settle (suc (size (after S (b .0) x))) _ _ w (le-refl _) (b .1) e in
+          (b .0 + c .0, rw (after-add S (b .0) (c .0) x) (c .1), rw (after-add S (b .0) (c .0) x) (sym (log= _ _ (c .2))));
     }

@@ -159,7 +159,7 @@ module _ (S : Sections) (leaders keep : List ℕ) (cells : List Cell) where
     -- what is live before each place, of the rows alone
     pub whole-at : (p : ℕ) → p < n
         → walk p .before
-          ≡ (let after = liveAfter S n leaders keep rows p (cellAt cells p) (walk (suc p) .before) in cond (isKept keep p) (liveBefore (S .tables) (cellAt cells p) after) after)
+        ≡ (let after = liveAfter S n leaders keep rows p (cellAt cells p) (walk (suc p) .before) in cond (isKept keep p) (liveBefore (S .tables) (cellAt cells p) after) after)
     whole-at p h = walk-before p h ∙ rw (rows-same (suc p) h)
 
     -- a block's row is what is live before its first place

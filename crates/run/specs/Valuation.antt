@@ -148,14 +148,14 @@ module _ {width : ℕ} where
   static-empty p = record {
     slot< = λ s. initially;
     expression< = λ e v q. let z : _≡_ {A = ℕ} 0 1 = cc in absurd (omega arith);
-    recorded< = λ v r q. let z : _≡_ {A = ℕ} 0 1 = cc in absurd (omega arith)
+    recorded< = λ v r q. let z : _≡_ {A = ℕ} 0 1 = cc in absurd (omega arith);
   }
 
   pub static-suc : {t : Values} {p : ℕ} → Static width t p → Static width t (suc p)
   static-suc h = record {
     slot< = λ s. below-suc (h .slot< s);
     expression< = λ e v q. let b = h .expression< e v q in (below-suc (b .0), below-both-suc (b .1));
-    recorded< = h .recorded<
+    recorded< = h .recorded<;
   }
 
   pub static-hold : {t : Values} {p : ℕ} (a : ℕ) (v : Atom) → Static width t p → Below p v → Static width (hold t a v) p
@@ -180,7 +180,7 @@ module _ {width : ℕ} where
   static-learn {t} {p} e a h be = record {
     slot< = λ s. below-suc (h .slot< s);
     expression< = λ d v m. go d v (sameExpression e d) refl m;
-    recorded< = h .recorded<
+    recorded< = h .recorded<;
   }
     where
       go : (d : Expression) (v : Atom) (u : Bool) → sameExpression e d ≡ u → cond u (some (Definition p a)) (expressionIn (t .expressions) d) ≡ some v
@@ -198,7 +198,7 @@ module _ {W : World} where
   unfolding valueIn expressionIn wordOf
   valid-empty σ = record {
     slot= = λ s. refl;
-    expression= = λ e v q. let z : _≡_ {A = ℕ} 0 1 = cc in absurd (omega arith)
+    expression= = λ e v q. let z : _≡_ {A = ℕ} 0 1 = cc in absurd (omega arith);
   }
 
   -- the slots that g names are slot a alone, which is given the word of v
@@ -221,7 +221,7 @@ module _ {W : World} where
   unfolding learn expressionIn
   valid-learn {width} {ρ} {t} {p} {σ} e a w l k h be q = record {
     slot= = λ s. word-old ρ w (k .slot< s) ∙ h .slot= s;
-    expression= = λ d v m. eq d v (sameExpression e d) refl m
+    expression= = λ d v m. eq d v (sameExpression e d) refl m;
   }
     where
       old-expression : (d : Expression) → BelowBoth p d → wordOfExpression W (define ρ p w) d ≡ wordOfExpression W ρ d

@@ -133,10 +133,12 @@ loop-again c =
     let lx : length (x .last .0) ≡ s .args .w = rw part at (x .kept .0) ∙ lu in
     let ly : length (x .last .1 .0) ≡ s .args .w = rw part at (x .kept .1 .0) ∙ lv in
     let eu : putMid at (at + s .args .w - at) (l .uses) (x .last .0) ≡ putMid at (s .args .w) (l .uses) (x .last .0) = rw part in
-    let ev : putMid at (at + s .args .w - at) (l .preserved) (x .last .1 .0) ≡ putMid at (s .args .w) (l .preserved) (x .last .1 .0) = rw part in
-    (omega arith, put-still (s .args .w) (l .b) (s .args .count) (l .uses) (x .last .0) _ (c .before .before .before .before .before .before .before .before .before .loop-test .taken) (l .inv .1) lx eu,
-     put-still (s .args .w) (l .b) (s .args .count) (l .preserved) (x .last .1 .0) _ (c .before .before .before .before .before .before .before .before .before .loop-test .taken) (l .inv .2) ly ev,
-     summed-turn T (s .args .keep .now) (cellsBy (s .args .words .now) (s .args .metadata .now)) (s .args .w) (s .args .starts .now) (l .uses) (l .preserved) _ _ (x .last .0) (x .last .1 .0) (l .b) (s .args .count) (c .before .before .before .before .before .before .before .before .before .loop-test .taken) (l .inv .1) (l .inv .2) lx ly eu ev (l .inv .3) (x .ensures))
+    let ev : putMid at (at + s .args .w - at) (l .preserved) (x .last .1 .0) ≡ putMid at (s .args .w) (l .preserved) (x .last .1 .0) = rw part in (
+      omega arith,
+      put-still (s .args .w) (l .b) (s .args .count) (l .uses) (x .last .0) _ (c .before .before .before .before .before .before .before .before .before .loop-test .taken) (l .inv .1) lx eu,
+      put-still (s .args .w) (l .b) (s .args .count) (l .preserved) (x .last .1 .0) _ (c .before .before .before .before .before .before .before .before .before .loop-test .taken) (l .inv .2) ly ev,
+      summed-turn T (s .args .keep .now) (cellsBy (s .args .words .now) (s .args .metadata .now)) (s .args .w) (s .args .starts .now) (l .uses) (l .preserved) _ _ (x .last .0) (x .last .1 .0) (l .b) (s .args .count) (c .before .before .before .before .before .before .before .before .before .loop-test .taken) (l .inv .1) (l .inv .2) lx ly eu ev (l .inv .3) (x .ensures),
+    )
 
 same-length : tie.Need-same-length Inv-loop μ-loop
 same-length c = c .before .loop .inv .1 ∙ sym (c .before .before .before .before .before .before .before .before .before .before .before .pre .4)

@@ -39,9 +39,13 @@ loop-again c =
     let T : Tables = tablesOf (s .args .functions .now) (s .args .externs .now) (s .args .cases .now) in
     let l = c .before .before .before .before .before .before .before .before .loop in
     let x = c .before .before .before .before .summarize-place in
-    let q : l .p ≡ suc (l .p - 1) = omega arith in
-    (omega arith, omega arith, x .kept .0 ∙ l .inv .2, omega (arith, x .kept .0, x .kept .1),
-     summary-turn T (s .args .keep .now) (cellsBy (s .args .words .now) (s .args .metadata .now)) _ _ _ _ _ _ _ _ q (l .inv .1) (cell-at (s .args .words .now) (s .args .metadata .now) (l .p - 1) (omega arith)) (l .inv .4) (x .kept .0) (x .ensures))
+    let q : l .p ≡ suc (l .p - 1) = omega arith in (
+      omega arith,
+      omega arith,
+      x .kept .0 ∙ l .inv .2,
+      omega (arith, x .kept .0, x .kept .1),
+      summary-turn T (s .args .keep .now) (cellsBy (s .args .words .now) (s .args .metadata .now)) _ _ _ _ _ _ _ _ q (l .inv .1) (cell-at (s .args .words .now) (s .args .metadata .now) (l .p - 1) (omega arith)) (l .inv .4) (x .kept .0) (x .ensures),
+    )
 
 same-length : tie.Need-same-length Inv-loop μ-loop
 same-length c = c .before .loop .inv .2 ∙ c .before .before .before .before .before .before .before .before .fill .kept .0

@@ -18,9 +18,12 @@ join-if-requires-2 : tie.Need-join-if-requires-2
 join-if-requires-2 c κs =
     let s = c .before .before .before .before .before .before .before .before .before .before .before .before .before .before .before .before .before .before .before in
     let long : length (c .before .before .before .before .before .join-if .last .0) ≡ length (s .args .out .now) = c .before .before .before .before .before .join-if .kept .0 ∙ c .before .before .before .before .before .before .before .before .before .before .fill .kept .0 in
-    rw long (s .pre .0, λ e.
-        let h : c .target .result < length (s .args .words .now) = target-inside _ _ _ _ _ _ _ (c .before .before .before .before .before .before .before .before .before .before .before .before .before .from-word .ensures) (c .before .before .before .before .before .before .before .before .before .before .before .before .class .ensures) (c .before .branches .ensures) (c .target .ensures) (s .pre .4) e in
-        (rw (s .pre .3) h, s .pre .5 (c .target .result) h))
+    rw long (
+      s .pre .0,
+      λ e.
+          let h : c .target .result < length (s .args .words .now) = target-inside _ _ _ _ _ _ _ (c .before .before .before .before .before .before .before .before .before .before .before .before .before .from-word .ensures) (c .before .before .before .before .before .before .before .before .before .before .before .before .class .ensures) (c .before .branches .ensures) (c .target .ensures) (s .pre .4) e in
+          (rw (s .pre .3) h, s .pre .5 (c .target .result) h),
+    )
 
 returns : tie.Need-returns
 returns c =

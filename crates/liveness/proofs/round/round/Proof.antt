@@ -45,11 +45,15 @@ loop-again c =
     let below : l .b - 1 < s .args .count = omega arith in
     let one : l .b ≡ l .b - 1 + 1 = omega arith in
     let rise = s .pre .rising (l .b - 1) below in
-    let inner : getD (s .args .starts .now) (l .b - 1 + 1) 0 - 1 < length (s .args .words .now) = omega (arith, rise .0, rise .1) in
-    (omega arith, x .kept .0 ∙ l .inv .1, omega (arith, x .kept .1), λ S leaders keep metadata rows a.
-        rounding-turn S leaders keep (cellsBy (s .args .words .now) metadata) (length (s .args .out .now)) (s .args .count) rows (s .args .blocks .now) (s .args .starts .now) (s .args .uses .now) (s .args .preserved .now) (s .args .live .now) a
-        (l .live) (x .last .0) (l .b) (l .b - 1) (getD (s .args .starts .now) (l .b - 1 + 1) 0 - 1) (l .changed) (x .result) one below refl (l .inv .3 S leaders keep metadata rows a)
-        (visited-cells (s .args .words .now) metadata _ _ _ _ _ _ _ _ _ inner (rw (l .inv .2) at (x .ensures))))
+    let inner : getD (s .args .starts .now) (l .b - 1 + 1) 0 - 1 < length (s .args .words .now) = omega (arith, rise .0, rise .1) in (
+      omega arith,
+      x .kept .0 ∙ l .inv .1,
+      omega (arith, x .kept .1),
+      λ S leaders keep metadata rows a.
+          rounding-turn S leaders keep (cellsBy (s .args .words .now) metadata) (length (s .args .out .now)) (s .args .count) rows (s .args .blocks .now) (s .args .starts .now) (s .args .uses .now) (s .args .preserved .now) (s .args .live .now) a
+          (l .live) (x .last .0) (l .b) (l .b - 1) (getD (s .args .starts .now) (l .b - 1 + 1) 0 - 1) (l .changed) (x .result) one below refl (l .inv .3 S leaders keep metadata rows a)
+          (visited-cells (s .args .words .now) metadata _ _ _ _ _ _ _ _ _ inner (rw (l .inv .2) at (x .ensures))),
+    )
 
 same-length : tie.Need-same-length Inv-loop μ-loop
 same-length c = c .before .loop .inv .1

@@ -44,18 +44,21 @@ returns c =
     let x = c .before .before .before .before .before .round in
     let done = rw (l .inv .1) at (x .ensures) in
     λ S leaders keep metadata rows a.
-        let v = l .inv .2 S leaders keep metadata rows a in
-        solving-found S leaders keep (cellsBy (s .args .words .now) metadata) (length (s .args .out .now)) (s .args .count) (s .args .limit) rows (s .args .blocks .now) (s .args .starts .now) (s .args .uses .now) (s .args .preserved .now) (l .live) _ (l .k) (omega arith) v _ (done S leaders keep metadata (v .current) (v .around)) (not-true _ (c .if1 .taken))
+    let v = l .inv .2 S leaders keep metadata rows a in
+    solving-found S leaders keep (cellsBy (s .args .words .now) metadata) (length (s .args .out .now)) (s .args .count) (s .args .limit) rows (s .args .blocks .now) (s .args .starts .now) (s .args .uses .now) (s .args .preserved .now) (l .live) _ (l .k) (omega arith) v _ (done S leaders keep metadata (v .current) (v .around)) (not-true _ (c .if1 .taken))
 
 loop-again : tie.Need-loop-again Inv-loop μ-loop
 loop-again c =
     let l = c .before .before .before .before .before .before .before .before .before .loop in
     let s = c .before .before .before .before .before .before .before .before .before .before .before .before .before .before .before .before .before in
     let x = c .before .before .before .before .before .round in
-    let done = rw (l .inv .1) at (x .ensures) in
-    (x .kept .0 ∙ l .inv .0, omega (arith, x .kept .1), λ S leaders keep metadata rows a.
-        let v = l .inv .2 S leaders keep metadata rows a in
-        solving-turn S leaders keep (cellsBy (s .args .words .now) metadata) (length (s .args .out .now)) (s .args .count) (s .args .limit) rows (s .args .blocks .now) (s .args .starts .now) (s .args .uses .now) (s .args .preserved .now) (l .live) _ (l .k) (omega arith) v _ (done S leaders keep metadata (v .current) (v .around)) (not-false _ (c .if1 .left)))
+    let done = rw (l .inv .1) at (x .ensures) in (
+      x .kept .0 ∙ l .inv .0,
+      omega (arith, x .kept .1),
+      λ S leaders keep metadata rows a.
+          let v = l .inv .2 S leaders keep metadata rows a in
+          solving-turn S leaders keep (cellsBy (s .args .words .now) metadata) (length (s .args .out .now)) (s .args .count) (s .args .limit) rows (s .args .blocks .now) (s .args .starts .now) (s .args .uses .now) (s .args .preserved .now) (l .live) _ (l .k) (omega arith) v _ (done S leaders keep metadata (v .current) (v .around)) (not-false _ (c .if1 .left)),
+    )
 
 same-length-3 : tie.Need-same-length-3 Inv-loop μ-loop
 same-length-3 c = c .before .loop .inv .0

@@ -16,7 +16,7 @@ loop-holds : tie.Need-loop-holds Inv-loop μ-loop
 loop-holds c = (omega arith, stored-begin _ _)
 
 loop-again : tie.Need-loop-again Inv-loop μ-loop
-loop-again c = 
+loop-again c =
     let l = c .before .before .before .loop in
     (omega arith, stored-turn _ _ _ _ _ (l .inv .1) (c .before .before .loop-test .taken) (rw (l .inv .1 .rest (l .k) (omega arith))))
 
@@ -24,7 +24,7 @@ same-length : tie.Need-same-length Inv-loop μ-loop
 same-length c = c .before .loop .inv .1 .long
 
 returns : tie.Need-returns Inv-loop μ-loop
-returns c = 
+returns c =
     let s = c .before .before in
     joined-sets _ _ _ (stored-end _ _ _ _ (c .before .loop .inv .1) (omega arith) (or-past (s .args .row .now) (s .args .other .now) (s .pre)))
 

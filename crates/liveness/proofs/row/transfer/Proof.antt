@@ -35,10 +35,11 @@ same-length c = c .before .loop .inv .1 .stored .long
 returns : tie.Need-returns Inv-loop μ-loop
 returns c =
     let s = c .before .before in
-    let l = c .before .loop in
-    (transferred-sets (s .args .uses .now) (s .args .out .now) (s .args .preserved .now) _
-     (stored-end _ _ _ _ (l .inv .1 .stored) (omega arith) (transfer-past (s .args .uses .now) (s .args .out .now) (s .args .preserved .now) _ (s .pre .0) (s .pre .2))),
-     moved _ _ _ _ _ (l .inv .1) (omega arith))
+    let l = c .before .loop in (
+      transferred-sets (s .args .uses .now) (s .args .out .now) (s .args .preserved .now) _
+          (stored-end _ _ _ _ (l .inv .1 .stored) (omega arith) (transfer-past (s .args .uses .now) (s .args .out .now) (s .args .preserved .now) _ (s .pre .0) (s .pre .2))),
+      moved _ _ _ _ _ (l .inv .1) (omega arith),
+    )
 
 pub transfer-spec : {M : Type 1} → statement M
 transfer-spec =
