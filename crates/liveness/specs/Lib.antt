@@ -13,3 +13,4 @@ pub mod Rounding
 pub mod Solving
 pub mod Unread
 pub mod Sweeping
+pub mod Sweep

@@ -31,7 +31,7 @@ use Rattle.liveness.specs.Shown.{Holds, member-past, bit-past}
 
 -- ---- slots that no instruction reads
 
-not-touched : (s t : ℕ) (l : List Range) → Within s l → s ≤ t → touches l t ≡ false
+pub not-touched : (s t : ℕ) (l : List Range) → Within s l → s ≤ t → touches l t ≡ false
 unfolding allOf anyOf rangeHas
 not-touched s t [] w h = refl
 not-touched s t (r ∷ l) w h =

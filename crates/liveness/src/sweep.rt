@@ -1,20 +1,23 @@
 // The sweep that drops dead stores, from the last place to the first.
 ghost use mathlib.Core.Path.{_≡_};
 ghost use mathlib.Core.Bool.{true};
+ghost use mathlib.Core.List.{List};
 ghost use Prim.Native.Nat.{ℕ, _+_, _*_, _≤_, _<_};
 ghost use lib.ListN.{length, getD};
 ghost use Rattle.instruction.specs.Instruction.{ofWord, class};
 ghost use Rattle.unit.specs.Size.{maxInstructions, metadataSize};
 ghost use Rattle.effects.specs.Shape.{tablesOf};
-ghost use Rattle.effects.specs.Cells.{cellOf};
+ghost use Rattle.effects.specs.Cells.{cellOf, cellsBy};
 ghost use Rattle.effects.specs.Form.{emptyRange};
 ghost use Rattle.effects.specs.Sound.{writesByClass};
 ghost use Rattle.flow.specs.Branch.{branchInside};
 ghost use Rattle.pc_map.specs.Boundary.{isKept};
-ghost use Rattle.liveness.specs.Live.{isLast};
+ghost use Rattle.liveness.specs.Live.{Row, isLast};
+ghost use Rattle.liveness.specs.Dead.{sweepFrom};
 ghost use Rattle.liveness.specs.Touched.{Fits};
 ghost use Rattle.liveness.specs.Unread.{Spans, deadBy};
 ghost use Rattle.liveness.specs.Sweeping.{Entered, Swept};
+ghost use Rattle.liveness.specs.Sweep.{Grounds, Sweepable, sections};
 use crate::dead;
 use crate::out;
 use crate::touch;
@@ -72,4 +75,39 @@ pub fn sweep_place(
         return;
     }
     touch::live_before(row, i, metadata, p, functions, externs, cases);
+}
+
+// Drops the dead stores, given what is live at the start of each block.
+pub fn sweep(
+    keep: &mut [u32],
+    row: &mut [u64],
+    live: &[u64],
+    words: &[u64],
+    metadata: &[u8],
+    types: &[u8],
+    leaders: &[u32],
+    blocks: &[u32],
+    functions: &[u8],
+    externs: &[u8],
+    cases: &[u8],
+)
+    requires { ⌜ Sweepable (tablesOf (now functions) (now externs) (now cases)) (now words) (now metadata) (now types) (now leaders) (now blocks) (length (now keep)) (length (now row)) (length (now live)) ⌝ }
+    ensures { λ _. ⌜ ((locals : ℕ) (constants : List ℕ) (rows : List Row) → Grounds (sections locals (now (types .entry)) constants (tablesOf (now (functions .entry)) (now (externs .entry)) (now (cases .entry)))) (now (leaders .entry)) (now (keep .entry)) (cellsBy (now (words .entry)) (now (metadata .entry))) rows (length (now (row .entry))) (now (blocks .entry)) (now (live .entry)) → now (keep .exit) ≡ sweepFrom (sections locals (now (types .entry)) constants (tablesOf (now (functions .entry)) (now (externs .entry)) (now (cases .entry)))) (length (cellsBy (now (words .entry)) (now (metadata .entry)))) (now (leaders .entry)) (now (keep .entry)) rows 0 (cellsBy (now (words .entry)) (now (metadata .entry))) .keep) ⌝ }
+{
+    let mut p = words.len();
+    while p > 0 {
+        p -= 1;
+        enter_place(row, live, words, blocks, leaders, p);
+        sweep_place(
+            keep,
+            row,
+            words,
+            metadata,
+            types,
+            functions,
+            externs,
+            cases,
+            p,
+        );
+    }
 }
