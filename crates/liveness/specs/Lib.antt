@@ -1,2 +1,16 @@
 pub mod Live
 pub mod Dead
+pub mod Sets
+pub mod Touched
+pub mod Wordwise
+pub mod Through
+pub mod Rows
+pub mod Shown
+pub mod Round
+pub mod Out
+pub mod Visit
+pub mod Rounding
+pub mod Solving
+pub mod Unread
+pub mod Sweeping
+pub mod Sweep
