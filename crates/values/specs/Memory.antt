@@ -70,6 +70,9 @@ memoryOf n S t =
       expressions = part (expressionsAt n S) (endAt n S) t;
     }
 
+abbrev pub stateOf : ℕ → ℕ → ℕ → ℕ → ℕ → State
+stateOf epoch rbase rcount ebase ecount = record { epoch = epoch; rbase = rbase; rcount = rcount; ebase = ebase; ecount = ecount }
+
 -- ---- what the memory says
 
 -- of a slot: the epoch of its last store, the two words of its value, a mark

@@ -42,6 +42,12 @@ pub struct State {
     pub ecount: usize,
 }
 
+// The slot that stands for a value, and the number of constants' entries after it.
+pub struct Placed {
+    pub slot: u16,
+    pub count: usize,
+}
+
 // The slot that stands for a value, and the state after it.
 pub struct Chosen {
     pub slot: u16,
@@ -58,4 +64,10 @@ pub struct Step {
 pub struct Turn {
     pub word: u64,
     pub state: State,
+}
+
+// The value that LoadConst gives.
+pub enum Loaded {
+    Value(Atom),
+    Unknown,
 }
