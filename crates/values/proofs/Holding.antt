@@ -2,19 +2,19 @@
 -- Assumes nothing.
 use mathlib.Core.Path.{_≡_, refl, sym, ap, _∙_}
 use mathlib.Core.Bool.{Bool, true, false, cond, _&&_}
-use mathlib.Core.List.{List, [], _∷_}
-use mathlib.Core.Logic.{⊎-elim, _⊎_, inl, inr}
-use mathlib.Core.Option.{Option, none, some}
-use Prim.Native.Nat.{ℕ, suc, _+_, _*_, _/_, _%_, _^_, _≤_, _<_}
+use mathlib.Core.List.{List, _∷_}
+use mathlib.Core.Logic.{⊎-elim, _⊎_, inl}
+use mathlib.Core.Option.{none, some}
+use Prim.Native.Nat.{ℕ, _+_, _*_, _/_, _%_, _≤_, _<_}
 use native.Mathlib.Omega.{arith}
 use lib.Dec.{eqb, ltb}
 use lib.ListN.{length, getD, set, length-set}
 use lib.Seq.{getD-set-same, getD-set-other}
 use borrow.Author.Tests.{eqb-true, eqb-false, eq-eqb, ne-eqb, lt-ltb, le-ltb}
-use Rattle.values.specs.Table.{Values, Expression, SlotEntry, ExpressionEntry, empty, atStart, valueIn, valueOf, slotIn, expressionIn, sameAtom, sameExpression, usable, recordedSlot, learn}
+use Rattle.values.specs.Table.{Values, Expression, SlotEntry, empty, atStart, valueIn, slotIn, expressionIn, sameAtom, sameExpression, usable, recordedSlot, learn}
 use Rattle.values.specs.Entries.{newest, Added, sameKey}
 use Rattle.values.specs.Chain.{none-left}
-use Rattle.values.specs.Memory.{tagOf, bitsOf, atomOf, definitionOf, Memory, slotValue, markAt, constantKey, keyOf, recordedAt, usableIn, usableAt, expressionAt, slotFound, atomFound, Sound, SoundExpression, Past, Holds}
+use Rattle.values.specs.Memory.{tagOf, bitsOf, Memory, slotValue, markAt, constantKey, keyOf, recordedAt, usableIn, usableAt, expressionAt, slotFound, atomFound, Sound, SoundExpression, Holds}
 use Rattle.values.specs.Kept.{recording, counted, taught}
 use Rattle.values.specs.declared.Atom.{Atom}
 use Rattle.values.specs.declared.Atom.the-variants.{Integer, Float, Definition}

@@ -2,20 +2,20 @@
 -- Assumes nothing.
 use mathlib.Core.Path.{_≡_, refl, sym, ap, _∙_}
 use mathlib.Core.Bool.{Bool, true, false, cond, _&&_}
-use mathlib.Core.List.{List, [], _∷_}
+use mathlib.Core.List.{List, _∷_}
 use mathlib.Core.Logic.{⊎-elim, _⊎_}
-use mathlib.Core.Option.{Option, none, some}
-use Prim.Native.Nat.{ℕ, _+_, _*_, _-_, _/_, _^_, _≤_, _<_}
+use mathlib.Core.Option.{none, some}
+use Prim.Native.Nat.{ℕ, _+_, _*_, _-_, _≤_, _<_}
 use native.Mathlib.Omega.{arith}
 use lib.Dec.{eqb, ltb}
 use lib.ListN.{length, getD, set, length-set}
 use borrow.Rule.Slice.PartMut.{putMid}
 use borrow.Author.Tests.{ltb-true, eq-eqb}
 use Rattle.words.specs.Regions.{mid-long}
-use Rattle.values.specs.Table.{Values, Expression, Represented, atStart, sameAtom, valueIn, valueOf, slotIn, usable, recordedSlot, representative, orItself, store, learn}
-use Rattle.values.specs.Entries.{Linked, Added}
-use Rattle.values.specs.Memory.{placesAt, constantsAt, expressionsAt, endAt, Memory, memoryOf, slotValue, constantKey, keyOf, recordedAt, usableIn, usableAt, slotFound, Ready, Sound, SoundExpression, Holds, tagOf, bitsOf, atomOf}
-use Rattle.values.specs.Kept.{Kept, Recorded, Represents, Stores, Learns, recording, counted, taught}
+use Rattle.values.specs.Table.{Values, atStart, sameAtom, valueIn, valueOf, recordedSlot, representative, orItself, store}
+use Rattle.values.specs.Entries.{Added}
+use Rattle.values.specs.Memory.{placesAt, constantsAt, expressionsAt, endAt, Memory, memoryOf, slotValue, constantKey, recordedAt, usableIn, usableAt, slotFound, Ready, Sound, Holds, tagOf, bitsOf, atomOf}
+use Rattle.values.specs.Kept.{Kept, Recorded, Represents, Stores, Learns, counted, taught}
 use Rattle.values.specs.declared.Atom.{Atom}
 use Rattle.values.specs.declared.Atom.the-variants.{Integer, Float, Definition}
 use Rattle.values.specs.declared.Found.{Found}

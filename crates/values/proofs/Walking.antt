@@ -1,11 +1,11 @@
 -- What each function of the walk does, from what the functions that it calls do.
 -- Assumes nothing.
 use mathlib.Core.Path.{_≡_, refl, sym, ap, _∙_}
-use mathlib.Core.Bool.{Bool, true, false, cond, _&&_, _||_, not}
+use mathlib.Core.Bool.{Bool, true, false, cond, _&&_}
 use mathlib.Core.List.{List, [], _∷_}
 use mathlib.Core.Logic.{⊎-elim, _⊎_, inl, inr}
 use mathlib.Core.Option.{Option, none, some}
-use Prim.Native.Nat.{ℕ, suc, _+_, _*_, _/_, _%_, _^_, _≤_, _<_}
+use Prim.Native.Nat.{ℕ, _+_, _%_, _^_, _≤_, _<_}
 use native.Mathlib.Omega.{arith}
 use lib.Dec.{eqb}
 use lib.ListN.{length, getD}
@@ -20,12 +20,12 @@ use Rattle.instruction.specs.Class.{numberOf, namedClass, named-number}
 use Rattle.instruction.specs.Instruction.{plain, withImm32}
 use Rattle.values.specs.Fold.{fitsImm32}
 use Rattle.effects.specs.Shape.{Sections, Tables, tablesOf}
-use Rattle.values.specs.Table.{Values, Expression, Represented, empty, valueOf, expressionIn, recordedSlot, representative, store, learn}
-use Rattle.values.specs.Number.{Numbered, setA, setB, setBC, loadOrStay, foldUnary, foldBinary, isScalar, stored as storedBy, copyOrStay, byExpression, byValue, numberUnary, numberBinary, numberCopy, numberConstant, numberRead, decided, numberJump, cleared as clearedBy, numberBy}
+use Rattle.values.specs.Table.{Values, Expression, Represented, empty, valueOf, expressionIn, recordedSlot, representative, learn}
+use Rattle.values.specs.Number.{Numbered, setA, setB, setBC, loadOrStay, stored as storedBy, copyOrStay, byExpression, byValue, numberUnary, numberBinary, numberCopy, numberConstant, numberRead, decided, numberJump, cleared as clearedBy, numberBy}
 use Rattle.values.specs.Folded.{answered, expressionOf}
 use Rattle.values.specs.Entries.{newest}
-use Rattle.values.specs.Memory.{Memory, atomOf, definitionOf, memoryOf, keyOf, slotValue, recordedAt, usableAt, expressionAt, slotFound, atomFound, Ready, Sound, SoundExpression, Holds}
-use Rattle.values.specs.Kept.{cleared, Kept, Represents, Chooses, Stores, Learns}
+use Rattle.values.specs.Memory.{Memory, atomOf, memoryOf, keyOf, slotValue, usableAt, slotFound, atomFound, Ready, Sound, SoundExpression, Holds}
+use Rattle.values.specs.Kept.{cleared, Kept, Chooses, Stores, Learns}
 use Rattle.values.specs.Walk.{sectionsOf, wordOf, Stands, Known, Becomes, Defines, Room, Second, foldBy, secondOf, atomIn, IsWord, HasWord, binaryClass, onZero, Named, combined, operated, scalarIn, undecidedBy, takes, pureBy, otherBy, by-other}
 use Rattle.values.specs.declared.Atom.{Atom}
 use Rattle.values.specs.declared.Atom.the-variants.{Integer, Float, Definition}
@@ -41,9 +41,6 @@ use Rattle.values.specs.declared.Chosen.{Chosen}
 use Rattle.values.specs.declared.Step.{Step}
 use Rattle.values.proofs.Atom.{the-type}
 use Rattle.values.proofs.Holding.{usable-holds, hold-nothing}
-
-abbrev Promise : Type 1
-Promise = (ℕ → ℕ) → List ℕ → Type 0
 
 -- more may be allowed than was used
 pub widen : {n S k r e k′ r′ e′ : ℕ} {st : State} {t : List ℕ} {st′ : State} {t′ : List ℕ} → k ≤ k′ → r ≤ r′ → e ≤ e′ → Kept n S k r e st t st′ t′ → Kept n S k′ r′ e′ st t st′ t′

@@ -3,8 +3,8 @@
 use mathlib.Core.Path.{_≡_}
 use mathlib.Core.List.{List, _∷_}
 use Prim.Native.Nat.{ℕ, _+_, _≤_, _<_}
-use lib.ListN.{length, getD}
-use Rattle.values.specs.Table.{Values, Expression, Represented, valueOf, representative, store, learn}
+use lib.ListN.{length}
+use Rattle.values.specs.Table.{Values, Expression, valueOf, representative, store, learn}
 use Rattle.values.specs.Memory.{memoryOf, slotValue, keyOf, Ready, Sound, SoundExpression, Holds}
 use Rattle.values.specs.declared.Atom.{Atom}
 use Rattle.values.specs.declared.Atom.the-variants.{Definition}

@@ -1,6 +1,6 @@
 // Folding: the words that integer opcodes give, and the known integer that an expression folds to.
 ghost use mathlib.Core.Path.{_≡_};
-ghost use Prim.Native.Nat.{_%_, _^_, _≤_};
+ghost use Prim.Native.Nat.{_%_, _^_};
 ghost use Rattle.words.specs.Lists.{isIn};
 ghost use Rattle.values.specs.Fold.{bool, lowBits, trunc, bitWord, foldingUnary, foldingBinary, foldWord, fitsImm32};
 ghost use Rattle.values.specs.Number.{foldUnary, foldBinary};

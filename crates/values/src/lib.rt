@@ -33,7 +33,8 @@ pub enum Found {
     Nothing,
 }
 
-// How far the tables in memory are filled, and what of them is valid: marks and values of this epoch, entries from the bases on.
+// How far the tables in memory are filled, and what of them is valid: marks and values of this epoch, and of the entries
+// (recorded slots of constants, expressions) those from the base up to the count.
 pub struct State {
     pub epoch: u64,
     pub rbase: usize,

@@ -1,22 +1,21 @@
 // The walk over the function: each instruction rewritten by the values known before it.
 ghost use mathlib.Core.Path.{_≡_};
-ghost use mathlib.Core.Bool.{Bool, true, cond, not};
+ghost use mathlib.Core.Bool.{true, cond};
 ghost use mathlib.Core.List.{List, map};
 ghost use Prim.Native.Nat.{ℕ, _+_, _*_, _≤_, _<_};
-ghost use lib.Dec.{eqb};
 ghost use lib.ListN.{length, getD};
 ghost use Rattle.instruction.specs.Instruction.{class, ofWord, toWord};
 ghost use Rattle.effects.specs.Shape.{Cell, Tables};
 ghost use Rattle.effects.specs.Cells.{cellsBy};
 ghost use Rattle.values.specs.Table.{valueOf, expressionIn, recordedSlot};
-ghost use Rattle.values.specs.Number.{loadOrStay, isScalar, copyOrStay, constantAtom, stored as storedBy, byExpression, byValue, numberCopy, numberConstant, numberRead, numberJump, numberBy, number, numberCode};
+ghost use Rattle.values.specs.Number.{loadOrStay, copyOrStay, constantAtom, stored as storedBy, byExpression, byValue, numberCopy, numberConstant, numberRead, numberJump, numberBy, number, numberCode};
 ghost use Rattle.values.specs.Folded.{expressionOf};
-ghost use Rattle.values.specs.Memory.{atomOf, memoryOf, slotValue, endAt, keyOf, Ready, Sound, SoundExpression};
+ghost use Rattle.values.specs.Memory.{atomOf, slotValue, endAt, keyOf, Ready, Sound};
 ghost use Rattle.values.specs.Entries.{bucketOf};
 ghost use Rattle.values.specs.Walk.{Named, wordOf, Stands, Known, Becomes, Defines, Room, Second, foldBy, binaryClass, onZero, atomIn, HasWord, combined, operated, scalarIn, pureBy, undecidedBy, takes, otherBy, sectionsOf, started, Begins, entered, Turns, Numberable};
 ghost use Rattle.values.specs.Kept.{cleared};
 ghost use Rattle.instruction.specs.declared.Class.the-variants.{Return};
-ghost use Rattle.values.specs.declared.Atom.the-variants.{Integer, Definition};
+ghost use Rattle.values.specs.declared.Atom.the-variants.{Integer};
 use crate::Atom;
 use crate::Chosen;
 use crate::Folded;
@@ -34,16 +33,26 @@ use instruction::Class;
 use instruction::Instruction;
 use unit::Constant;
 
+// The opcodes that replaced instructions have.
+const HINT: u8 = 0;
+
+const LOAD_INT: u8 = 1;
+
+const COPY: u8 = 3;
+
+const JUMP: u8 = 57;
+
 // "A folded result becomes LoadInt exactly if its signed reading fits 32 bits; otherwise the instruction stays"
 fn load_or_stay(i: Instruction, v: u64) -> Instruction
     ensures { λ r. ⌜ r ≡ loadOrStay i v ⌝ }
 {
     if fold::fits_imm32(v) {
-        return Instruction::new(1, i.a, 0, 0).with_imm32((v % 4294967296) as u32);
+        return Instruction::new(LOAD_INT, i.a, 0, 0).with_imm32((v % 4294967296) as u32);
     }
     i
 }
 
+// The three words of an expression: opcode, flags and the kinds of both values; the left value; the right value.
 fn key_of(op: u8, flags: u8, left: Atom, right: Atom) -> Key
     ensures { λ r. ⌜ r ≡ keyOf (expressionOf op flags left right) ⌝ }
 {
@@ -56,6 +65,7 @@ fn key_of(op: u8, flags: u8, left: Atom, right: Atom) -> Key
     }
 }
 
+// The instruction stays as it is given, and its destination has the value.
 fn store(t: &mut [u64], types: &[u8], n: usize, st: State, i: Instruction, v: Atom) -> Step
     requires { ⌜ Ready n (length (now types)) st (now t) × (st .rcount < 3 * n) × (i .a < length (now types)) ⌝ }
     ensures { λ r. ⌜ Becomes n (now (types .entry)) 0 1 0 st (now (t .entry)) r (now (t .exit)) (λ dest constants. Sound n (length (now (types .entry))) dest v) (λ S x. storedBy S i x v) ⌝ }
@@ -90,7 +100,7 @@ fn copy_or_stay(t: &mut [u64], types: &[u8], n: usize, st: State, i: Instruction
         kind,
     ) {
         Found::At(r) => {
-            let copy = Instruction::new(3, i.a, r as u16, 0);
+            let copy = Instruction::new(COPY, i.a, r as u16, 0);
             store(t, types, n, st, copy, v)
         }
         Found::Nothing => store(t, types, n, st, i, v),
@@ -170,6 +180,7 @@ fn second(t: &mut [u64], types: &[u8], n: usize, st: State, s: u16, binary: bool
     Chosen { slot: s, state: st }
 }
 
+// Its value; a unary opcode has Integer 0 in its place.
 fn second_value(slots: &[u64], epoch: u64, s: u16, binary: bool) -> Atom
     requires { ⌜ (binary ≡ true → 4 * s + 4 ≤ length (now slots)) ⌝ }
     ensures { λ r. ⌜ r ≡ cond binary (slotValue (now (slots .entry)) epoch s) (Integer 0) ⌝ }
@@ -180,6 +191,7 @@ fn second_value(slots: &[u64], epoch: u64, s: u16, binary: bool) -> Atom
     Atom::Integer(0)
 }
 
+// What an opcode of one operand or of two folds to.
 fn fold_by(op: u8, flags: u8, left: Atom, right: Atom, binary: bool) -> Folded
     ensures { λ r. ⌜ wordOf r ≡ foldBy binary (expressionOf op flags left right) ⌝ }
 {
@@ -236,6 +248,7 @@ fn number_operator(
     combine(t, types, n, state, named, p, binary)
 }
 
+// Copy: its operand's value.
 fn number_copy(t: &mut [u64], types: &[u8], n: usize, st: State, i: Instruction) -> Step
     requires { ⌜ Room n (length (now types)) st (now t) × (i .b < length (now types)) × (i .a < length (now types)) ⌝ }
     ensures { λ r. ⌜ Becomes n (now (types .entry)) 1 3 1 st (now (t .entry)) r (now (t .exit)) (λ dest constants. Unit {0}) (λ S x. numberCopy S i x) ⌝ }
@@ -279,6 +292,7 @@ fn loaded(constant: Constant) -> Loaded
     }
 }
 
+// "LoadConst of a String or a missing constant" clears all values.
 fn number_constant(
     t: &mut [u64],
     types: &[u8],
@@ -310,6 +324,7 @@ fn scalar(types: &[u8], s: u16) -> bool
     false
 }
 
+// Two operands or one?
 fn is_binary(k: Class) -> bool
     ensures { λ r. ⌜ r ≡ binaryClass k ⌝ }
 {
@@ -398,12 +413,12 @@ fn number_jump(t: &mut [u64], types: &[u8], n: usize, st: State, i: Instruction,
     };
     if taken(zero, v) {
         return Step {
-            instruction: Instruction::new(57, 0, i.b, i.c),
+            instruction: Instruction::new(JUMP, 0, i.b, i.c),
             state: st,
         };
     }
     Step {
-        instruction: Instruction::new(0, 0, 0, 0),
+        instruction: Instruction::new(HINT, 0, 0, 0),
         state: st,
     }
 }
@@ -442,6 +457,7 @@ fn number_other(
     forget(st, i)
 }
 
+// JumpIfNot or JumpIf?
 fn jumps_on_zero(k: Class) -> bool
     ensures { λ r. ⌜ r ≡ onZero k ⌝ }
 {
@@ -452,6 +468,7 @@ fn jumps_on_zero(k: Class) -> bool
     }
 }
 
+// An instruction rewritten by the values known before it.
 fn number_one(
     t: &mut [u64],
     types: &[u8],
@@ -502,7 +519,7 @@ fn enter(st: State, leader: u32) -> State
     st
 }
 
-// A turn of the walk.
+// A turn of the walk at place `p`, whose instruction has the word `w`.
 fn turn(
     t: &mut [u64],
     types: &[u8],
@@ -527,7 +544,8 @@ fn turn(
     }
 }
 
-// Value numbering of a whole function, `words` its code, in the lent memory `memory`.
+// Value numbering of a whole function: its code, one word an instruction, is rewritten. `leaders` has 1 where a block starts. The
+// table of values takes 23 numbers of the lent memory for each instruction and 4 for each slot; what the memory holds is free.
 pub fn number_code(
     code: &mut [u64],
     leaders: &[u32],

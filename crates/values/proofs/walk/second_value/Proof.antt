@@ -1,4 +1,3 @@
-use borrow.Author.Needs.{needs}
 use Rattle.values.proofs.walk.second_value.Statement.{statement}
 use Rattle.values.proofs.walk.second_value.Tie as tie
 
