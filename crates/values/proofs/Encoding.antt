@@ -3,11 +3,11 @@
 use mathlib.Core.Path.{_≡_, refl, sym, ap, _∙_}
 use mathlib.Core.Bool.{Bool, true, false, cond, _&&_}
 use mathlib.Core.Logic.{⊎-elim, _⊎_}
-use Prim.Native.Nat.{ℕ, _+_, _*_, _/_, _%_, _^_, _≤_, _<_}
+use Prim.Native.Nat.{ℕ, _+_, _*_, _/_, _%_, _≤_, _<_}
 use native.Mathlib.Omega.{arith}
 use lib.Dec.{eqb}
-use borrow.Author.Tests.{eqb-true, eq-eqb, ne-eqb}
-use Rattle.values.specs.Table.{Expression, sameAtom, sameExpression, atStart}
+use borrow.Author.Tests.{eqb-true, eq-eqb}
+use Rattle.values.specs.Table.{Expression, sameAtom, sameExpression}
 use Rattle.values.specs.Entries.{sameKey}
 use Rattle.values.specs.Chain.{same-key, key-same}
 use Rattle.values.specs.Memory.{tagOf, bitsOf, atomOf, definitionOf, keyOf, constantKey, Sound, SoundExpression}

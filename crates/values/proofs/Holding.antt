@@ -2,20 +2,20 @@
 -- Assumes nothing.
 use mathlib.Core.Path.{_≡_, refl, sym, ap, _∙_}
 use mathlib.Core.Bool.{Bool, true, false, cond, _&&_}
-use mathlib.Core.List.{List, [], _∷_}
-use mathlib.Core.Logic.{⊎-elim, _⊎_, inl, inr}
-use mathlib.Core.Option.{Option, none, some}
-use Prim.Native.Nat.{ℕ, suc, _+_, _*_, _/_, _%_, _^_, _≤_, _<_}
+use mathlib.Core.List.{List, _∷_}
+use mathlib.Core.Logic.{⊎-elim, _⊎_, inl}
+use mathlib.Core.Option.{none, some}
+use Prim.Native.Nat.{ℕ, _+_, _*_, _/_, _%_, _≤_, _<_}
 use native.Mathlib.Omega.{arith}
 use lib.Dec.{eqb, ltb}
 use lib.ListN.{length, getD, set, length-set}
 use lib.Seq.{getD-set-same, getD-set-other}
 use borrow.Author.Tests.{eqb-true, eqb-false, eq-eqb, ne-eqb, lt-ltb, le-ltb}
-use Rattle.values.specs.Table.{Values, Expression, SlotEntry, ExpressionEntry, empty, atStart, valueIn, valueOf, slotIn, expressionIn, sameAtom, sameExpression, usable, recordedSlot, learn}
+use Rattle.values.specs.Table.{Values, Expression, SlotEntry, empty, atStart, valueIn, slotIn, expressionIn, sameAtom, sameExpression, usable, recordedSlot, learn}
 use Rattle.values.specs.Entries.{newest, Added, sameKey}
 use Rattle.values.specs.Chain.{none-left}
-use Rattle.values.specs.Memory.{tagOf, bitsOf, atomOf, definitionOf, Memory, slotValue, markAt, constantKey, keyOf, recordedAt, usableIn, usableAt, expressionAt, slotFound, atomFound, Sound, SoundExpression, Past, Holds}
-use Rattle.values.specs.Kept.{recording, Counted, Taught}
+use Rattle.values.specs.Memory.{tagOf, bitsOf, Memory, slotValue, markAt, constantKey, keyOf, recordedAt, usableIn, usableAt, expressionAt, slotFound, atomFound, Sound, SoundExpression, Holds}
+use Rattle.values.specs.Kept.{recording, counted, taught}
 use Rattle.values.specs.declared.Atom.{Atom}
 use Rattle.values.specs.declared.Atom.the-variants.{Integer, Float, Definition}
 use Rattle.values.specs.declared.Found.{Found}
@@ -201,8 +201,8 @@ module _ (n S : ℕ) (few : n ≤ 65536) (dest : ℕ → ℕ) where
     m3 = record { slots = m .slots; places = m .places; constants = u; expressions = m .expressions }
 
     -- what the entries answer, and so all but what is recorded for constants
-    hold-entry : (c : Atom) → ((w : Atom) → Sound n S dest w → slotFound (recordedAt n S (Counted st) m3 w) ≡ slotIn (recording v s c .recorded) w)
-        → Holds n S dest (recording v s c) (Counted st) m3
+    hold-entry : (c : Atom) → ((w : Atom) → Sound n S dest w → slotFound (recordedAt n S (counted st (st .rcount + 1)) m3 w) ≡ slotIn (recording v s c .recorded) w)
+        → Holds n S dest (recording v s c) (counted st (st .rcount + 1)) m3
     hold-entry c f =
         record {
           past = record { slots = h .past .slots; starts = h .past .starts; places = h .past .places };
@@ -225,23 +225,23 @@ module _ (n S : ℕ) (few : n ≤ 65536) (dest : ℕ → ℕ) where
     newest-more k l g = ap slotFound (g .answer (st .rbase) l base) ∙ same-entry (sameKey k l) (newest (m .constants) n (st .rbase) (st .rcount) l)
 
     integer-recorded : Added (m .constants) u n (st .rcount) (constantKey 0 x) s → (w : Atom) → Sound n S dest w
-        → slotFound (recordedAt n S (Counted st) m3 w) ≡ slotIn (recording v s (Integer x) .recorded) w
+        → slotFound (recordedAt n S (counted st (st .rcount + 1)) m3 w) ≡ slotIn (recording v s (Integer x) .recorded) w
     unfolding recordedAt slotIn sameAtom sameKey
     integer-recorded g (Integer y) z = newest-more (constantKey 0 x) (constantKey 0 y) g ∙ rw (same-constant 0 x y, h .recorded (Integer y) z)
     integer-recorded g (Float y) z = newest-more (constantKey 0 x) (constantKey 1 y) g ∙ h .recorded (Float y) z
     integer-recorded g (Definition q r) z = h .recorded (Definition q r) z
 
-    pub hold-integer : Added (m .constants) u n (st .rcount) (constantKey 0 x) s → Holds n S dest (recording v s (Integer x)) (Counted st) m3
+    pub hold-integer : Added (m .constants) u n (st .rcount) (constantKey 0 x) s → Holds n S dest (recording v s (Integer x)) (counted st (st .rcount + 1)) m3
     hold-integer g = hold-entry (Integer x) (integer-recorded g)
 
     float-recorded : Added (m .constants) u n (st .rcount) (constantKey 1 x) s → (w : Atom) → Sound n S dest w
-        → slotFound (recordedAt n S (Counted st) m3 w) ≡ slotIn (recording v s (Float x) .recorded) w
+        → slotFound (recordedAt n S (counted st (st .rcount + 1)) m3 w) ≡ slotIn (recording v s (Float x) .recorded) w
     unfolding recordedAt slotIn sameAtom sameKey
     float-recorded g (Integer y) z = newest-more (constantKey 1 x) (constantKey 0 y) g ∙ h .recorded (Integer y) z
     float-recorded g (Float y) z = newest-more (constantKey 1 x) (constantKey 1 y) g ∙ rw (same-constant 1 x y, h .recorded (Float y) z)
     float-recorded g (Definition q r) z = h .recorded (Definition q r) z
 
-    pub hold-float : Added (m .constants) u n (st .rcount) (constantKey 1 x) s → Holds n S dest (recording v s (Float x)) (Counted st) m3
+    pub hold-float : Added (m .constants) u n (st .rcount) (constantKey 1 x) s → Holds n S dest (recording v s (Float x)) (counted st (st .rcount + 1)) m3
     hold-float g = hold-entry (Float x) (float-recorded g)
 
   -- one expression more
@@ -255,7 +255,7 @@ module _ (n S : ℕ) (few : n ≤ 65536) (dest : ℕ → ℕ) where
     value-entry true f = ap some (definition-decoded n S few dest p s value)
     value-entry false f = refl
 
-    expression-found : (e : Expression) → SoundExpression n S dest e → atomFound (expressionAt n S (Taught st) m4 e) ≡ expressionIn (learn v d (Definition p s) .expressions) e
+    expression-found : (e : Expression) → SoundExpression n S dest e → atomFound (expressionAt n S (taught st) m4 e) ≡ expressionIn (learn v d (Definition p s) .expressions) e
     unfolding expressionIn learn
     expression-found e y =
         ap atomFound (g .answer (st .ebase) (keyOf e) base)
@@ -270,13 +270,13 @@ module _ (n S : ℕ) (few : n ≤ 65536) (dest : ℕ → ℕ) where
         go true q = let z : Definition p s ≡ w = cc in rw (sym z) value
         go false q = h .known e w q
 
-    recorded-kept : (w : Atom) → Sound n S dest w → slotFound (recordedAt n S (Taught st) m4 w) ≡ slotIn (v .recorded) w
+    recorded-kept : (w : Atom) → Sound n S dest w → slotFound (recordedAt n S (taught st) m4 w) ≡ slotIn (v .recorded) w
     unfolding recordedAt
     recorded-kept (Integer x) y = h .recorded (Integer x) y
     recorded-kept (Float x) y = h .recorded (Float x) y
     recorded-kept (Definition q r) y = h .recorded (Definition q r) y
 
-    pub hold-learn : Holds n S dest (learn v d (Definition p s)) (Taught st) m4
+    pub hold-learn : Holds n S dest (learn v d (Definition p s)) (taught st) m4
     unfolding learn
     hold-learn =
         record {

@@ -3,21 +3,20 @@
 use mathlib.Core.Path.{_≡_, refl, sym, ap, _∙_}
 use mathlib.Core.Bool.{Bool, true, false, cond}
 use mathlib.Core.List.{List, [], _∷_, _++_, append-assoc, append-nil, map}
-use Prim.Native.Nat.{ℕ, suc, _+_, _*_, _-_, _^_, _≤_, _<_}
+use Prim.Native.Nat.{ℕ, _+_, _*_, _-_, _^_, _≤_, _<_}
 use native.Mathlib.Numerals.{add-one}
 use native.Mathlib.Omega.{arith}
 use lib.Dec.{eqb}
 use lib.ListN.{length, getD, set, take, drop, length-set}
 use lib.Seq.{take-suc-set, drop-cons, take-all, getD-set-other, drop-length}
-use Rattle.instruction.specs.declared.Instruction.{Instruction}
-use Rattle.instruction.specs.Instruction.{class, ofWord, toWord}
-use Rattle.effects.specs.Shape.{Sections, Tables, Cell}
+use Rattle.instruction.specs.Instruction.{ofWord, toWord}
+use Rattle.effects.specs.Shape.{Tables, Cell}
 use Rattle.effects.specs.Cells.{cellsBy}
 use Rattle.values.specs.Table.{Values, empty}
 use Rattle.values.specs.Number.{number, numberCode}
-use Rattle.values.specs.Memory.{endAt, memoryOf, Ready, Holds}
-use Rattle.values.specs.Kept.{Kept, cleared}
-use Rattle.values.specs.Walk.{sectionsOf, Stands, Room, Becomes, numberWords, code-words, started, Begins, entered, Turns, Numberable}
+use Rattle.values.specs.Memory.{memoryOf, Ready, Holds}
+use Rattle.values.specs.Kept.{cleared}
+use Rattle.values.specs.Walk.{sectionsOf, Stands, Room, Becomes, numberWords, code-words, started, Begins, entered, Turns}
 use Rattle.values.specs.declared.State.{State}
 use Rattle.values.specs.declared.Step.{Step}
 use Rattle.values.specs.declared.Turn.{Turn}

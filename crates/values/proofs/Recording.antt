@@ -2,27 +2,27 @@
 -- Assumes nothing.
 use mathlib.Core.Path.{_≡_, refl, sym, ap, _∙_}
 use mathlib.Core.Bool.{Bool, true, false, cond, _&&_}
-use mathlib.Core.List.{List, [], _∷_}
+use mathlib.Core.List.{List, _∷_}
 use mathlib.Core.Logic.{⊎-elim, _⊎_}
-use mathlib.Core.Option.{Option, none, some}
-use Prim.Native.Nat.{ℕ, _+_, _*_, _-_, _/_, _^_, _≤_, _<_}
+use mathlib.Core.Option.{none, some}
+use Prim.Native.Nat.{ℕ, _+_, _*_, _-_, _≤_, _<_}
 use native.Mathlib.Omega.{arith}
 use lib.Dec.{eqb, ltb}
 use lib.ListN.{length, getD, set, length-set}
 use borrow.Rule.Slice.PartMut.{putMid}
 use borrow.Author.Tests.{ltb-true, eq-eqb}
 use Rattle.words.specs.Regions.{mid-long}
-use Rattle.values.specs.Table.{Values, Expression, Represented, atStart, sameAtom, valueIn, valueOf, slotIn, usable, recordedSlot, representative, orItself, store, learn}
-use Rattle.values.specs.Entries.{Linked, Added}
-use Rattle.values.specs.Memory.{placesAt, constantsAt, expressionsAt, endAt, Memory, memoryOf, slotValue, constantKey, keyOf, recordedAt, usableIn, usableAt, slotFound, Ready, Sound, SoundExpression, Holds, tagOf, bitsOf}
-use Rattle.values.specs.Kept.{Kept, Recorded, Represents, Stores, Learns, recording, Counted, Taught}
+use Rattle.values.specs.Table.{Values, atStart, sameAtom, valueIn, valueOf, recordedSlot, representative, orItself, store}
+use Rattle.values.specs.Entries.{Added}
+use Rattle.values.specs.Memory.{placesAt, constantsAt, expressionsAt, endAt, Memory, memoryOf, slotValue, constantKey, recordedAt, usableIn, usableAt, slotFound, Ready, Sound, Holds, tagOf, bitsOf, atomOf}
+use Rattle.values.specs.Kept.{Kept, Recorded, Represents, Stores, Learns, counted, taught}
 use Rattle.values.specs.declared.Atom.{Atom}
 use Rattle.values.specs.declared.Atom.the-variants.{Integer, Float, Definition}
 use Rattle.values.specs.declared.Found.{Found}
 use Rattle.values.specs.declared.Found.the-variants.{At, Nothing}
 use Rattle.values.specs.declared.State.{State}
-use Rattle.values.specs.declared.Chosen.{Chosen}
 use Rattle.values.specs.declared.Key.{Key}
+use Rattle.values.proofs.Encoding.{decoded}
 use Rattle.values.proofs.Parts.{put-length, slots-put, places-put, constants-put, expressions-put}
 use Rattle.values.proofs.Holding.{hold-place, hold-start, hold-integer, hold-float, hold-learn, hold-put, usable-holds}
 
@@ -122,7 +122,7 @@ module _ {n S : ℕ} {st : State} {t : List ℕ} (g : Ready n S st t) where
       memory3 : memoryOf n S t3 ≡ record { slots = m .slots; places = m .places; constants = u; expressions = m .expressions }
       memory3 = constants-put n S t u (g .long) long3
 
-      entry-kept : Kept n S 0 1 0 st t (Counted st) t3
+      entry-kept : Kept n S 0 1 0 st t (counted st (st .rcount + 1)) t3
       entry-kept =
           let l : length t3 ≡ length t = put-length (constantsAt n S) (expressionsAt n S) t u (omega arith) (omega (arith, g .long)) long3 in
           record {
@@ -142,7 +142,7 @@ module _ {n S : ℕ} {st : State} {t : List ℕ} (g : Ready n S st t) where
           }
 
     pub record-integer : (x : ℕ) → Added (memoryOf n S t .constants) u n (st .rcount) (constantKey 0 x) s
-        → Recorded n S st t (Integer x) s (Counted st) (putMid (constantsAt n S) (expressionsAt n S - constantsAt n S) t u)
+        → Recorded n S st t (Integer x) s (counted st (st .rcount + 1)) (putMid (constantsAt n S) (expressionsAt n S - constantsAt n S) t u)
     record-integer x b =
         record {
           kept = entry-kept (constantKey 0 x) b;
@@ -150,7 +150,7 @@ module _ {n S : ℕ} {st : State} {t : List ℕ} (g : Ready n S st t) where
         }
 
     pub record-float : (x : ℕ) → Added (memoryOf n S t .constants) u n (st .rcount) (constantKey 1 x) s
-        → Recorded n S st t (Float x) s (Counted st) (putMid (constantsAt n S) (expressionsAt n S - constantsAt n S) t u)
+        → Recorded n S st t (Float x) s (counted st (st .rcount + 1)) (putMid (constantsAt n S) (expressionsAt n S - constantsAt n S) t u)
     record-float x b =
         record {
           kept = entry-kept (constantKey 1 x) b;
@@ -168,33 +168,42 @@ module _ {n S : ℕ} {st : State} {t : List ℕ} (g : Ready n S st t) where
 
   -- the recorded slot stands for the value, or the slot itself is recorded
   module _ (types : List ℕ) (s : ℕ) (w : Atom) (low : s < S) where
-    pub represent-found : {f : Found} (r : ℕ) (c : Chosen) → f ≡ usableAt n S types st (memoryOf n S t) w (getD types s 0) → f ≡ At r → c .slot ≡ r → c .state ≡ st
-        → Represents n S types st t s w c t
+    pub represent-found : {f : Found} {r : ℕ} → f ≡ usableAt n S types st (memoryOf n S t) w (getD types s 0) → f ≡ At r → Represents n S types st t s w r st t
     unfolding representative orItself slotFound
-    represent-found {f} r c e q x y =
+    represent-found {f} {r} e q =
         let found : usableAt n S types st m w (getD types s 0) ≡ At r = sym e ∙ q in
         record {
-          kept = rw y (marks-kept refl refl refl);
-          low = rw x (usable-low n S types st m w (getD types s 0) (recordedAt n S st m w) r found);
+          kept = marks-kept refl refl refl;
+          low = usable-low n S types st m w (getD types s 0) (recordedAt n S st m w) r found;
           holds = λ dest v h z.
               let known : some r ≡ recordedSlot types v (valueOf v s) (getD types s 0)
               = ap slotFound (sym found) ∙ usable-holds n S few dest h types w (getD types s 0) (rw z (h .sound s low)) ∙ ap (λ (b : Atom). recordedSlot types v b (getD types s 0)) z in
-              rw (sym known) (x, rw y h);
+              rw (sym known) (refl, h);
         }
 
-    pub represent-itself : {f : Found} {st′ : State} {t′ : List ℕ} (c : Chosen) → f ≡ usableAt n S types st (memoryOf n S t) w (getD types s 0) → f ≡ Nothing
-        → Recorded n S st t w s st′ t′ → c .slot ≡ s → c .state ≡ st′ → Represents n S types st t s w c t′
+    pub represent-itself : {f : Found} {st′ : State} {t′ : List ℕ} → f ≡ usableAt n S types st (memoryOf n S t) w (getD types s 0) → f ≡ Nothing
+        → Recorded n S st t w s st′ t′ → Represents n S types st t s w s st′ t′
     unfolding representative orItself slotFound
-    represent-itself {f} {st′} {t′} c e q d x y =
+    represent-itself {f} {st′} {t′} e q d =
         let found : usableAt n S types st m w (getD types s 0) ≡ Nothing = sym e ∙ q in
         record {
-          kept = rw y (d .kept);
-          low = rw x low;
+          kept = d .kept;
+          low = low;
           holds = λ dest v h z.
               let sound : Sound n S dest w = rw z (h .sound s low) in
               let known : none ≡ recordedSlot types v (valueOf v s) (getD types s 0)
               = ap slotFound (sym found) ∙ usable-holds n S few dest h types w (getD types s 0) sound ∙ ap (λ (b : Atom). recordedSlot types v b (getD types s 0)) z in
-              rw (sym known) (x, rw (y, sym z) (d .holds dest v h sound low));
+              rw (sym known) (refl, rw (sym z) (d .holds dest v h sound low));
+        }
+
+    -- a value that comes as its words
+    pub by-words : {slot : ℕ} {st′ : State} {t′ : List ℕ} {tag bits : ℕ} → tag ≡ tagOf w → bits ≡ bitsOf w → Represents n S types st t s (atomOf tag bits) slot st′ t′ → Represents n S types st t s w slot st′ t′
+    by-words a b d =
+        record {
+          kept = d .kept;
+          low = d .low;
+          holds = λ dest v h z.
+              d .holds dest v h (rw (a, b) (decoded n S few dest w (rw z (h .sound s low))) ∙ z);
         }
 
   -- a value stored in a slot, before its slot is represented
@@ -219,9 +228,9 @@ module _ {n S : ℕ} {st : State} {t : List ℕ} (g : Ready n S st t) where
     unfolding valueIn
     value-put v = rw (eq-eqb s s refl)
 
-    pub stores : (types : List ℕ) {c : Chosen} {t′ : List ℕ} → Represents n S types st (putMid 0 (placesAt S - 0) t u) s x c t′ → Stores n S types st t s x (c .state) t′
+    pub stores : (types : List ℕ) {slot : ℕ} {st′ : State} {t′ : List ℕ} → Represents n S types st (putMid 0 (placesAt S - 0) t u) s x slot st′ t′ → Stores n S types st t s x st′ t′
     unfolding store
-    stores types {c} {t′} d =
+    stores types {slot} {st′} {t′} d =
         record {
           kept = record {
             ready = d .kept .ready;
@@ -248,7 +257,7 @@ module _ {n S : ℕ} {st : State} {t : List ℕ} (g : Ready n S st t) where
     memory6 : memoryOf n S t6 ≡ record { slots = m .slots; places = m .places; constants = m .constants; expressions = u }
     memory6 = expressions-put n S t u (g .long) long6
 
-    pub learns : Learns n S st t k p s (Taught st) (putMid (expressionsAt n S) (endAt n S - expressionsAt n S) t u)
+    pub learns : Learns n S st t k p s (taught st) (putMid (expressionsAt n S) (endAt n S - expressionsAt n S) t u)
     learns =
         let l : length t6 ≡ length t = put-length (expressionsAt n S) (endAt n S) t u (omega arith) (omega (arith, g .long)) long6 in
         record {

@@ -3,14 +3,14 @@
 use mathlib.Core.Path.{_≡_, refl, sym, ap, _∙_}
 use mathlib.Core.Bool.{Bool, true, false}
 use mathlib.Core.List.{List}
-use Prim.Native.Nat.{ℕ, _+_, _*_, _-_, _/_, _^_, _≤_, _<_}
+use Prim.Native.Nat.{ℕ, _+_, _*_, _-_, _≤_, _<_}
 use native.Mathlib.Omega.{arith}
 use lib.Dec.{ltb}
 use lib.ListN.{length, getD, replicate, length-replicate, getD-replicate, List·getD-eq-default}
 use borrow.Author.Tests.{ltb-true, ltb-false}
 use borrow.Rule.Slice.PartMut.{putMid, midOf}
-use Rattle.words.specs.Regions.{mid-long, get-mid, get-before, get-after}
-use Rattle.values.specs.Memory.{part, placesAt, constantsAt, expressionsAt, endAt, Memory, memoryOf}
+use Rattle.words.specs.Regions.{mid-long, get-mid, get-before}
+use Rattle.values.specs.Memory.{part, placesAt, constantsAt, expressionsAt, endAt, memoryOf}
 use Rattle.values.specs.Walk.{started, Begins}
 use Rattle.values.specs.Adding.{no-entries}
 use Rattle.values.proofs.Parts.{put-length, part-put}

@@ -1,35 +1,38 @@
 -- What each function of the walk does, from what the functions that it calls do.
 -- Assumes nothing.
 use mathlib.Core.Path.{_≡_, refl, sym, ap, _∙_}
-use mathlib.Core.Bool.{Bool, true, false, cond, _&&_, _||_, not}
+use mathlib.Core.Bool.{Bool, true, false, cond, _&&_}
 use mathlib.Core.List.{List, [], _∷_}
 use mathlib.Core.Logic.{⊎-elim, _⊎_, inl, inr}
 use mathlib.Core.Option.{Option, none, some}
-use Prim.Native.Nat.{ℕ, suc, _+_, _*_, _/_, _%_, _^_, _≤_, _<_}
+use Prim.Native.Nat.{ℕ, _+_, _%_, _^_, _≤_, _<_}
 use native.Mathlib.Omega.{arith}
 use lib.Dec.{eqb}
 use lib.ListN.{length, getD}
 use types.Run.{OneOf, miss}
-use borrow.Author.Tests.{eq-eqb}
+use borrow.Author.Tests.{eq-eqb, ne-eqb}
 use denote.Enum.Declared.{tagOf as variantOf}
 use Rattle.instruction.specs.declared.Instruction.{Instruction}
 use Rattle.instruction.specs.declared.Class.{Class}
 use Rattle.instruction.specs.declared.Class.the-variants.{Hint, LoadInt, LoadConst, Copy, CopyN, Unary, Binary, Jump, JumpIf, JumpIfNot, ForLoop, Return, Panic, Outside, Invalid}
 use Rattle.instruction.proofs.Class.{the-type as class-type}
+use Rattle.instruction.specs.Class.{numberOf, namedClass, named-number}
 use Rattle.instruction.specs.Instruction.{plain, withImm32}
 use Rattle.values.specs.Fold.{fitsImm32}
 use Rattle.effects.specs.Shape.{Sections, Tables, tablesOf}
-use Rattle.values.specs.Table.{Values, Expression, empty, atStart, valueOf, expressionIn, recordedSlot, representative, store, learn}
-use Rattle.values.specs.Number.{Numbered, setA, setB, setBC, loadOrStay, foldUnary, foldBinary, isScalar, stored as storedBy, copyOrStay, byExpression, byValue, numberUnary, numberBinary, numberCopy, numberConstant, numberRead, decided, numberJump, cleared as clearedBy, numberBy}
+use Rattle.values.specs.Table.{Values, Expression, Represented, empty, valueOf, expressionIn, recordedSlot, representative, learn}
+use Rattle.values.specs.Number.{Numbered, setA, setB, setBC, loadOrStay, stored as storedBy, copyOrStay, byExpression, byValue, numberUnary, numberBinary, numberCopy, numberConstant, numberRead, decided, numberJump, cleared as clearedBy, numberBy}
 use Rattle.values.specs.Folded.{answered, expressionOf}
 use Rattle.values.specs.Entries.{newest}
-use Rattle.values.specs.Memory.{Memory, atomOf, definitionOf, memoryOf, keyOf, slotValue, recordedAt, usableAt, expressionAt, slotFound, atomFound, Ready, Sound, SoundExpression, Holds}
-use Rattle.values.specs.Kept.{cleared, Kept, Represents, Stores, Learns}
-use Rattle.values.specs.Walk.{sectionsOf, wordOf, Stands, Known, Becomes, Defines, Room, combined, scalarIn, undecidedBy, takes, pureBy, otherBy, by-other}
+use Rattle.values.specs.Memory.{Memory, atomOf, memoryOf, keyOf, slotValue, usableAt, slotFound, atomFound, Ready, Sound, SoundExpression, Holds}
+use Rattle.values.specs.Kept.{cleared, Kept, Chooses, Stores, Learns}
+use Rattle.values.specs.Walk.{sectionsOf, wordOf, Stands, Known, Becomes, Defines, Room, Second, foldBy, secondOf, atomIn, IsWord, HasWord, binaryClass, onZero, Named, combined, operated, scalarIn, undecidedBy, takes, pureBy, otherBy, by-other}
 use Rattle.values.specs.declared.Atom.{Atom}
 use Rattle.values.specs.declared.Atom.the-variants.{Integer, Float, Definition}
 use Rattle.values.specs.declared.Found.{Found}
 use Rattle.values.specs.declared.Found.the-variants.{At, Nothing}
+use Rattle.values.specs.declared.Loaded.{Loaded}
+use Rattle.values.specs.declared.Loaded.the-variants.{Value, Unknown}
 use Rattle.values.specs.declared.Folded.{Folded}
 use Rattle.values.specs.declared.Folded.the-variants.{Word, Not}
 use Rattle.values.specs.declared.Key.{Key}
@@ -38,9 +41,6 @@ use Rattle.values.specs.declared.Chosen.{Chosen}
 use Rattle.values.specs.declared.Step.{Step}
 use Rattle.values.proofs.Atom.{the-type}
 use Rattle.values.proofs.Holding.{usable-holds, hold-nothing}
-
-abbrev Promise : Type 1
-Promise = (ℕ → ℕ) → List ℕ → Type 0
 
 -- more may be allowed than was used
 pub widen : {n S k r e k′ r′ e′ : ℕ} {st : State} {t : List ℕ} {st′ : State} {t′ : List ℕ} → k ≤ k′ → r ≤ r′ → e ≤ e′ → Kept n S k r e st t st′ t′ → Kept n S k′ r′ e′ st t st′ t′
@@ -76,25 +76,27 @@ module _ {n : ℕ} {types : List ℕ} {st : State} {t : List ℕ} where
       → Becomes n types k r e st t x t′ Good f → Becomes n types k′ r′ e′ st t x t′ Good f
   widened a b d w = record { kept = widen a b d (w .kept); holds = w .holds }
 
-  -- a step after an operand was represented
-  pub after-operand : {k r e : ℕ} {s : ℕ} {w : Atom} {o : Chosen} {t₁ : List ℕ} {x : Step} {t′ : List ℕ} {Good Good′ : (ℕ → ℕ) → List ℕ → Type 0} {f f′ : Sections → Values → Numbered}
-      → s < length types → w ≡ slotValue (memoryOf n (length types) t .slots) (st .epoch) s → Represents n (length types) types st t s w o t₁
-      → ((dest : ℕ → ℕ) (c : List ℕ) (l : ℕ) (T : Tables) (v : Values) → Good′ dest c → Holds n (length types) dest (representative types v s .table) (o .state) (memoryOf n (length types) t₁)
-      → o .slot ≡ representative types v s .slot → Good dest c × (f (sectionsOf types c l T) (representative types v s .table) ≡ f′ (sectionsOf types c l T) v))
+  -- a step after an operand was represented, ρ by the definition
+  pub after-operand : {k r e : ℕ} (ρ : Values → Represented) {o : Chosen} {t₁ : List ℕ} {x : Step} {t′ : List ℕ} {Good Good′ : (ℕ → ℕ) → List ℕ → Type 0} {f f′ : Sections → Values → Numbered}
+      → Kept n (length types) 0 1 0 st t (o .state) t₁
+      → ((dest : ℕ → ℕ) (v : Values) → Holds n (length types) dest v st (memoryOf n (length types) t)
+      → (o .slot ≡ ρ v .slot) × Holds n (length types) dest (ρ v .table) (o .state) (memoryOf n (length types) t₁))
+      → ((dest : ℕ → ℕ) (c : List ℕ) (l : ℕ) (T : Tables) (v : Values) → Good′ dest c → Holds n (length types) dest (ρ v .table) (o .state) (memoryOf n (length types) t₁)
+      → o .slot ≡ ρ v .slot → Good dest c × (f (sectionsOf types c l T) (ρ v .table) ≡ f′ (sectionsOf types c l T) v))
       → Becomes n types k r e (o .state) t₁ x t′ Good f → Becomes n types k (1 + r) e st t x t′ Good′ f′
-  after-operand {k} {r} {e} {s} {w} {o} low q d g b =
+  after-operand {k} {r} {e} ρ {o} d w g b =
       record {
         kept = record {
           ready = b .kept .ready;
-          long = b .kept .long ∙ d .kept .long;
-          epochs = omega (arith, b .kept .epochs, d .kept .epochs);
-          constants = omega (arith, b .kept .constants, d .kept .constants);
-          expressions = omega (arith, b .kept .expressions, d .kept .expressions);
+          long = b .kept .long ∙ d .long;
+          epochs = omega (arith, b .kept .epochs, d .epochs);
+          constants = omega (arith, b .kept .constants, d .constants);
+          expressions = omega (arith, b .kept .expressions, d .expressions);
         };
         holds = λ dest c l T v y h.
-            let p = d .holds dest v h (q ∙ h .slots s low) in
+            let p = w dest v h in
             let z = g dest c l T v y (p .1) (p .0) in
-            rw (sym (z .1)) (b .holds dest c l T (representative types v s .table) (z .0) (p .1));
+            rw (sym (z .1)) (b .holds dest c l T (ρ v .table) (z .0) (p .1));
       }
 
   -- a store
@@ -186,15 +188,15 @@ module _ {n : ℕ} {types : List ℕ} {st : State} {t : List ℕ} where
 
   -- looked up: found, or new
   module _ (i : Instruction) (p : ℕ) (left right : Atom) {k : Key} {x : Step} {t′ : List ℕ} (q : k ≡ keyOf (expressionOf (i .op) (i .flags) left right)) where
-    pub expression-found : {f : Found} {a : ℕ} {w : Atom} → f ≡ newest (memoryOf n (length types) t .expressions) n (st .ebase) (st .ecount) k → f ≡ At a → w ≡ atomOf 2 a
-        → Becomes n types 0 1 0 st t x t′ (λ dest c. Sound n (length types) dest w) (λ S v. storedBy S (copyOrStay S i (recordedSlot (S .types) v w (getD (S .types) (i .a) 0))) v w)
+    pub expression-found : {f : Found} {a : ℕ} → f ≡ newest (memoryOf n (length types) t .expressions) n (st .ebase) (st .ecount) k → f ≡ At a
+        → Becomes n types 0 1 0 st t x t′ (λ dest c. Sound n (length types) dest (atomOf 2 a)) (λ S v. storedBy S (copyOrStay S i (recordedSlot (S .types) v (atomOf 2 a) (getD (S .types) (i .a) 0))) v (atomOf 2 a))
         → Becomes n types 0 1 1 st t x t′ (λ dest c. Known n (length types) p i left right dest) (λ S v. byExpression S p i v (expressionOf (i .op) (i .flags) left right) (expressionIn (v .expressions) (expressionOf (i .op) (i .flags) left right)))
     unfolding byExpression atomFound atomOf
-    expression-found {f} {a} {w} d z u b =
+    expression-found {f} {a} d z b =
         as-becomes (omega arith) (omega arith) (omega arith)
         (λ dest c l T v y h.
-        let known : some w ≡ expressionIn (v .expressions) (expressionOf (i .op) (i .flags) left right) = ap some u ∙ ap atomFound (sym z) ∙ known-expression q d (y .expression) h in
-        (h .known (expressionOf (i .op) (i .flags) left right) w (sym known), rw (sym known)))
+        let known : some (atomOf 2 a) ≡ expressionIn (v .expressions) (expressionOf (i .op) (i .flags) left right) = ap atomFound (sym z) ∙ known-expression q d (y .expression) h in
+        (h .known (expressionOf (i .op) (i .flags) left right) (atomOf 2 a) (sym known), rw (sym known)))
         b
 
     pub expression-none : {f : Found} → f ≡ newest (memoryOf n (length types) t .expressions) n (st .ebase) (st .ecount) k → f ≡ Nothing → Defines n types st t i p k x t′
@@ -245,6 +247,12 @@ zero-sound : (n S : ℕ) (dest : ℕ → ℕ) → Sound n S dest (Integer 0)
 unfolding Sound
 zero-sound n S dest = omega arith
 
+word-sound : (n S : ℕ) (dest : ℕ → ℕ) (w : Atom) → IsWord w → Sound n S dest w
+unfolding Sound IsWord
+word-sound n S dest (Integer x) h = h
+word-sound n S dest (Float x) h = h
+word-sound n S dest (Definition p s) h = absurd h
+
 -- other operands, the same destination
 other-operands : {n p : ℕ} {i : Instruction} {dest : ℕ → ℕ} (b c : ℕ) → Stands n p i dest → Stands n p (setBC i b c) dest
 other-operands b c y = record { op = y .op; flags = y .flags; a = y .a; place = y .place; own = y .own }
@@ -268,93 +276,102 @@ other-cleared types i p k e q c l T v =
     let known : scalarIn types (i .a) ≡ false = sym e ∙ q in
     rw known
 
-module _ {n : ℕ} {types : List ℕ} {st : State} {t : List ℕ} where
-  pub unary-becomes : (i : Instruction) (p : ℕ) {o : Chosen} {t₁ : List ℕ} {left : Atom} {f : Folded} {x : Step} {t′ : List ℕ} → i .b < length types
-      → Represents n (length types) types st t (i .b) (slotValue (memoryOf n (length types) t .slots) (st .epoch) (i .b)) o t₁
-      → left ≡ slotValue (memoryOf n (length types) t₁ .slots) (o .state .epoch) (o .slot)
-      → f ≡ answered (foldUnary (expressionOf (i .op) (i .flags) left (Integer 0)) left)
-      → Becomes n types 0 1 1 (o .state) t₁ x t′ (λ dest c. Known n (length types) p (setB i (o .slot)) left (Integer 0) dest) (λ S v. byValue S p (setB i (o .slot)) v (expressionOf (i .op) (i .flags) left (Integer 0)) (wordOf f))
-      → Becomes n types 1 3 1 st t x t′ (λ dest c. Stands n p i dest) (λ S v. numberUnary S p i v)
-  unfolding numberUnary
-  unary-becomes i p {o} {t₁} {left} {f} low d q z b =
-      widened (omega arith) (omega arith) (omega arith)
-      (after-operand low refl d
-      (λ dest c l T v y h s.
-      let known : left ≡ valueOf (representative types v (i .b) .table) (o .slot) = q ∙ h .slots (o .slot) (d .low) in
-      let word : wordOf f ≡ foldUnary (expressionOf (i .op) (i .flags) left (Integer 0)) left = ap wordOf z ∙ word-answered (foldUnary (expressionOf (i .op) (i .flags) left (Integer 0)) left) in (
-        record {
-          expression = record { opcode = y .op; flags = y .flags; left = rw known (h .sound (o .slot) (d .low)); right = zero-sound n (length types) dest };
-          definition = definition-sound (length types) y;
-        },
-        rw (word, known, s),
-      ))
-      b)
+-- no constant is known
+pub constant-unknown : (types : List ℕ) (i : Instruction) {f : Loaded} {o : Option Atom} → atomIn f ≡ o → f ≡ Unknown → (c : List ℕ) (l : ℕ) (T : Tables) (v : Values)
+    → numberConstant (sectionsOf types c l T) i v o ≡ clearedBy (sectionsOf types c l T) i
+unfolding numberConstant atomIn
+constant-unknown types i {f} {o} e q c l T v =
+    let known : o ≡ none = sym e ∙ ap atomIn q in
+    rw known
 
-  pub combine-becomes : (i : Instruction) (p : ℕ) {left right : Atom} {f : Folded} {x : Step} {t′ : List ℕ} → i .b < length types → i .c < length types
-      → left ≡ slotValue (memoryOf n (length types) t .slots) (st .epoch) (i .b) → right ≡ slotValue (memoryOf n (length types) t .slots) (st .epoch) (i .c)
-      → f ≡ answered (foldBinary (expressionOf (i .op) (i .flags) left right) left right)
+module _ {n : ℕ} {types : List ℕ} {st : State} {t : List ℕ} where
+  -- what is chosen for an operand is its representative
+  chosen : {s : ℕ} {o : Chosen} {t₁ : List ℕ} → s < length types → Chooses n (length types) types st t s o t₁ → (dest : ℕ → ℕ) (v : Values)
+      → Holds n (length types) dest v st (memoryOf n (length types) t)
+      → (o .slot ≡ representative types v s .slot) × Holds n (length types) dest (representative types v s .table) (o .state) (memoryOf n (length types) t₁)
+  chosen {s} low d dest v h = d .holds dest v h (h .slots s low)
+
+  -- the second operand
+  pub second-chosen : {s : ℕ} {b : Bool} {o : Chosen} {t₁ : List ℕ} → s < length types → b ≡ true → Chooses n (length types) types st t s o t₁ → Second n (length types) types st t s b o t₁
+  unfolding secondOf
+  second-chosen {s} {b} low e d = rw e (record { kept = d .kept; low = λ z. d .low; holds = chosen low d })
+
+  pub second-none : {s : ℕ} {b : Bool} {o : Chosen} → Ready n (length types) st t → b ≡ false → o .slot ≡ s → o .state ≡ st → Second n (length types) types st t s b o t
+  unfolding secondOf
+  second-none {s} {b} {o} g e p q =
+      rw e (record {
+        kept = rw q (record { ready = g; long = refl; epochs = omega arith; constants = omega arith; expressions = omega arith });
+        low = λ z. let f : _≡_ {A = ℕ} 0 1 = cc in absurd (omega arith);
+        holds = λ dest v h. (p, rw q h);
+      })
+
+  pub combine-becomes : (i : Instruction) (p : ℕ) (b : Bool) {left right : Atom} (f : Folded) {x : Step} {t′ : List ℕ} → i .b < length types → (b ≡ true → i .c < length types)
+      → left ≡ slotValue (memoryOf n (length types) t .slots) (st .epoch) (i .b) → right ≡ cond b (slotValue (memoryOf n (length types) t .slots) (st .epoch) (i .c)) (Integer 0)
+      → wordOf f ≡ foldBy b (expressionOf (i .op) (i .flags) left right)
       → Becomes n types 0 1 1 st t x t′ (λ dest c. Known n (length types) p i left right dest) (λ S v. byValue S p i v (expressionOf (i .op) (i .flags) left right) (wordOf f))
-      → Becomes n types 0 1 1 st t x t′ (λ dest c. Stands n p i dest) (λ S v. combined S p i v)
+      → Becomes n types 0 1 1 st t x t′ (λ dest c. Stands n p i dest) (λ S v. combined S b p i v)
   unfolding combined
-  combine-becomes i p {left} {right} {f} lowb lowc q r z b =
+  combine-becomes i p b {left} {right} f lowb lowc q r z w =
       as-becomes (omega arith) (omega arith) (omega arith)
       (λ dest c l T v y h.
       let knownl : left ≡ valueOf v (i .b) = q ∙ h .slots (i .b) lowb in
-      let knownr : right ≡ valueOf v (i .c) = r ∙ h .slots (i .c) lowc in
-      let word : wordOf f ≡ foldBinary (expressionOf (i .op) (i .flags) left right) left right = ap wordOf z ∙ word-answered (foldBinary (expressionOf (i .op) (i .flags) left right) left right) in (
+      let other = second-sound b dest v h lowc in
+      let knownr : right ≡ cond b (valueOf v (i .c)) (Integer 0) = r ∙ other .0 in (
         record {
-          expression = record { opcode = y .op; flags = y .flags; left = rw knownl (h .sound (i .b) lowb); right = rw knownr (h .sound (i .c) lowc) };
+          expression = record { opcode = y .op; flags = y .flags; left = rw knownl (h .sound (i .b) lowb); right = rw knownr (other .1) };
           definition = definition-sound (length types) y;
         },
-        rw (word, knownl, knownr),
+        rw (z, knownl, knownr),
       ))
-      b
+      w
+    where
+      second-sound : (b : Bool) (dest : ℕ → ℕ) (v : Values) → Holds n (length types) dest v st (memoryOf n (length types) t) → (b ≡ true → i .c < length types)
+          → (cond b (slotValue (memoryOf n (length types) t .slots) (st .epoch) (i .c)) (Integer 0) ≡ cond b (valueOf v (i .c)) (Integer 0)) × Sound n (length types) dest (cond b (valueOf v (i .c)) (Integer 0))
+      second-sound true dest v h low = (h .slots (i .c) (low refl), h .sound (i .c) (low refl))
+      second-sound false dest v h low = (refl, zero-sound n (length types) dest)
 
-  pub binary-becomes : (i : Instruction) (p : ℕ) {o o₂ : Chosen} {t₁ t₂ : List ℕ} {x : Step} {t′ : List ℕ} → i .b < length types → i .c < length types
-      → Represents n (length types) types st t (i .b) (slotValue (memoryOf n (length types) t .slots) (st .epoch) (i .b)) o t₁
-      → Represents n (length types) types (o .state) t₁ (i .c) (slotValue (memoryOf n (length types) t₁ .slots) (o .state .epoch) (i .c)) o₂ t₂
-      → Becomes n types 0 1 1 (o₂ .state) t₂ x t′ (λ dest c. Stands n p (setBC i (o .slot) (o₂ .slot)) dest) (λ S v. combined S p (setBC i (o .slot) (o₂ .slot)) v)
-      → Becomes n types 1 3 1 st t x t′ (λ dest c. Stands n p i dest) (λ S v. numberBinary S p i v)
-  unfolding numberBinary combined
-  binary-becomes i p {o} {o₂} {t₁} {t₂} {x} {t′} lowb lowc d d₂ b =
+  pub operator-becomes : (i : Instruction) (p : ℕ) (b : Bool) {o o₂ : Chosen} {t₁ t₂ : List ℕ} {x : Step} {t′ : List ℕ} → i .b < length types
+      → Chooses n (length types) types st t (i .b) o t₁ → Second n (length types) types (o .state) t₁ (i .c) b o₂ t₂
+      → Becomes n types 0 1 1 (o₂ .state) t₂ x t′ (λ dest c. Stands n p (setBC i (o .slot) (o₂ .slot)) dest) (λ S v. combined S b p (setBC i (o .slot) (o₂ .slot)) v)
+      → Becomes n types 1 3 1 st t x t′ (λ dest c. Stands n p i dest) (λ S v. operated S b p i v)
+  unfolding operated
+  operator-becomes i p b {o} {o₂} {t₁} {t₂} {x} {t′} low d d₂ w =
       widened (omega arith) (omega arith) (omega arith)
-      (after-operand lowb refl d (λ dest c l T v y h s. (y, rw s))
-      second)
+      (after-operand (λ v. representative types v (i .b)) (d .kept) (chosen low d) (λ dest c l T v y h s. (y, rw s)) second)
     where
       second : Becomes n types 0 2 1 (o .state) t₁ x t′ (λ dest c. Stands n p i dest)
-          (λ S v. combined S p (setBC i (o .slot) (representative (S .types) v (i .c) .slot)) (representative (S .types) v (i .c) .table))
-      second = after-operand lowc refl d₂ (λ dest c l T v y h s. (other-operands (o .slot) (o₂ .slot) y, rw s)) b
+          (λ S v. combined S b p (setBC i (o .slot) (secondOf (S .types) v (i .c) b .slot)) (secondOf (S .types) v (i .c) b .table))
+      second = after-operand (λ v. secondOf types v (i .c) b) (d₂ .kept) (d₂ .holds) (λ dest c l T v y h s. (other-operands (o .slot) (o₂ .slot) y, rw s)) w
 
   pub copy-becomes : (i : Instruction) {o : Chosen} {t₁ : List ℕ} {w : Atom} {x : Step} {t′ : List ℕ} → i .b < length types
-      → Represents n (length types) types st t (i .b) (slotValue (memoryOf n (length types) t .slots) (st .epoch) (i .b)) o t₁
-      → w ≡ slotValue (memoryOf n (length types) t₁ .slots) (o .state .epoch) (o .slot)
+      → Chooses n (length types) types st t (i .b) o t₁ → w ≡ slotValue (memoryOf n (length types) t₁ .slots) (o .state .epoch) (o .slot)
       → Becomes n types 0 1 0 (o .state) t₁ x t′ (λ dest c. Sound n (length types) dest w) (λ S v. storedBy S (setB i (o .slot)) v w)
       → Becomes n types 1 3 1 st t x t′ (λ dest c. Unit {0}) (λ S v. numberCopy S i v)
   unfolding numberCopy
   copy-becomes i {o} {t₁} {w} low d q b =
       widened (omega arith) (omega arith) (omega arith)
-      (after-operand low refl d
+      (after-operand (λ v. representative types v (i .b)) (d .kept) (chosen low d)
       (λ dest c l T v y h s.
       let known : w ≡ valueOf (representative types v (i .b) .table) (o .slot) = q ∙ h .slots (o .slot) (d .low) in
       (rw known (h .sound (o .slot) (d .low)), rw (known, s)))
       b)
 
-  pub constant-becomes : (i : Instruction) {o : Option Atom} {w : Atom} {x : Step} {t′ : List ℕ} → o ≡ some w → ((dest : ℕ → ℕ) → Sound n (length types) dest w)
+  pub constant-becomes : (i : Instruction) {f : Loaded} {o : Option Atom} {w : Atom} {x : Step} {t′ : List ℕ} → atomIn f ≡ o → HasWord f → f ≡ Value w
       → Becomes n types 0 1 0 st t x t′ (λ dest c. Sound n (length types) dest w) (λ S v. storedBy S i v w)
       → Becomes n types 1 3 1 st t x t′ (λ dest c. Unit {0}) (λ S v. numberConstant S i v o)
-  unfolding numberConstant
-  constant-becomes i e y b = as-becomes (omega arith) (omega arith) (omega arith) (λ dest c l T v z h. (y dest, rw e)) b
+  unfolding numberConstant atomIn HasWord
+  constant-becomes i {f} {o} {w} e y q b =
+      let known : o ≡ some w = sym e ∙ ap atomIn q in
+      as-becomes (omega arith) (omega arith) (omega arith) (λ dest c l T v z h. (word-sound n (length types) dest w (rw q at y), rw known)) b
 
-  pub read-becomes : (i : Instruction) {o : Chosen} {t₁ : List ℕ} {x : Step} → i .a < length types
-      → Represents n (length types) types st t (i .a) (slotValue (memoryOf n (length types) t .slots) (st .epoch) (i .a)) o t₁
-      → x .instruction ≡ setA i (o .slot) → x .state ≡ o .state
-      → Becomes n types 1 3 1 st t x t₁ (λ dest c. Unit {0}) (λ S v. numberRead S i v)
+  pub read-becomes : (i : Instruction) {o : Chosen} {t₁ : List ℕ} {x : Step} → i .a < length types → Chooses n (length types) types st t (i .a) o t₁
+      → x .instruction ≡ setA i (o .slot) → x .state ≡ o .state → Becomes n types 1 3 1 st t x t₁ (λ dest c. Unit {0}) (λ S v. numberRead S i v)
   unfolding numberRead
   read-becomes i {o} {t₁} {x} low d p q =
       record {
         kept = rw q (widen (omega arith) (omega arith) (omega arith) (d .kept));
         holds = λ dest c l T v y h.
-            let r = d .holds dest v h (h .slots (i .a) low) in
+            let r = chosen low d dest v h in
             (p ∙ ap (setA i) (r .0), rw q (r .1));
       }
 
@@ -416,6 +433,62 @@ module _ {n : ℕ} {types : List ℕ} {st : State} {t : List ℕ} where
       → ((dest : ℕ → ℕ) (c : List ℕ) (l : ℕ) (T : Tables) (v : Values) → Good′ dest c → Good dest c × (f (sectionsOf types c l T) v ≡ pureBy (sectionsOf types c l T) j p i v))
       → {a b d : ℕ} → a ≤ 1 → b ≤ 3 → d ≤ 1 → Becomes n types a b d st t x t′ Good f → Becomes n types 1 3 1 st t x t′ Good′ (λ S v. pureBy S k p i v)
   pure-by i p f e g u w z b = as-becomes u w z (λ dest c l T v y h. let q = g dest c l T v y in (q .0, rw e (q .1))) b
+
+-- a class by its number
+tag-number : (k : Class) → variantOf class-type k ≡ numberOf k
+unfolding numberOf
+tag-number Hint = refl
+tag-number LoadInt = refl
+tag-number LoadConst = refl
+tag-number Copy = refl
+tag-number CopyN = refl
+tag-number Unary = refl
+tag-number Binary = refl
+tag-number Jump = refl
+tag-number JumpIf = refl
+tag-number JumpIfNot = refl
+tag-number ForLoop = refl
+tag-number Return = refl
+tag-number Panic = refl
+tag-number Outside = refl
+tag-number Invalid = refl
+
+by-number : (k : Class) (j : ℕ) → variantOf class-type k ≡ j → k ≡ namedClass j
+by-number k j e = sym (named-number k) ∙ ap namedClass (sym (tag-number k) ∙ e)
+
+pub not-number : (k : Class) (ks : List ℕ) (j : ℕ) → (OneOf ks j → ⊥) → OneOf ks (variantOf class-type k) → eqb (numberOf k) j ≡ false
+not-number k ks j h o = ne-eqb (numberOf k) j (λ e. h (rw (tag-number k ∙ e) at o))
+
+operator-class : (k : Class) → OneOf (5 ∷ 6 ∷ []) (variantOf class-type k) → (k ≡ Unary) ⊎ (k ≡ Binary)
+unfolding namedClass
+operator-class k o = ⊎-elim (λ e. inl (by-number k 5 e)) (λ e. inr (by-number k 6 e)) o
+
+jump-class : (k : Class) → OneOf (8 ∷ 9 ∷ []) (variantOf class-type k) → (k ≡ JumpIf) ⊎ (k ≡ JumpIfNot)
+unfolding namedClass
+jump-class k o = ⊎-elim (λ e. inl (by-number k 8 e)) (λ e. inr (by-number k 9 e)) o
+
+-- an opcode of one operand or of two
+pub operator-named : (k : Class) (s : ℕ) (i : Instruction) → OneOf (5 ∷ 6 ∷ []) (variantOf class-type k) → Named k s i → (i .b < s) × (binaryClass k ≡ true → i .c < s) × (i .a < s)
+unfolding Named numberOf
+operator-named k s i o h =
+    ⊎-elim
+    (λ e. let g : Named Unary s i = rw e at h in rw e (g .0, (λ z. let f : _≡_ {A = ℕ} 0 1 = cc in absurd (omega arith)), g .1))
+    (λ e. let g : Named Binary s i = rw e at h in rw e (g .0, (λ z. g .1), g .2))
+    (operator-class k o)
+
+pub operator-pure : (S : Sections) (k : Class) (p : ℕ) (i : Instruction) (v : Values) → OneOf (5 ∷ 6 ∷ []) (variantOf class-type k) → operated S (binaryClass k) p i v ≡ pureBy S k p i v
+unfolding pureBy numberOf operated combined secondOf foldBy numberUnary numberBinary
+operator-pure S k p i v o = ⊎-elim (λ e. rw e) (λ e. rw e) (operator-class k o)
+
+-- a jump on a word that is 0, or on one that is not
+pub jump-named : (k : Class) (s : ℕ) (i : Instruction) → OneOf (8 ∷ 9 ∷ []) (variantOf class-type k) → Named k s i → i .a < s
+unfolding Named
+jump-named k s i o h = ⊎-elim (λ e. rw e at h) (λ e. rw e at h) (jump-class k o)
+
+pub jump-by : (S : Sections) (k : Class) (p : ℕ) (i : Instruction) (v : Values) → OneOf (8 ∷ 9 ∷ []) (variantOf class-type k)
+    → numberJump S (takes (onZero k)) i v (valueOf v (i .a)) ≡ numberBy S k p i v
+unfolding numberBy numberOf takes
+jump-by S k p i v o = ⊎-elim (λ e. rw e) (λ e. rw e) (jump-class k o)
 
 -- the classes that are neither pure nor jumps nor Return
 pub pure-none : (S : Sections) (k : Class) (p : ℕ) (i : Instruction) (v : Values) → OneOf (0 ∷ 4 ∷ 7 ∷ 8 ∷ 9 ∷ 10 ∷ 11 ∷ 12 ∷ 13 ∷ 14 ∷ []) (variantOf class-type k) → pureBy S k p i v ≡ clearedBy S i

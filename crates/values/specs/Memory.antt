@@ -1,7 +1,7 @@
 -- The table of values in lent memory: regions for the slots, for the places, and two tables of entries.
 -- Assumes nothing.
 use mathlib.Core.Path.{_≡_}
-use mathlib.Core.Bool.{Bool, true, false, cond, _&&_}
+use mathlib.Core.Bool.{cond, _&&_}
 use mathlib.Core.List.{List}
 use mathlib.Core.Logic.{_⊎_}
 use mathlib.Core.Option.{Option, none, some}
@@ -69,6 +69,9 @@ memoryOf n S t =
       constants = part (constantsAt n S) (expressionsAt n S) t;
       expressions = part (expressionsAt n S) (endAt n S) t;
     }
+
+abbrev pub stateOf : ℕ → ℕ → ℕ → ℕ → ℕ → State
+stateOf epoch rbase rcount ebase ecount = record { epoch = epoch; rbase = rbase; rcount = rcount; ebase = ebase; ecount = ecount }
 
 -- ---- what the memory says
 

@@ -11,18 +11,22 @@ use Rattle.words.specs.Lists.{mapFrom}
 use Rattle.instruction.specs.declared.Instruction.{Instruction}
 use Rattle.instruction.specs.declared.Class.{Class}
 use Rattle.instruction.specs.declared.Class.the-variants.{Hint, LoadInt, LoadConst, Copy, CopyN, Unary, Binary, Jump, JumpIf, JumpIfNot, ForLoop, Return, Panic, Outside, Invalid}
+use Rattle.instruction.specs.Class.{numberOf}
 use Rattle.instruction.specs.Instruction.{class, imm32, ofWord, toWord}
 use Rattle.unit.specs.Entry.{constantAt, typeValue, typeFloat}
 use Rattle.effects.specs.Shape.{Sections, Tables, Cell}
 use Rattle.effects.specs.Cells.{cellOf, cellsBy}
-use Rattle.values.specs.Table.{Values, Expression, empty, valueOf, store, learn}
+use Rattle.values.specs.Table.{Values, Expression, Represented, empty, valueOf, representative, store, learn}
 use Rattle.values.specs.Folded.{expressionOf}
-use Rattle.values.specs.Number.{Numbered, isScalar, cleared, constantAtom, foldBinary, stored, byValue, numberUnary, numberBinary, numberCopy, numberConstant, numberRead, numberBy, number, numberFrom, numberCode}
+use Rattle.values.specs.Number.{Numbered, isScalar, cleared, constantAtom, setBC, foldUnary, foldBinary, stored, byValue, numberUnary, numberBinary, numberCopy, numberConstant, numberRead, numberBy, number, numberFrom, numberCode}
 use Rattle.values.specs.Memory.{keyOf, memoryOf, Ready, Sound, SoundExpression, Holds}
 use Rattle.values.specs.Kept.{Kept}
 use Rattle.values.specs.declared.Atom.{Atom}
-use Rattle.values.specs.declared.Atom.the-variants.{Integer, Definition}
+use Rattle.values.specs.declared.Atom.the-variants.{Integer, Float, Definition}
 use Rattle.values.specs.declared.Key.{Key}
+use Rattle.values.specs.declared.Chosen.{Chosen}
+use Rattle.values.specs.declared.Loaded.{Loaded}
+use Rattle.values.specs.declared.Loaded.the-variants.{Value, Unknown}
 use Rattle.values.specs.declared.Folded.{Folded}
 use Rattle.values.specs.declared.Folded.the-variants.{Word, Not}
 use Rattle.values.specs.declared.State.{State}
@@ -76,6 +80,44 @@ pub record Becomes (n : ℕ) (types : List ℕ) (k r e : ℕ) (st : State) (t : 
       → (x .instruction ≡ f (sectionsOf types constants locals tables) v .instruction)
       × Holds n (length types) dest (f (sectionsOf types constants locals tables) v .table) (x .state) (memoryOf n (length types) t′)
 
+-- the known integer that an expression of two operands or of one folds to
+unfoldable pub foldBy : Bool → Expression → Option ℕ
+foldBy true e = foldBinary e (e .left) (e .right)
+foldBy false e = foldUnary e (e .left)
+
+-- the second operand, where there is one
+unfoldable pub secondOf : List ℕ → Values → ℕ → Bool → Represented
+secondOf types t s true = representative types t s
+secondOf types t s false = record { slot = s; table = t }
+
+-- the classes of two operands, and of a jump on 0
+abbrev pub binaryClass : Class → Bool
+binaryClass k = eqb (numberOf k) 6
+
+abbrev pub onZero : Class → Bool
+onZero k = eqb (numberOf k) 9
+
+unfoldable pub atomIn : Loaded → Option Atom
+atomIn (Value v) = some v
+atomIn Unknown = none
+
+-- a constant is a word of 64 bits
+unfoldable pub IsWord : Atom → Type 0
+IsWord (Integer x) = x < 2 ^ 64
+IsWord (Float x) = x < 2 ^ 64
+IsWord (Definition p s) = ⊥
+
+unfoldable pub HasWord : Loaded → Type 0
+HasWord (Value v) = IsWord v
+HasWord Unknown = Unit {0}
+
+-- the second operand of a binary opcode
+pub record Second (n S : ℕ) (types : List ℕ) (st : State) (t : List ℕ) (s : ℕ) (binary : Bool) (r : Chosen) (t′ : List ℕ) : Type 0 where
+  pub kept : Kept n S 0 1 0 st t (r .state) t′
+  pub low : binary ≡ true → r .slot < S
+  pub holds : (dest : ℕ → ℕ) (v : Values) → Holds n S dest v st (memoryOf n S t)
+      → (r .slot ≡ secondOf types v s binary .slot) × Holds n S dest (secondOf types v s binary .table) (r .state) (memoryOf n S t′)
+
 -- a new expression with that key, whose value is what the place defines
 pub record Defines (n : ℕ) (types : List ℕ) (st : State) (t : List ℕ) (i : Instruction) (p : ℕ) (k : Key) (x : Step) (t′ : List ℕ) : Type 0 where
   pub kept : Kept n (length types) 0 1 1 st t (x .state) t′
@@ -101,12 +143,17 @@ takes true v = eqb v 0
 takes false v = not (eqb v 0)
 
 module _ (S : Sections) where
-  -- the operands are represented already
-  unfoldable pub combined : ℕ → Instruction → Values → Numbered
-  combined p i t =
-      let left = valueOf t (i .b) in
-      let right = valueOf t (i .c) in
-      byValue S p i t (expressionOf (i .op) (i .flags) left right) (foldBinary (expressionOf (i .op) (i .flags) left right) left right)
+  -- an opcode of two operands or of one, once they are represented
+  unfoldable pub combined : Bool → ℕ → Instruction → Values → Numbered
+  combined binary p i t =
+      let e = expressionOf (i .op) (i .flags) (valueOf t (i .b)) (cond binary (valueOf t (i .c)) (Integer 0)) in
+      byValue S p i t e (foldBy binary e)
+
+  unfoldable pub operated : Bool → ℕ → Instruction → Values → Numbered
+  operated binary p i t =
+      let l = representative (S .types) t (i .b) in
+      let r = secondOf (S .types) (l .table) (i .c) binary in
+      combined binary p (setBC i (l .slot) (r .slot)) (r .table)
 
   unfoldable pub undecidedBy : Instruction → Values → Numbered
   undecidedBy i t = cond (isScalar S (i .a)) (numberRead S i t) (record { instruction = i; table = t })

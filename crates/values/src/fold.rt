@@ -1,11 +1,11 @@
 // Folding: the words that integer opcodes give, and the known integer that an expression folds to.
 ghost use mathlib.Core.Path.{_≡_};
-ghost use Prim.Native.Nat.{_%_, _^_, _≤_};
+ghost use Prim.Native.Nat.{_%_, _^_};
 ghost use Rattle.words.specs.Lists.{isIn};
 ghost use Rattle.values.specs.Fold.{bool, lowBits, trunc, bitWord, foldingUnary, foldingBinary, foldWord, fitsImm32};
 ghost use Rattle.values.specs.Number.{foldUnary, foldBinary};
 ghost use Rattle.values.specs.Folded.{answered, expressionOf};
-ghost use Rattle.values.specs.declared.Atom.the-variants.{Integer};
+ghost use Rattle.values.specs.declared.Atom.{Atom};
 use crate::Atom;
 use crate::Folded;
 use words::word;
@@ -142,7 +142,7 @@ fn folds_binary(op: u8) -> bool
 
 // "A slot either holds a known integer or the rule goes no further."
 pub fn fold_unary(op: u8, flags: u8, left: Atom) -> Folded
-    ensures { λ r. ⌜ r ≡ answered (foldUnary (expressionOf op flags left (Integer 0)) left) ⌝ }
+    ensures { λ r. ⌜ ((right : Atom) → r ≡ answered (foldUnary (expressionOf op flags left right) left)) ⌝ }
 {
     let Atom::Integer(x) = left else {
         return Folded::Not;

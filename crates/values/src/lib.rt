@@ -33,13 +33,20 @@ pub enum Found {
     Nothing,
 }
 
-// How far the tables in memory are filled, and what of them is valid: marks and values of this epoch, entries from the bases on.
+// How far the tables in memory are filled, and what of them is valid: marks and values of this epoch, and of the entries
+// (recorded slots of constants, expressions) those from the base up to the count.
 pub struct State {
     pub epoch: u64,
     pub rbase: usize,
     pub rcount: usize,
     pub ebase: usize,
     pub ecount: usize,
+}
+
+// The slot that stands for a value, and the number of constants' entries after it.
+pub struct Placed {
+    pub slot: u16,
+    pub count: usize,
 }
 
 // The slot that stands for a value, and the state after it.
@@ -58,4 +65,10 @@ pub struct Step {
 pub struct Turn {
     pub word: u64,
     pub state: State,
+}
+
+// The value that LoadConst gives.
+pub enum Loaded {
+    Value(Atom),
+    Unknown,
 }

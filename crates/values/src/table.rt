@@ -3,12 +3,13 @@ ghost use mathlib.Core.Path.{_≡_};
 ghost use Prim.Native.Nat.{_+_, _*_, _≤_, _<_};
 ghost use lib.ListN.{length};
 ghost use Rattle.values.specs.Entries.{newest, Linked, Added, bucketOf};
-ghost use Rattle.values.specs.Memory.{memoryOf, slotValue, constantKey, recordedAt, usableAt, Ready};
-ghost use Rattle.values.specs.Kept.{cleared, Counted, Recorded, Represents, Stores, Learns};
+ghost use Rattle.values.specs.Memory.{atomOf, memoryOf, constantKey, stateOf, recordedAt, usableAt, Ready};
+ghost use Rattle.values.specs.Kept.{cleared, counted, Recorded, Represents, Chooses, Stores, Learns};
 use crate::Atom;
 use crate::Chosen;
 use crate::Found;
 use crate::Key;
+use crate::Placed;
 use crate::State;
 use crate::entries;
 use crate::slots;
@@ -41,9 +42,9 @@ fn constant_slot(w: &[u64], n: usize, st: State, tag: u64, x: u64) -> Found
     entries::find(w, n, b, st.rbase, st.rcount, k)
 }
 
-fn record_constant(w: &mut [u64], n: usize, st: State, tag: u64, x: u64, s: u16) -> State
+fn record_constant(w: &mut [u64], n: usize, st: State, tag: u64, x: u64, s: u16) -> usize
     requires { ⌜ Linked (now w) n (st .rcount) × (n + 5 * st .rcount + 5 ≤ length (now w)) ⌝ }
-    ensures { λ r. ⌜ Added (now (w .entry)) (now (w .exit)) n (st .rcount) (constantKey tag x) s × (r ≡ Counted st) ⌝ }
+    ensures { λ r. ⌜ Added (now (w .entry)) (now (w .exit)) n (st .rcount) (constantKey tag x) s × (r ≡ st .rcount + 1) ⌝ }
 {
     let k = Key {
         head: tag,
@@ -53,13 +54,7 @@ fn record_constant(w: &mut [u64], n: usize, st: State, tag: u64, x: u64, s: u16)
     let b = entries::bucket(n, k);
     let count = st.rcount;
     entries::insert(w, n, b, count, k, s as u64);
-    State {
-        epoch: st.epoch,
-        rbase: st.rbase,
-        rcount: count + 1,
-        ebase: st.ebase,
-        ecount: st.ecount,
-    }
+    count + 1
 }
 
 // The recorded slot of a value. "Each value has at most one recorded slot."
@@ -87,11 +82,32 @@ fn recorded(t: &[u64], n: usize, locals: usize, st: State, v: Atom) -> Found
     }
 }
 
-// The recorded slot "if it still holds the value and has the same type".
-pub fn usable(t: &[u64], types: &[u8], n: usize, st: State, v: Atom, kind: u8) -> Found
-    requires { ⌜ Ready n (length (now types)) st (now t) ⌝ }
-    ensures { λ r. ⌜ r ≡ usableAt n (length (now (types .entry))) (now (types .entry)) st (memoryOf n (length (now (types .entry))) (now (t .entry))) v kind ⌝ }
+// The recorded slot "if it still holds the value and has the same type". The value comes as its two words and the state as
+// its numbers: what is called from several places takes no struct.
+pub fn usable(
+    t: &[u64],
+    types: &[u8],
+    n: usize,
+    epoch: u64,
+    rbase: usize,
+    rcount: usize,
+    ebase: usize,
+    ecount: usize,
+    tag: u64,
+    bits: u64,
+    kind: u8,
+) -> Found
+    requires { ⌜ Ready n (length (now types)) (stateOf epoch rbase rcount ebase ecount) (now t) ⌝ }
+    ensures { λ r. ⌜ r ≡ usableAt n (length (now (types .entry))) (now (types .entry)) (stateOf epoch rbase rcount ebase ecount) (memoryOf n (length (now (types .entry))) (now (t .entry))) (atomOf tag bits) kind ⌝ }
 {
+    let st = State {
+        epoch,
+        rbase,
+        rcount,
+        ebase,
+        ecount,
+    };
+    let v = slots::decode(tag, bits);
     let locals = types.len();
     let found = recorded(t, n, locals, st, v);
     let Found::At(r) = found else {
@@ -102,7 +118,7 @@ pub fn usable(t: &[u64], types: &[u8], n: usize, st: State, v: Atom, kind: u8) -
         return Found::Nothing;
     }
     let places = 4 * locals;
-    let value = slots::get(&t[0..places], st.epoch, at as u16);
+    let value = slots::get(&t[0..places], epoch, at as u16);
     if slots::same(value, v) {
         if types[at] == kind {
             return Found::At(r);
@@ -112,10 +128,10 @@ pub fn usable(t: &[u64], types: &[u8], n: usize, st: State, v: Atom, kind: u8) -
     Found::Nothing
 }
 
-// "otherwise the operand stays and is recorded instead"
-fn record_slot(t: &mut [u64], n: usize, locals: usize, st: State, v: Atom, s: u16) -> State
+// "otherwise the operand stays and is recorded instead": the count of constants' entries after it.
+fn record_slot(t: &mut [u64], n: usize, locals: usize, st: State, v: Atom, s: u16) -> usize
     requires { ⌜ Ready n locals st (now t) × (st .rcount < 3 * n) ⌝ }
-    ensures { λ r. ⌜ Recorded n locals st (now (t .entry)) v s r (now (t .exit)) ⌝ }
+    ensures { λ r. ⌜ Recorded n locals st (now (t .entry)) v s (counted st r) (now (t .exit)) ⌝ }
 {
     let places = 4 * locals;
     let constants = places + n;
@@ -128,35 +144,63 @@ fn record_slot(t: &mut [u64], n: usize, locals: usize, st: State, v: Atom, s: u1
             let slot = a as usize;
             if place < n {
                 slots::mark(&mut t[places..constants], st.epoch, place, s);
-                return st;
+                return st.rcount;
             }
             if slot < locals {
                 slots::mark(&mut t[0..places], st.epoch, 4 * slot + 3, s);
-                return st;
+                return st.rcount;
             }
-            st
+            st.rcount
         }
     }
 }
 
-// The slot that stands for the value `v` of slot `s`: the recorded one, or `s`, which is recorded instead.
-fn represent(t: &mut [u64], types: &[u8], n: usize, st: State, s: u16, v: Atom) -> Chosen
-    requires { ⌜ Ready n (length (now types)) st (now t) × (st .rcount < 3 * n) × (s < length (now types)) ⌝ }
-    ensures { λ r. ⌜ Represents n (length (now (types .entry))) (now (types .entry)) st (now (t .entry)) s v r (now (t .exit)) ⌝ }
+// The slot that stands for the value of slot `s`, which comes as its two words: the recorded one, or `s`, which is recorded instead.
+fn represent(
+    t: &mut [u64],
+    types: &[u8],
+    n: usize,
+    epoch: u64,
+    rbase: usize,
+    rcount: usize,
+    ebase: usize,
+    ecount: usize,
+    s: u16,
+    tag: u64,
+    bits: u64,
+) -> Placed
+    requires { ⌜ Ready n (length (now types)) (stateOf epoch rbase rcount ebase ecount) (now t) × (rcount < 3 * n) × (s < length (now types)) ⌝ }
+    ensures { λ r. ⌜ Represents n (length (now (types .entry))) (now (types .entry)) (stateOf epoch rbase rcount ebase ecount) (now (t .entry)) s (atomOf tag bits) (r .slot) (counted (stateOf epoch rbase rcount ebase ecount) (r .count)) (now (t .exit)) ⌝ }
 {
     let at = s as usize;
     let kind = types[at];
-    match usable(t, types, n, st, v, kind) {
-        Found::At(r) => Chosen {
+    match usable(
+        t,
+        types,
+        n,
+        epoch,
+        rbase,
+        rcount,
+        ebase,
+        ecount,
+        tag,
+        bits,
+        kind,
+    ) {
+        Found::At(r) => Placed {
             slot: r as u16,
-            state: st,
+            count: rcount,
         },
         Found::Nothing => {
-            let after = record_slot(t, n, types.len(), st, v, s);
-            Chosen {
-                slot: s,
-                state: after,
-            }
+            let st = State {
+                epoch,
+                rbase,
+                rcount,
+                ebase,
+                ecount,
+            };
+            let count = record_slot(t, n, types.len(), st, slots::decode(tag, bits), s);
+            Placed { slot: s, count }
         }
     }
 }
@@ -164,11 +208,33 @@ fn represent(t: &mut [u64], types: &[u8], n: usize, st: State, s: u16, v: Atom) 
 // "Operands .. become the recorded slot"
 pub fn representative(t: &mut [u64], types: &[u8], n: usize, st: State, s: u16) -> Chosen
     requires { ⌜ Ready n (length (now types)) st (now t) × (st .rcount < 3 * n) × (s < length (now types)) ⌝ }
-    ensures { λ r. ⌜ Represents n (length (now (types .entry))) (now (types .entry)) st (now (t .entry)) s (slotValue (memoryOf n (length (now (types .entry))) (now (t .entry)) .slots) (st .epoch) s) r (now (t .exit)) ⌝ }
+    ensures { λ r. ⌜ Chooses n (length (now (types .entry))) (now (types .entry)) st (now (t .entry)) s r (now (t .exit)) ⌝ }
 {
     let places = 4 * types.len();
     let v = slots::get(&t[0..places], st.epoch, s);
-    represent(t, types, n, st, s, v)
+    let r = represent(
+        t,
+        types,
+        n,
+        st.epoch,
+        st.rbase,
+        st.rcount,
+        st.ebase,
+        st.ecount,
+        s,
+        slots::tag(v),
+        slots::bits(v),
+    );
+    Chosen {
+        slot: r.slot,
+        state: State {
+            epoch: st.epoch,
+            rbase: st.rbase,
+            rcount: r.count,
+            ebase: st.ebase,
+            ecount: st.ecount,
+        },
+    }
 }
 
 // "A store then treats its destination likewise."
@@ -178,8 +244,26 @@ pub fn store(t: &mut [u64], types: &[u8], n: usize, st: State, s: u16, v: Atom) 
 {
     let places = 4 * types.len();
     slots::put(&mut t[0..places], st.epoch, s, v);
-    let chosen = represent(t, types, n, st, s, v);
-    chosen.state
+    let r = represent(
+        t,
+        types,
+        n,
+        st.epoch,
+        st.rbase,
+        st.rcount,
+        st.ebase,
+        st.ecount,
+        s,
+        slots::tag(v),
+        slots::bits(v),
+    );
+    State {
+        epoch: st.epoch,
+        rbase: st.rbase,
+        rcount: r.count,
+        ebase: st.ebase,
+        ecount: st.ecount,
+    }
 }
 
 // The value of an equal expression, by its key and its bucket.

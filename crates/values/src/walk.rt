@@ -1,26 +1,27 @@
 // The walk over the function: each instruction rewritten by the values known before it.
 ghost use mathlib.Core.Path.{_≡_};
-ghost use mathlib.Core.Bool.{Bool, cond, not};
+ghost use mathlib.Core.Bool.{true, cond};
 ghost use mathlib.Core.List.{List, map};
 ghost use Prim.Native.Nat.{ℕ, _+_, _*_, _≤_, _<_};
-ghost use lib.Dec.{eqb};
 ghost use lib.ListN.{length, getD};
 ghost use Rattle.instruction.specs.Instruction.{class, ofWord, toWord};
 ghost use Rattle.effects.specs.Shape.{Cell, Tables};
 ghost use Rattle.effects.specs.Cells.{cellsBy};
 ghost use Rattle.values.specs.Table.{valueOf, expressionIn, recordedSlot};
-ghost use Rattle.values.specs.Number.{loadOrStay, isScalar, copyOrStay, constantAtom, stored as storedBy, byExpression, byValue, numberUnary, numberBinary, numberCopy, numberConstant, numberRead, numberJump, numberBy, number, numberCode};
+ghost use Rattle.values.specs.Number.{loadOrStay, copyOrStay, constantAtom, stored as storedBy, byExpression, byValue, numberCopy, numberConstant, numberRead, numberJump, numberBy, number, numberCode};
 ghost use Rattle.values.specs.Folded.{expressionOf};
-ghost use Rattle.values.specs.Memory.{memoryOf, endAt, keyOf, Ready, Sound, SoundExpression};
+ghost use Rattle.values.specs.Memory.{atomOf, slotValue, endAt, keyOf, Ready, Sound};
 ghost use Rattle.values.specs.Entries.{bucketOf};
-ghost use Rattle.values.specs.Walk.{Named, wordOf, Stands, Known, Becomes, Defines, Room, combined, scalarIn, pureBy, undecidedBy, takes, otherBy, sectionsOf, started, Begins, entered, Turns, Numberable};
+ghost use Rattle.values.specs.Walk.{Named, wordOf, Stands, Known, Becomes, Defines, Room, Second, foldBy, binaryClass, onZero, atomIn, HasWord, combined, operated, scalarIn, pureBy, undecidedBy, takes, otherBy, sectionsOf, started, Begins, entered, Turns, Numberable};
 ghost use Rattle.values.specs.Kept.{cleared};
 ghost use Rattle.instruction.specs.declared.Class.the-variants.{Return};
-ghost use Rattle.values.specs.declared.Atom.the-variants.{Integer, Definition};
+ghost use Rattle.values.specs.declared.Atom.the-variants.{Integer};
 use crate::Atom;
+use crate::Chosen;
 use crate::Folded;
 use crate::Found;
 use crate::Key;
+use crate::Loaded;
 use crate::State;
 use crate::Step;
 use crate::Turn;
@@ -32,16 +33,26 @@ use instruction::Class;
 use instruction::Instruction;
 use unit::Constant;
 
+// The opcodes that replaced instructions have.
+const HINT: u8 = 0;
+
+const LOAD_INT: u8 = 1;
+
+const COPY: u8 = 3;
+
+const JUMP: u8 = 57;
+
 // "A folded result becomes LoadInt exactly if its signed reading fits 32 bits; otherwise the instruction stays"
 fn load_or_stay(i: Instruction, v: u64) -> Instruction
     ensures { λ r. ⌜ r ≡ loadOrStay i v ⌝ }
 {
     if fold::fits_imm32(v) {
-        return Instruction::new(1, i.a, 0, 0).with_imm32((v % 4294967296) as u32);
+        return Instruction::new(LOAD_INT, i.a, 0, 0).with_imm32((v % 4294967296) as u32);
     }
     i
 }
 
+// The three words of an expression: opcode, flags and the kinds of both values; the left value; the right value.
 fn key_of(op: u8, flags: u8, left: Atom, right: Atom) -> Key
     ensures { λ r. ⌜ r ≡ keyOf (expressionOf op flags left right) ⌝ }
 {
@@ -54,6 +65,7 @@ fn key_of(op: u8, flags: u8, left: Atom, right: Atom) -> Key
     }
 }
 
+// The instruction stays as it is given, and its destination has the value.
 fn store(t: &mut [u64], types: &[u8], n: usize, st: State, i: Instruction, v: Atom) -> Step
     requires { ⌜ Ready n (length (now types)) st (now t) × (st .rcount < 3 * n) × (i .a < length (now types)) ⌝ }
     ensures { λ r. ⌜ Becomes n (now (types .entry)) 0 1 0 st (now (t .entry)) r (now (t .exit)) (λ dest constants. Sound n (length (now (types .entry))) dest v) (λ S x. storedBy S i x v) ⌝ }
@@ -65,16 +77,30 @@ fn store(t: &mut [u64], types: &[u8], n: usize, st: State, i: Instruction, v: At
     }
 }
 
-// An equal expression: Copy from the slot of its value where that is usable at the destination's type.
-fn copy_or_stay(t: &mut [u64], types: &[u8], n: usize, st: State, i: Instruction, v: Atom) -> Step
+// An equal expression, whose value is the definition with these bits: Copy from its slot where that is usable at the
+// destination's type.
+fn copy_or_stay(t: &mut [u64], types: &[u8], n: usize, st: State, i: Instruction, bits: u64) -> Step
     requires { ⌜ Ready n (length (now types)) st (now t) × (st .rcount < 3 * n) × (i .a < length (now types)) ⌝ }
-    ensures { λ r. ⌜ Becomes n (now (types .entry)) 0 1 0 st (now (t .entry)) r (now (t .exit)) (λ dest constants. Sound n (length (now (types .entry))) dest v) (λ S x. storedBy S (copyOrStay S i (recordedSlot (S .types) x v (getD (S .types) (i .a) 0))) x v) ⌝ }
+    ensures { λ r. ⌜ Becomes n (now (types .entry)) 0 1 0 st (now (t .entry)) r (now (t .exit)) (λ dest constants. Sound n (length (now (types .entry))) dest (atomOf 2 bits)) (λ S x. storedBy S (copyOrStay S i (recordedSlot (S .types) x (atomOf 2 bits) (getD (S .types) (i .a) 0))) x (atomOf 2 bits)) ⌝ }
 {
     let a = i.a as usize;
     let kind = types[a];
-    match table::usable(t, types, n, st, v, kind) {
+    let v = slots::decode(2, bits);
+    match table::usable(
+        t,
+        types,
+        n,
+        st.epoch,
+        st.rbase,
+        st.rcount,
+        st.ebase,
+        st.ecount,
+        2,
+        bits,
+        kind,
+    ) {
         Found::At(r) => {
-            let copy = Instruction::new(3, i.a, r as u16, 0);
+            let copy = Instruction::new(COPY, i.a, r as u16, 0);
             store(t, types, n, st, copy, v)
         }
         Found::Nothing => store(t, types, n, st, i, v),
@@ -117,7 +143,7 @@ fn by_expression(
     let k = key_of(i.op, i.flags, left, right);
     let b = entries::bucket(n, k);
     match table::find_expression(t, n, types.len(), st, k, b) {
-        Found::At(x) => copy_or_stay(t, types, n, st, i, slots::decode(2, x)),
+        Found::At(x) => copy_or_stay(t, types, n, st, i, x),
         Found::Nothing => define(t, types, n, st, i, p, k, b),
     }
 }
@@ -143,44 +169,74 @@ fn by_value(
     }
 }
 
-fn number_unary(t: &mut [u64], types: &[u8], n: usize, st: State, i: Instruction, p: u32) -> Step
-    requires { ⌜ Room n (length (now types)) st (now t) × (i .b < length (now types)) × (i .a < length (now types)) ⌝ }
-    ensures { λ r. ⌜ Becomes n (now (types .entry)) 1 3 1 st (now (t .entry)) r (now (t .exit)) (λ dest constants. Stands n p i dest) (λ S x. numberUnary S p i x) ⌝ }
+// The second operand of a binary opcode; a unary one has none.
+fn second(t: &mut [u64], types: &[u8], n: usize, st: State, s: u16, binary: bool) -> Chosen
+    requires { ⌜ Ready n (length (now types)) st (now t) × (st .rcount < 3 * n) × (binary ≡ true → s < length (now types)) ⌝ }
+    ensures { λ r. ⌜ Second n (length (now (types .entry))) (now (types .entry)) st (now (t .entry)) s binary r (now (t .exit)) ⌝ }
 {
-    let l = table::representative(t, types, n, st, i.b);
-    let places = 4 * types.len();
-    let left = slots::get(&t[0..places], l.state.epoch, l.slot);
-    let folded = fold::fold_unary(i.op, i.flags, left);
-    let named = Instruction {
-        op: i.op,
-        flags: i.flags,
-        a: i.a,
-        b: l.slot,
-        c: i.c,
-    };
-    let state = l.state;
-    by_value(t, types, n, state, named, p, left, Atom::Integer(0), folded)
+    if binary {
+        return table::representative(t, types, n, st, s);
+    }
+    Chosen { slot: s, state: st }
 }
 
-// The values of two operands that were represented "(left first)".
-fn combine(t: &mut [u64], types: &[u8], n: usize, st: State, i: Instruction, p: u32) -> Step
-    requires { ⌜ Ready n (length (now types)) st (now t) × (st .rcount < 3 * n) × (st .ecount < n) × (i .b < length (now types)) × (i .c < length (now types)) × (i .a < length (now types)) ⌝ }
-    ensures { λ r. ⌜ Becomes n (now (types .entry)) 0 1 1 st (now (t .entry)) r (now (t .exit)) (λ dest constants. Stands n p i dest) (λ S x. combined S p i x) ⌝ }
+// Its value; a unary opcode has Integer 0 in its place.
+fn second_value(slots: &[u64], epoch: u64, s: u16, binary: bool) -> Atom
+    requires { ⌜ (binary ≡ true → 4 * s + 4 ≤ length (now slots)) ⌝ }
+    ensures { λ r. ⌜ r ≡ cond binary (slotValue (now (slots .entry)) epoch s) (Integer 0) ⌝ }
+{
+    if binary {
+        return slots::get(slots, epoch, s);
+    }
+    Atom::Integer(0)
+}
+
+// What an opcode of one operand or of two folds to.
+fn fold_by(op: u8, flags: u8, left: Atom, right: Atom, binary: bool) -> Folded
+    ensures { λ r. ⌜ wordOf r ≡ foldBy binary (expressionOf op flags left right) ⌝ }
+{
+    if binary {
+        return fold::fold_binary(op, flags, left, right);
+    }
+    fold::fold_unary(op, flags, left)
+}
+
+// A unary or binary opcode whose operands were represented.
+fn combine(
+    t: &mut [u64],
+    types: &[u8],
+    n: usize,
+    st: State,
+    i: Instruction,
+    p: u32,
+    binary: bool,
+) -> Step
+    requires { ⌜ Ready n (length (now types)) st (now t) × (st .rcount < 3 * n) × (st .ecount < n) × (i .b < length (now types)) × (binary ≡ true → i .c < length (now types)) × (i .a < length (now types)) ⌝ }
+    ensures { λ r. ⌜ Becomes n (now (types .entry)) 0 1 1 st (now (t .entry)) r (now (t .exit)) (λ dest constants. Stands n p i dest) (λ S x. combined S binary p i x) ⌝ }
 {
     let places = 4 * types.len();
     let left = slots::get(&t[0..places], st.epoch, i.b);
-    let right = slots::get(&t[0..places], st.epoch, i.c);
-    let folded = fold::fold_binary(i.op, i.flags, left, right);
+    let right = second_value(&t[0..places], st.epoch, i.c, binary);
+    let folded = fold_by(i.op, i.flags, left, right, binary);
     by_value(t, types, n, st, i, p, left, right, folded)
 }
 
-fn number_binary(t: &mut [u64], types: &[u8], n: usize, st: State, i: Instruction, p: u32) -> Step
-    requires { ⌜ Room n (length (now types)) st (now t) × (i .b < length (now types)) × (i .c < length (now types)) × (i .a < length (now types)) ⌝ }
-    ensures { λ r. ⌜ Becomes n (now (types .entry)) 1 3 1 st (now (t .entry)) r (now (t .exit)) (λ dest constants. Stands n p i dest) (λ S x. numberBinary S p i x) ⌝ }
+// "Operands of .. unary and binary opcodes (left first)"
+fn number_operator(
+    t: &mut [u64],
+    types: &[u8],
+    n: usize,
+    st: State,
+    i: Instruction,
+    p: u32,
+    binary: bool,
+) -> Step
+    requires { ⌜ Room n (length (now types)) st (now t) × (i .b < length (now types)) × (binary ≡ true → i .c < length (now types)) × (i .a < length (now types)) ⌝ }
+    ensures { λ r. ⌜ Becomes n (now (types .entry)) 1 3 1 st (now (t .entry)) r (now (t .exit)) (λ dest constants. Stands n p i dest) (λ S x. operated S binary p i x) ⌝ }
 {
     let l = table::representative(t, types, n, st, i.b);
     let after = l.state;
-    let r = table::representative(t, types, n, after, i.c);
+    let r = second(t, types, n, after, i.c, binary);
     let named = Instruction {
         op: i.op,
         flags: i.flags,
@@ -189,9 +245,10 @@ fn number_binary(t: &mut [u64], types: &[u8], n: usize, st: State, i: Instructio
         c: r.slot,
     };
     let state = r.state;
-    combine(t, types, n, state, named, p)
+    combine(t, types, n, state, named, p, binary)
 }
 
+// Copy: its operand's value.
 fn number_copy(t: &mut [u64], types: &[u8], n: usize, st: State, i: Instruction) -> Step
     requires { ⌜ Room n (length (now types)) st (now t) × (i .b < length (now types)) × (i .a < length (now types)) ⌝ }
     ensures { λ r. ⌜ Becomes n (now (types .entry)) 1 3 1 st (now (t .entry)) r (now (t .exit)) (λ dest constants. Unit {0}) (λ S x. numberCopy S i x) ⌝ }
@@ -221,6 +278,21 @@ fn forget(st: State, i: Instruction) -> Step
     }
 }
 
+// The value of a constant; a String or a missing one has none.
+fn loaded(constant: Constant) -> Loaded
+    ensures { λ r. ⌜ (atomIn r ≡ constantAtom constant) × HasWord r ⌝ }
+{
+    match constant {
+        Constant::Nil => Loaded::Value(Atom::Integer(0)),
+        Constant::Bool(v) => Loaded::Value(Atom::Integer(v)),
+        Constant::Int(v) => Loaded::Value(Atom::Integer(v)),
+        Constant::Float(v) => Loaded::Value(Atom::Float(v)),
+        Constant::String => Loaded::Unknown,
+        Constant::Missing => Loaded::Unknown,
+    }
+}
+
+// "LoadConst of a String or a missing constant" clears all values.
 fn number_constant(
     t: &mut [u64],
     types: &[u8],
@@ -232,13 +304,9 @@ fn number_constant(
     requires { ⌜ Room n (length (now types)) st (now t) × (i .a < length (now types)) ⌝ }
     ensures { λ r. ⌜ Becomes n (now (types .entry)) 1 3 1 st (now (t .entry)) r (now (t .exit)) (λ dest constants. Unit {0}) (λ S x. numberConstant S i x (constantAtom constant)) ⌝ }
 {
-    match constant {
-        Constant::Nil => store(t, types, n, st, i, Atom::Integer(0)),
-        Constant::Bool(v) => store(t, types, n, st, i, Atom::Integer(v)),
-        Constant::Int(v) => store(t, types, n, st, i, Atom::Integer(v)),
-        Constant::Float(v) => store(t, types, n, st, i, Atom::Float(v)),
-        Constant::String => forget(st, i),
-        Constant::Missing => forget(st, i),
+    match loaded(constant) {
+        Loaded::Value(v) => store(t, types, n, st, i, v),
+        Loaded::Unknown => forget(st, i),
     }
 }
 
@@ -254,6 +322,13 @@ fn scalar(types: &[u8], s: u16) -> bool
         return types[at] == 5;
     }
     false
+}
+
+// Two operands or one?
+fn is_binary(k: Class) -> bool
+    ensures { λ r. ⌜ r ≡ binaryClass k ⌝ }
+{
+    if let Class::Binary = k { true } else { false }
 }
 
 // The pure opcodes, of a scalar destination.
@@ -277,8 +352,7 @@ fn number_pure(
             number_constant(t, types, n, st, i, constant)
         }
         Class::Copy => number_copy(t, types, n, st, i),
-        Class::Unary => number_unary(t, types, n, st, i, p),
-        Class::Binary => number_binary(t, types, n, st, i, p),
+        Class::Unary | Class::Binary => number_operator(t, types, n, st, i, p, is_binary(k)),
         _ => forget(st, i),
     }
 }
@@ -339,12 +413,12 @@ fn number_jump(t: &mut [u64], types: &[u8], n: usize, st: State, i: Instruction,
     };
     if taken(zero, v) {
         return Step {
-            instruction: Instruction::new(57, 0, i.b, i.c),
+            instruction: Instruction::new(JUMP, 0, i.b, i.c),
             state: st,
         };
     }
     Step {
-        instruction: Instruction::new(0, 0, 0, 0),
+        instruction: Instruction::new(HINT, 0, 0, 0),
         state: st,
     }
 }
@@ -383,6 +457,18 @@ fn number_other(
     forget(st, i)
 }
 
+// JumpIfNot or JumpIf?
+fn jumps_on_zero(k: Class) -> bool
+    ensures { λ r. ⌜ r ≡ onZero k ⌝ }
+{
+    if let Class::JumpIfNot = k {
+        true
+    } else {
+        false
+    }
+}
+
+// An instruction rewritten by the values known before it.
 fn number_one(
     t: &mut [u64],
     types: &[u8],
@@ -397,8 +483,7 @@ fn number_one(
 {
     let k = i.class();
     match k {
-        Class::JumpIf => number_jump(t, types, n, st, i, false),
-        Class::JumpIfNot => number_jump(t, types, n, st, i, true),
+        Class::JumpIf | Class::JumpIfNot => number_jump(t, types, n, st, i, jumps_on_zero(k)),
         Class::Return => number_return(t, types, n, st, i),
         _ => number_other(t, types, constants, n, st, i, p, k),
     }
@@ -434,7 +519,7 @@ fn enter(st: State, leader: u32) -> State
     st
 }
 
-// A turn of the walk.
+// A turn of the walk at place `p`, whose instruction has the word `w`.
 fn turn(
     t: &mut [u64],
     types: &[u8],
@@ -459,7 +544,8 @@ fn turn(
     }
 }
 
-// Value numbering of a whole function, `words` its code, in the lent memory `memory`.
+// Value numbering of a whole function: its code, one word an instruction, is rewritten. `leaders` has 1 where a block starts. The
+// table of values takes 23 numbers of the lent memory for each instruction and 4 for each slot; what the memory holds is free.
 pub fn number_code(
     code: &mut [u64],
     leaders: &[u32],

@@ -1,6 +1,5 @@
-use borrow.Author.Tests.{le-leb, lt-leb, lt-ltb, le-ltb, ne-eqb, eq-eqb}
+use borrow.Author.Tests.{lt-ltb, le-ltb}
 use Rattle.values.specs.Fold.{fitsImm32}
-use borrow.Author.Needs.{needs}
 use Rattle.values.proofs.fold.fits_imm32.Statement.{statement}
 use Rattle.values.proofs.fold.fits_imm32.Tie as tie
 

@@ -1,7 +1,7 @@
 use mathlib.Core.Path.{_∙_, sym}
 use Rattle.values.specs.Folded.{answered}
-use Rattle.values.specs.Number.{foldUnary, foldBinary}
-use Rattle.values.proofs.Unfolded.{unfolded-unary, unfolded-left, unfolded-right}
+use Rattle.values.specs.Number.{foldBinary}
+use Rattle.values.proofs.Unfolded.{unfolded-left, unfolded-right}
 use borrow.Author.Needs.{needs}
 use Rattle.values.proofs.fold.fold_binary.Statement.{statement}
 use Rattle.values.proofs.fold.fold_binary.Tie as tie

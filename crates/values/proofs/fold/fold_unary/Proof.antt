@@ -1,21 +1,21 @@
 use mathlib.Core.Path.{_∙_, sym}
 use Rattle.values.specs.Folded.{answered}
-use Rattle.values.specs.Number.{foldUnary, foldBinary}
-use Rattle.values.proofs.Unfolded.{unfolded-unary, unfolded-left, unfolded-right}
+use Rattle.values.specs.Number.{foldUnary}
+use Rattle.values.proofs.Unfolded.{unfolded-unary}
 use borrow.Author.Needs.{needs}
 use Rattle.values.proofs.fold.fold_unary.Statement.{statement}
 use Rattle.values.proofs.fold.fold_unary.Tie as tie
 
 returns : tie.Need-returns
-returns c = unfolded-unary _ _ (c .match .keys2)
+returns c = λ right. unfolded-unary _ _ (c .match .keys2)
 
 returns-2 : tie.Need-returns-2
 unfolding answered foldUnary
-returns-2 c = rw (c .before .before .before .before .left .given .1, sym (c .before .before .folds-unary .ensures) ∙ c .before .if1 .taken) (cc)
+returns-2 c = λ right. rw (c .before .before .before .before .left .given .1, sym (c .before .before .folds-unary .ensures) ∙ c .before .if1 .taken) (cc)
 
 returns-3 : tie.Need-returns-3
 unfolding answered foldUnary
-returns-3 c = rw (c .before .before .before .left .given .1, sym (c .before .folds-unary .ensures) ∙ c .if1 .left)
+returns-3 c = λ right. rw (c .before .before .before .left .given .1, sym (c .before .folds-unary .ensures) ∙ c .if1 .left)
 
 pub fold-unary-spec : {M : Type 1} → statement M
 fold-unary-spec =

@@ -1,4 +1,4 @@
-use borrow.Author.Tests.{le-leb, lt-leb, lt-ltb, le-ltb, ne-eqb, eq-eqb}
+use borrow.Author.Tests.{ne-eqb}
 use native.Mathlib.Omega.{arith}
 use Rattle.values.specs.Fold.{foldWord}
 use borrow.Author.Needs.{needs}

@@ -1,7 +1,6 @@
-use borrow.Author.Tests.{le-leb, lt-leb, lt-ltb, le-ltb, ne-eqb, eq-eqb}
+use borrow.Author.Tests.{lt-ltb, le-ltb}
 use native.Mathlib.Omega.{arith}
 use Rattle.values.specs.Folded.{by-runs}
-use borrow.Author.Needs.{needs}
 use Rattle.values.proofs.fold.folds_binary.Statement.{statement}
 use Rattle.values.proofs.fold.folds_binary.Tie as tie
 

@@ -1,7 +1,6 @@
-use borrow.Author.Tests.{le-leb, lt-leb, lt-ltb, le-ltb, ne-eqb, eq-eqb}
+use borrow.Author.Tests.{ne-eqb}
 use mathlib.Core.Bool.{Bool, true, false, cond}
 use mathlib.Core.Path.{_≡_, refl}
-use borrow.Author.Needs.{needs}
 use Rattle.values.proofs.fold.folds_unary.Statement.{statement}
 use Rattle.values.proofs.fold.folds_unary.Tie as tie
 

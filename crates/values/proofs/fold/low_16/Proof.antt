@@ -1,4 +1,4 @@
-use borrow.Author.Tests.{le-leb, lt-leb, lt-ltb, le-ltb, ne-eqb, eq-eqb}
+use borrow.Author.Tests.{le-leb, lt-leb}
 use Rattle.values.specs.Fold.{lowBits}
 use borrow.Author.Needs.{needs}
 use Rattle.values.proofs.fold.low_16.Statement.{statement}

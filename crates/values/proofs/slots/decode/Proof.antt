@@ -1,5 +1,5 @@
 use Rattle.values.specs.Memory.{atomOf}
-use borrow.Author.Tests.{ne-eqb, eq-eqb}
+use borrow.Author.Tests.{ne-eqb}
 use borrow.Author.Needs.{needs}
 use Rattle.values.proofs.slots.decode.Statement.{statement}
 use Rattle.values.proofs.slots.decode.Tie as tie

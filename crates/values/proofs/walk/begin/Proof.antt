@@ -1,6 +1,5 @@
 use Rattle.values.proofs.Starting.{begins}
 use mathlib.Core.Path.{refl}
-use native.Mathlib.Omega.{arith}
 use borrow.Author.Needs.{needs}
 use Rattle.values.proofs.walk.begin.Statement.{statement}
 use Rattle.values.proofs.walk.begin.Tie as tie

@@ -4,7 +4,7 @@ use Rattle.values.proofs.walk.by_expression.Statement.{statement}
 use Rattle.values.proofs.walk.by_expression.Tie as tie
 
 returns : tie.Need-returns
-returns c = expression-found (c .before .before .before .before .before .before .before .before .before .before .before .before .before .before .args .i) (c .before .before .before .before .before .before .before .before .before .before .before .before .before .before .args .p) (c .before .before .before .before .before .before .before .before .before .before .before .before .before .before .args .left) (c .before .before .before .before .before .before .before .before .before .before .before .before .before .before .args .right) (c .before .before .before .before .before .before .before .before .before .before .before .key-of .ensures) (c .before .before .before .before .before .before .before .before .find-expression .ensures) (c .before .before .before .before .before .before .x .given .1) (c .before .before .before .decode .ensures) (c .before .before .copy-or-stay .ensures)
+returns c = expression-found (c .before .before .before .before .before .before .before .before .before .before .before .before .before .args .i) (c .before .before .before .before .before .before .before .before .before .before .before .before .before .args .p) (c .before .before .before .before .before .before .before .before .before .before .before .before .before .args .left) (c .before .before .before .before .before .before .before .before .before .before .before .before .before .args .right) (c .before .before .before .before .before .before .before .before .before .before .key-of .ensures) (c .before .before .before .before .before .before .before .find-expression .ensures) (c .before .before .before .before .before .x .given .1) (c .before .before .copy-or-stay .ensures)
 
 returns-2 : tie.Need-returns-2
 returns-2 c = expression-none (c .before .before .before .before .before .before .before .before .before .before .before .before .args .i) (c .before .before .before .before .before .before .before .before .before .before .before .before .args .p) (c .before .before .before .before .before .before .before .before .before .before .before .before .args .left) (c .before .before .before .before .before .before .before .before .before .before .before .before .args .right) (c .before .before .before .before .before .before .before .before .before .key-of .ensures) (c .before .before .before .before .before .before .find-expression .ensures) (c .before .before .before .before .enum-told .given .1) (c .before .before .define .ensures)
@@ -17,7 +17,6 @@ by-expression-spec =
     (λ c κs. search needs)
     (λ c κs. search needs)
     (λ c. search needs)
-    (λ c κs. search needs)
     (λ c κs. search needs)
     (λ c. search needs)
     (λ c κs. search needs)

@@ -1,4 +1,4 @@
-use Rattle.values.proofs.Walking.{pure-by, pure-none, forget-becomes}
+use Rattle.values.proofs.Walking.{as-becomes, pure-by, pure-none, operator-named, operator-pure, forget-becomes}
 use native.Mathlib.Omega.{arith}
 use mathlib.Core.Path.{refl}
 use Rattle.values.specs.Memory.{Sound}
@@ -19,13 +19,8 @@ number-copy-requires : tie.Need-number-copy-requires
 unfolding Named
 number-copy-requires c κs = let h = rw (c .before .enum-told3 .given .1) at (c .before .before .before .before .before .before .pre .1) in (c .before .before .before .before .before .before .pre .0, h .0, h .1)
 
-number-unary-requires : tie.Need-number-unary-requires
-unfolding Named
-number-unary-requires c κs = let h = rw (c .before .enum-told4 .given .1) at (c .before .before .before .before .before .before .pre .1) in (c .before .before .before .before .before .before .pre .0, h .0, h .1)
-
-number-binary-requires : tie.Need-number-binary-requires
-unfolding Named
-number-binary-requires c κs = let h = rw (c .before .enum-told5 .given .1) at (c .before .before .before .before .before .before .pre .1) in (c .before .before .before .before .before .before .pre .0, h .0, h .1, h .2)
+number-operator-requires : tie.Need-number-operator-requires
+number-operator-requires c κs = let h = operator-named (c .before .before .before .before .before .before .args .k) _ (c .before .before .before .before .before .before .args .i) (c .before .before .match .keys4) (c .before .before .before .before .before .before .pre .1) in (c .before .before .before .before .before .before .pre .0, h .0, rw (c .is-binary .ensures) (h .1), h .2)
 
 returns : tie.Need-returns
 unfolding pureBy Sound
@@ -40,15 +35,10 @@ unfolding pureBy
 returns-3 c = pure-by (c .before .before .before .before .before .before .before .before .before .args .i) (c .before .before .before .before .before .before .before .before .before .args .p) _ (c .before .before .before .before .enum-told3 .given .1) (λ dest d l T v y. (tt, refl)) (omega arith) (omega arith) (omega arith) (c .before .before .number-copy .ensures)
 
 returns-4 : tie.Need-returns-4
-unfolding pureBy
-returns-4 c = pure-by (c .before .before .before .before .before .before .before .before .before .args .i) (c .before .before .before .before .before .before .before .before .before .args .p) _ (c .before .before .before .before .enum-told4 .given .1) (λ dest d l T v y. (y .0, refl)) (omega arith) (omega arith) (omega arith) (c .before .before .number-unary .ensures)
+returns-4 c = as-becomes (omega arith) (omega arith) (omega arith) (λ dest d l T v y h. (y .0, rw (c .before .before .before .is-binary .ensures) (operator-pure _ (c .before .before .before .before .before .before .before .before .before .args .k) (c .before .before .before .before .before .before .before .before .before .args .p) (c .before .before .before .before .before .before .before .before .before .args .i) v (c .before .before .before .before .before .match .keys4)))) (c .before .before .number-operator .ensures)
 
 returns-5 : tie.Need-returns-5
-unfolding pureBy
-returns-5 c = pure-by (c .before .before .before .before .before .before .before .before .before .args .i) (c .before .before .before .before .before .before .before .before .before .args .p) _ (c .before .before .before .before .enum-told5 .given .1) (λ dest d l T v y. (y .0, refl)) (omega arith) (omega arith) (omega arith) (c .before .before .number-binary .ensures)
-
-returns-6 : tie.Need-returns-6
-returns-6 c = forget-becomes (c .before .before .before .before .before .pre .0) (c .forget .ensures .0) (c .forget .ensures .1) (λ d l T v. pure-none _ (c .before .before .before .before .before .args .k) (c .before .before .before .before .before .args .p) (c .before .before .before .before .before .args .i) v (c .before .match .keys6))
+returns-5 c = forget-becomes (c .before .before .before .before .before .pre .0) (c .forget .ensures .0) (c .forget .ensures .1) (λ d l T v. pure-none _ (c .before .before .before .before .before .args .k) (c .before .before .before .before .before .args .p) (c .before .before .before .before .before .args .i) v (c .before .match .keys5))
 
 pub number-pure-spec : {M : Type 1} → statement M
 number-pure-spec =
@@ -63,10 +53,8 @@ number-pure-spec =
     number-constant-requires
     (λ c. search needs)
     number-copy-requires
-    (λ c. search needs)
-    number-unary-requires
-    (λ c. search needs)
-    number-binary-requires
+    (λ c κs. search needs)
+    number-operator-requires
     (λ c κs. search needs)
     (λ c. search needs)
     returns
@@ -76,6 +64,4 @@ number-pure-spec =
     returns-3
     (λ c. search needs)
     returns-4
-    (λ c. search needs)
-    returns-5
-    returns-6)
+    returns-5)

@@ -1,5 +1,4 @@
 use Rattle.values.specs.Walk.{takes}
-use borrow.Author.Needs.{needs}
 use Rattle.values.proofs.walk.taken.Statement.{statement}
 use Rattle.values.proofs.walk.taken.Tie as tie
 
