@@ -11,9 +11,9 @@ use Rattle.instruction.specs.Opcode as op
 use Rattle.unit.specs.Result.{Retained, resultBytes}
 use Rattle.unit.specs.Size.{resultSize}
 use Rattle.effects.specs.Shape.{Cell}
-use Rattle.optimize.specs.Pass.{Outcome, unchanged, refused, rewritten, pass}
-use Rattle.optimize.specs.Answer.{Lent, passAnswer, sectionsOf}
-use Rattle.clean.specs.Clean.{cellsAfter}
+use Rattle.answer.specs.Pass.{Outcome, unchanged, refused, rewritten, pass}
+use Rattle.answer.specs.Answer.{Lent, passAnswer, sectionsOf}
+use Rattle.answer.specs.Clean.{cellsAfter}
 use Rattle.words.specs.Bits as wordsBits
 use Rattle.words.specs.Le as wordsLe
 use Rattle.words.specs.Lists as wordsLists
@@ -38,10 +38,10 @@ use Rattle.values.specs.Table as valuesTable
 use Rattle.pc_map.specs.Relocate as pcmapRelocate
 use Rattle.liveness.specs.Dead as livenessDead
 use Rattle.liveness.specs.Live as livenessLive
-use Rattle.optimize.specs.Answer as optimizeAnswer
-use Rattle.optimize.specs.Jump as optimizeJump
-use Rattle.optimize.specs.Pass as optimizePass
-use Rattle.clean.specs.Clean as cleanClean
+use Rattle.answer.specs.Answer as optimizeAnswer
+use Rattle.answer.specs.Jump as optimizeJump
+use Rattle.answer.specs.Pass as optimizePass
+use Rattle.answer.specs.Clean as cleanClean
 use Rattle.examples.specs.Unit.{unit, bytesOf, metadataOf, numbers, cell, loadInt, jumpIf, three, return, loopHint}
 
 -- what a case expects of a pass: unchanged, a refusal, or the result's first 16 + 28n' bytes, read as one little-endian number

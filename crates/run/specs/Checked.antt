@@ -37,7 +37,7 @@ use Rattle.values.specs.Number.{setA, setB, setBC, constantAtom, numberCode}
 use Rattle.values.specs.Table.{Values}
 use Rattle.pc_map.specs.Boundary.{isKept}
 use Rattle.pc_map.specs.Relocate.{movedJump, movedForLoop, movedHint, relocate, relocateBy, retainFrom}
-use Rattle.clean.specs.Clean.{cellOf, cellsAfter}
+use Rattle.answer.specs.Clean.{cellOf, cellsAfter}
 use Rattle.run.specs.Program.{Function}
 use Rattle.run.specs.Relocated.{pick}
 use Rattle.run.specs.Valuation.{Below}

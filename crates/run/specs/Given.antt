@@ -25,9 +25,9 @@ use Rattle.effects.specs.Shape.{Sections, Cell, cellAt, noCell}
 use Rattle.values.specs.declared.Atom.{Atom}
 use Rattle.values.specs.declared.Atom.the-variants.{Integer, Float, Definition}
 use Rattle.values.specs.Number.{constantAtom}
-use Rattle.optimize.specs.Pass.{Outcome, unchanged, refused, rewritten, isWorkedOn, optimized, pass}
-use Rattle.optimize.specs.Answer.{Lent, cellsOf, sectionsOf, roomFor, isLeft, countsChecked, passAnswer}
-use Rattle.clean.specs.Clean.{Cleaned, cellOf, cellsAfter, placedBy, afterPass, cleanFrom, cleanedFirst, cleanAnswer}
+use Rattle.answer.specs.Pass.{Outcome, unchanged, refused, rewritten, isWorkedOn, optimized, pass}
+use Rattle.answer.specs.Answer.{Lent, cellsOf, sectionsOf, roomFor, isLeft, countsChecked, passAnswer}
+use Rattle.answer.specs.Clean.{Cleaned, cellOf, cellsAfter, placedBy, afterPass, cleanFrom, cleanedFirst, cleanAnswer}
 use Rattle.run.specs.Machine.{SameRuns, same-runs-refl, same-runs-trans}
 use Rattle.run.specs.Program.{Function, programOf}
 use Rattle.run.specs.Returned.{givenFunction, resultFunction, RunsAlike}

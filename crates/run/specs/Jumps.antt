@@ -16,7 +16,7 @@ use Rattle.instruction.specs.Opcode as op
 use Rattle.effects.specs.Shape.{Cell, cellAt, noCell}
 use Rattle.flow.specs.Branch.{target}
 use Rattle.pc_map.specs.Boundary.{isKept, boundary}
-use Rattle.optimize.specs.Jump.{isIdle, dropIdle, jumpRounds}
+use Rattle.answer.specs.Jump.{isIdle, dropIdle, jumpRounds}
 use Rattle.run.specs.Retained.{Bits, boundary-yes, boundary-no, boundary-between}
 
 module _ (anchors : List ℕ) (cells : List Cell) where

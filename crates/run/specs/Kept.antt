@@ -30,8 +30,8 @@ use Rattle.pc_map.specs.Boundary.{isKept}
 use Rattle.pc_map.specs.Relocate.{retainFrom}
 use Rattle.liveness.specs.Live.{Row, noRow, solveIn, liveRows, maxLivenessWork}
 use Rattle.liveness.specs.Dead.{unread, isDead, sweepFrom, withoutDead, deadStores}
-use Rattle.optimize.specs.Jump.{jumpRounds}
-use Rattle.optimize.specs.Pass.{usefulPlaces, keptPlaces}
+use Rattle.answer.specs.Jump.{jumpRounds}
+use Rattle.answer.specs.Pass.{usefulPlaces, keptPlaces}
 use Rattle.run.specs.Machine.{SameRuns}
 use Rattle.run.specs.Program.{Function, givenRanges, slotsOf, programOf}
 use Rattle.run.specs.Returned.{resultFunction}

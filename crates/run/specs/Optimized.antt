@@ -34,8 +34,8 @@ use Rattle.pc_map.specs.Relocate.{relocate, relocateBy}
 use Rattle.pc_map.specs.Moved.{target-moves}
 use Rattle.liveness.specs.Live.{Row, isLast, liveRows}
 use Rattle.liveness.specs.Dead.{deadStores, withoutDead}
-use Rattle.optimize.specs.Jump.{jumpRounds}
-use Rattle.optimize.specs.Pass.{usefulPlaces, keptPlaces}
+use Rattle.answer.specs.Jump.{jumpRounds}
+use Rattle.answer.specs.Pass.{usefulPlaces, keptPlaces}
 use Rattle.run.specs.Program.{Function, givenRanges, slotsOf}
 use Rattle.run.specs.Frame.{In}
 use Rattle.run.specs.Shapes.{byFields, writeParts, given-by}

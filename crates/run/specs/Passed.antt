@@ -19,8 +19,8 @@ use Rattle.flow.specs.Block.{leaders}
 use Rattle.flow.specs.Loop.{reachedPlaces, loopCheck}
 use Rattle.values.specs.Number.{numberCode}
 use Rattle.pc_map.specs.Relocate.{relocationCheck, retainFrom}
-use Rattle.optimize.specs.Pass.{Outcome, unchanged, refused, rewritten, checked, sameCode, allKept, keptPlaces, removal, optimized, isWorkedOn, pass}
-use Rattle.clean.specs.Clean.{cellOf, cellsAfter}
+use Rattle.answer.specs.Pass.{Outcome, unchanged, refused, rewritten, checked, sameCode, allKept, keptPlaces, removal, optimized, isWorkedOn, pass}
+use Rattle.answer.specs.Clean.{cellOf, cellsAfter}
 use Rattle.run.specs.Machine.{SameRuns, same-runs-trans}
 use Rattle.run.specs.Program.{Function, programOf}
 use Rattle.run.specs.Returned.{resultFunction}

@@ -20,7 +20,7 @@ use Rattle.effects.specs.Check.{operandRefusal}
 use Rattle.flow.specs.Branch.{falls, branches, targetBy, target}
 use Rattle.pc_map.specs.Boundary.{isKept, boundary}
 use Rattle.pc_map.specs.Relocate.{relocate, relocateBy, retainFrom}
-use Rattle.clean.specs.Clean.{cellOf, cellsAfter}
+use Rattle.answer.specs.Clean.{cellOf, cellsAfter}
 use Rattle.run.specs.Machine.{Words, Event, World, Act, silent, Node, Program, goto, SameRuns}
 use Rattle.run.specs.Removal.{Agree, SameAct, Goes, Kept, Gone, Removal, removal}
 use Rattle.run.specs.Program.{Function, hasMeaning, classIn, nodeBy, actBy, givenRanges, slotsOf, programOf}

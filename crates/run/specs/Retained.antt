@@ -17,7 +17,7 @@ use Rattle.unit.specs.Result.{Retained}
 use Rattle.effects.specs.Shape.{Cell, cellAt, noCell}
 use Rattle.pc_map.specs.Boundary.{isKept, boundary}
 use Rattle.pc_map.specs.Relocate.{relocate, retainFrom}
-use Rattle.clean.specs.Clean.{cellOf, cellsAfter}
+use Rattle.answer.specs.Clean.{cellOf, cellsAfter}
 
 -- each place is kept or not
 abbrev pub Bits : List ℕ → Type 0

@@ -6,9 +6,9 @@ use lib.ListN.{length}
 use Rattle.unit.specs.Layout.{headerOf}
 use Rattle.unit.specs.Result.{Retained}
 use Rattle.effects.specs.Shape.{Sections}
-use Rattle.optimize.specs.Pass.{Outcome, unchanged, refused, rewritten}
-use Rattle.optimize.specs.Answer.{cellsOf, sectionsOf}
-use Rattle.clean.specs.Clean.{cellsAfter}
+use Rattle.answer.specs.Pass.{Outcome, unchanged, refused, rewritten}
+use Rattle.answer.specs.Answer.{cellsOf, sectionsOf}
+use Rattle.answer.specs.Clean.{cellsAfter}
 use Rattle.run.specs.Machine.{SameRuns}
 use Rattle.run.specs.Program.{Function, programOf}
 

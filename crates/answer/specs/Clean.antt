@@ -11,8 +11,8 @@ use Rattle.unit.specs.Size.{spareRoom}
 use Rattle.unit.specs.Layout.{headerOf, isUnit}
 use Rattle.unit.specs.Result.{Retained}
 use Rattle.effects.specs.Shape.{Sections, Cell}
-use Rattle.optimize.specs.Pass.{Outcome, unchanged, refused, rewritten, pass, optimized}
-use Rattle.optimize.specs.Answer.{Lent, cellsOf, sectionsOf, roomFor, isLeft, countsChecked}
+use Rattle.answer.specs.Pass.{Outcome, unchanged, refused, rewritten, pass, optimized}
+use Rattle.answer.specs.Answer.{Lent, cellsOf, sectionsOf, roomFor, isLeft, countsChecked}
 
 -- an outcome and the number of the last pass run
 pub record Cleaned : Type 0 where

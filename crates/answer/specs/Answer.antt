@@ -13,7 +13,7 @@ use Rattle.unit.specs.Size.{outputRoom, work32Room, work64Room}
 use Rattle.unit.specs.Entry.{metadataAt}
 use Rattle.unit.specs.Layout.{headerOf, codeOf, metadataOf, typesOf, constantsOf, functionsOf, externsOf, casesOf, isUnit}
 use Rattle.effects.specs.Shape.{Sections, Cell, tablesOf}
-use Rattle.optimize.specs.Pass.{Outcome, unchanged, refused, rewritten, isWorkedOn, optimized}
+use Rattle.answer.specs.Pass.{Outcome, unchanged, refused, rewritten, isWorkedOn, optimized}
 
 -- the function of a unit: its cells, and the sections that stay
 unfoldable pub cellsOf : List ℕ → List Cell

@@ -20,7 +20,7 @@ use Rattle.flow.specs.Loop.{reachedPlaces, loopCheck, anchors, isPlainHint}
 use Rattle.values.specs.Number.{numberCode}
 use Rattle.pc_map.specs.Relocate.{relocationCheck, retainFrom}
 use Rattle.liveness.specs.Dead.{deadStores}
-use Rattle.optimize.specs.Jump.{jumpRounds}
+use Rattle.answer.specs.Jump.{jumpRounds}
 
 -- What a pass or the cleaning returns: unchanged, refused with number and place, or the retained instructions.
 pub data Outcome : Type 0 where

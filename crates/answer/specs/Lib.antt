@@ -1,3 +1,4 @@
 pub mod Jump
 pub mod Pass
 pub mod Answer
+pub mod Clean

@@ -1,0 +1,1 @@
+// What one pass and the cleaning answer: definitions alone.

@@ -1,1 +1,0 @@
-// One pass over a function.
