@@ -1,0 +1,98 @@
+use borrow.Author.Needs.{needs}
+use Rattle.optimize.proofs.parts.optimize.Statement.{statement}
+use Rattle.optimize.proofs.parts.optimize.Tie as tie
+use Rattle.optimize.proofs.parts.optimize.Reads as reads
+use Rattle.optimize.proofs.parts.optimize.Lts as lts
+use Rattle.effects.proofs.operands.check_operands.Reads as check-operands-reads
+use Rattle.optimize.proofs.code.load.Reads as load-reads
+use Rattle.optimize.proofs.parts.after_operands.Reads as after-operands-reads
+
+-- src/parts.rt:139:22
+sub-load : tie.Need-sub-load
+sub-load c = search needs
+
+-- src/parts.rt:139:22
+part-load-start : tie.Need-part-load-start
+part-load-start c = search needs
+
+-- src/parts.rt:139:22
+part-load-end : tie.Need-part-load-end
+part-load-end c = search needs
+
+-- src/parts.rt:139:5
+load-requires : tie.Need-load-requires
+load-requires c κs = search needs
+
+-- src/parts.rt:141:9
+sub-check-operands : tie.Need-sub-check-operands
+sub-check-operands c = search needs
+
+-- src/parts.rt:141:9
+part-check-operands-start : tie.Need-part-check-operands-start
+part-check-operands-start c = search needs
+
+-- src/parts.rt:141:9
+part-check-operands-end : tie.Need-part-check-operands-end
+part-check-operands-end c = search needs
+
+-- src/parts.rt:140:11
+check-operands-requires : tie.Need-check-operands-requires
+check-operands-requires c κs = ?
+
+-- src/parts.rt:148:24
+enum-known-k : tie.Need-enum-known-k
+enum-known-k c = search needs
+
+-- src/parts.rt:150:74
+enum-told : tie.Need-enum-told
+enum-told c = search needs
+
+-- src/parts.rt:149:26
+after-operands-requires : tie.Need-after-operands-requires
+after-operands-requires c κs = ?
+
+-- src/parts.rt:123:1
+same-length : tie.Need-same-length
+same-length c = search needs
+
+-- src/parts.rt:123:1
+returns : tie.Need-returns
+returns c = ?
+
+-- src/parts.rt:123:1
+same-length-2 : tie.Need-same-length-2
+same-length-2 c = search needs
+
+-- src/parts.rt:123:1
+same-length-3 : tie.Need-same-length-3
+same-length-3 c = search needs
+
+-- src/parts.rt:123:1
+same-length-4 : tie.Need-same-length-4
+same-length-4 c = search needs
+
+-- src/parts.rt:123:1
+returns-2 : tie.Need-returns-2
+returns-2 c = ?
+
+pub optimize-spec : {M : Type 1} → statement M
+optimize-spec =
+    tie.close
+    (tie.spec
+    sub-load
+    part-load-start
+    part-load-end
+    load-requires
+    sub-check-operands
+    part-check-operands-start
+    part-check-operands-end
+    check-operands-requires
+    enum-known-k
+    enum-told
+    after-operands-requires
+    same-length
+    returns
+    same-length-2
+    same-length-3
+    same-length-4
+    returns-2)

@@ -1,0 +1,5 @@
+pub mod Parts
+pub mod Jumping
+pub mod Kept
+pub mod Whole
+pub mod Droppable

@@ -1,0 +1,14 @@
+// One pass over a function: `optimize_function`.
+mod code;
+mod jump;
+mod parts;
+pub mod pass;
+mod retain;
+mod stub;
+
+// What a pass answers: unchanged, refused with number and place, or rewritten to so many instructions.
+pub enum Answer {
+    Unchanged,
+    Refused(u32, u32),
+    Rewritten(u32),
+}

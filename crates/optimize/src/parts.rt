@@ -1,0 +1,153 @@
+// One pass on the parts of a unit: refusals 5 to 10, unchanged and rewritten.
+ghost use mathlib.Core.Path.{_≡_};
+ghost use mathlib.Core.List.{List};
+ghost use Prim.Native.Nat.{ℕ, _+_, _*_, _/_, _≤_, _<_};
+ghost use lib.ListN.{length};
+ghost use borrow.Rule.Slice.PartMut.{midOf};
+ghost use Rattle.unit.specs.Size.{instructionSize, metadataSize, resultSize};
+ghost use Rattle.effects.specs.declared.Check.{Check};
+ghost use Rattle.effects.specs.Check.{operandCheck};
+ghost use Rattle.effects.specs.Shape.{tablesOf};
+ghost use Rattle.effects.specs.Cells.{cellsBy};
+ghost use Rattle.flow.specs.Block.{leaders};
+ghost use Rattle.flow.specs.BranchLaws.{BranchesInside};
+ghost use Rattle.pc_map.specs.Boundaries.{Mapped};
+ghost use Rattle.answer.specs.Pass.{optimized, removal};
+ghost use Rattle.optimize.specs.Parts.{told, written, wordsIn, sectionsIn, cellsIn, Given, Room, Checked, numberedCode, wordsOf, afterOperands, afterBranches};
+use crate::Answer;
+use crate::code;
+use crate::retain;
+use crate::stub;
+use effects::Check;
+use effects::operands;
+use flow::block;
+use flow::branch;
+use flow::hint;
+use pc_map::relocation;
+use pc_map::retained;
+
+// "unchanged: same code, all kept", refusal 10, or rewritten.
+fn conclude(
+    code: &[u8],
+    metadata: &[u8],
+    words: &[u64],
+    keep: &[u32],
+    bounds: &[u32],
+    out: &mut [u8],
+) -> Answer
+    requires { ⌜ Mapped (now keep) (now bounds) × (length (now keep) ≡ length (now words)) × (instructionSize * length (now words) ≤ length (now code)) × (metadataSize * length (now words) ≤ length (now metadata)) × BranchesInside (now words) × (resultSize (length (now words)) ≤ length (now out)) ⌝ }
+    ensures { λ r. ⌜ (r ≡ told (removal (cellsIn (length (now (words .entry))) (now (code .entry)) (now (metadata .entry))) (cellsBy (now (words .entry)) (now (metadata .entry))) (now (keep .entry)))) × (now (out .exit) ≡ written (removal (cellsIn (length (now (words .entry))) (now (code .entry)) (now (metadata .entry))) (cellsBy (now (words .entry)) (now (metadata .entry))) (now (keep .entry))) (now (out .entry))) ⌝ }
+{
+    let n = words.len();
+    let retained = bounds[n];
+    if (retained as usize == n) & code::is_same(code, words) {
+        return Answer::Unchanged;
+    }
+    match relocation::check_relocation(words, metadata, keep) {
+        Check::Refused(k, p) => Answer::Refused(k, p),
+        Check::Passed => {
+            retained::write_retained(words, metadata, keep, bounds, out);
+            Answer::Rewritten(retained)
+        }
+    }
+}
+
+// From refusal 9 on: the code is numbered, and its leaders are known.
+fn after_branches(
+    code: &[u8],
+    metadata: &[u8],
+    types: &[u8],
+    constants: &[u8],
+    functions: &[u8],
+    externs: &[u8],
+    cases: &[u8],
+    out: &mut [u8],
+    work32: &mut [u32],
+    work64: &mut [u64],
+    n: usize,
+) -> Answer
+    requires { ⌜ Given n (now code) (now metadata) (sectionsIn (now types) (now constants) (now functions) (now externs) (now cases)) × Room n (length (now types)) (length (now out)) (length (now work32)) (length (now work64)) × Checked (sectionsIn (now types) (now constants) (now functions) (now externs) (now cases)) (cellsIn n (now code) (now metadata)) × (midOf 0 n (now work32) ≡ leaders (cellsIn n (now code) (now metadata))) × (midOf 0 n (now work64) ≡ wordsOf (numberedCode (sectionsIn (now types) (now constants) (now functions) (now externs) (now cases)) (cellsIn n (now code) (now metadata)))) ⌝ }
+    ensures { λ r. ⌜ (r ≡ told (afterBranches (sectionsIn (now (types .entry)) (now (constants .entry)) (now (functions .entry)) (now (externs .entry)) (now (cases .entry))) (cellsIn n (now (code .entry)) (now (metadata .entry))))) × (now (out .exit) ≡ written (afterBranches (sectionsIn (now (types .entry)) (now (constants .entry)) (now (functions .entry)) (now (externs .entry)) (now (cases .entry))) (cellsIn n (now (code .entry)) (now (metadata .entry)))) (now (out .entry))) ⌝ }
+{
+    let at = 3 * n + 1;
+    stub::mark_reached(&work64[0..n], metadata, &mut work32[at..]);
+    match hint::check_loops(&work64[0..n], metadata, &work32[at..at + n]) {
+        Check::Refused(k, p) => Answer::Refused(k, p),
+        Check::Passed => {
+            retain::retain(
+                metadata, types, functions, externs, cases, work32, work64, n,
+            );
+            conclude(
+                code,
+                metadata,
+                &work64[0..n],
+                &work32[at..at + n],
+                &work32[at + n..at + n + n + 1],
+                out,
+            )
+        }
+    }
+}
+
+// From refusal 8 on: the code is loaded.
+fn after_operands(
+    code: &[u8],
+    metadata: &[u8],
+    types: &[u8],
+    constants: &[u8],
+    functions: &[u8],
+    externs: &[u8],
+    cases: &[u8],
+    out: &mut [u8],
+    work32: &mut [u32],
+    work64: &mut [u64],
+    n: usize,
+) -> Answer
+    requires { ⌜ Given n (now code) (now metadata) (sectionsIn (now types) (now constants) (now functions) (now externs) (now cases)) × Room n (length (now types)) (length (now out)) (length (now work32)) (length (now work64)) × (operandCheck (length (now types)) (tablesOf (now functions) (now externs) (now cases)) (cellsIn n (now code) (now metadata)) ≡ Check.Passed) × (midOf 0 n (now work64) ≡ wordsIn n (now code)) ⌝ }
+    ensures { λ r. ⌜ (r ≡ told (afterOperands (sectionsIn (now (types .entry)) (now (constants .entry)) (now (functions .entry)) (now (externs .entry)) (now (cases .entry))) (cellsIn n (now (code .entry)) (now (metadata .entry))))) × (now (out .exit) ≡ written (afterOperands (sectionsIn (now (types .entry)) (now (constants .entry)) (now (functions .entry)) (now (externs .entry)) (now (cases .entry))) (cellsIn n (now (code .entry)) (now (metadata .entry)))) (now (out .entry))) ⌝ }
+{
+    match branch::check_branches(&work64[0..n]) {
+        Check::Refused(k, p) => Answer::Refused(k, p),
+        Check::Passed => {
+            block::mark_leaders(&work64[0..n], &mut work32[0..n]);
+            stub::number_code(work64, &work32[0..n], types, constants);
+            after_branches(
+                code, metadata, types, constants, functions, externs, cases, out, work32, work64,
+                n,
+            )
+        }
+    }
+}
+
+// The pass.
+pub fn optimize(
+    code: &[u8],
+    metadata: &[u8],
+    types: &[u8],
+    constants: &[u8],
+    functions: &[u8],
+    externs: &[u8],
+    cases: &[u8],
+    out: &mut [u8],
+    work32: &mut [u32],
+    work64: &mut [u64],
+    n: usize,
+) -> Answer
+    requires { ⌜ Given n (now code) (now metadata) (sectionsIn (now types) (now constants) (now functions) (now externs) (now cases)) × Room n (length (now types)) (length (now out)) (length (now work32)) (length (now work64)) ⌝ }
+    ensures { λ r. ⌜ (r ≡ told (optimized (sectionsIn (now (types .entry)) (now (constants .entry)) (now (functions .entry)) (now (externs .entry)) (now (cases .entry))) (cellsIn n (now (code .entry)) (now (metadata .entry))))) × (now (out .exit) ≡ written (optimized (sectionsIn (now (types .entry)) (now (constants .entry)) (now (functions .entry)) (now (externs .entry)) (now (cases .entry))) (cellsIn n (now (code .entry)) (now (metadata .entry)))) (now (out .entry))) ⌝ }
+{
+    code::load(code, &mut work64[0..n]);
+    match operands::check_operands(
+        &work64[0..n],
+        metadata,
+        types.len(),
+        functions,
+        externs,
+        cases,
+    ) {
+        Check::Refused(k, p) => Answer::Refused(k, p),
+        Check::Passed => after_operands(
+            code, metadata, types, constants, functions, externs, cases, out, work32, work64, n,
+        ),
+    }
+}

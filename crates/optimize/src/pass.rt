@@ -1,0 +1,108 @@
+// One pass on a unit: document 01's table of answers, from top to bottom.
+ghost use mathlib.Core.Path.{_≡_};
+ghost use mathlib.Core.Bool.{true, false};
+ghost use Prim.Native.Nat.{_^_, _<_, _≤_};
+ghost use lib.ListN.{length, replicate};
+ghost use Rattle.unit.specs.Layout.{headerOf, isUnit};
+ghost use Rattle.unit.specs.declared.Header.{Header};
+ghost use Rattle.unit.specs.Size.{maxLocalSlots};
+ghost use Rattle.answer.specs.Answer.{passAnswer, isLeft, roomFor, countsChecked, cellsOf, sectionsOf};
+ghost use Rattle.answer.specs.Pass.{optimized};
+ghost use Rattle.run.specs.Returned.{RunsAlike};
+ghost use Rattle.optimize.specs.Parts.{told, written};
+ghost use Rattle.optimize.specs.Whole.{lentOf, afterLayout};
+use crate::Answer;
+use crate::parts;
+use unit::Counts;
+use unit::Layout;
+use unit::parse;
+use unit::refusal;
+use unit::section;
+use unit::size;
+use words::fill;
+
+// "n under 2, above 65,536, or defer"
+fn is_left(n: usize, defer: usize) -> bool
+    ensures { λ r. ⌜ ((h : Header) → h .counts .instructions ≡ n → h .counts .defer ≡ defer → r ≡ isLeft h) ⌝ }
+{
+    if n < 2 {
+        return true;
+    }
+    if n > 65536 {
+        return true;
+    }
+    defer == 1
+}
+
+// Is each lent buffer as long as stated?
+fn has_room(n: usize, s: usize, out: usize, work32: usize, work64: usize) -> bool
+    requires { ⌜ (n < 2 ^ 32) × (s ≤ maxLocalSlots) ⌝ }
+    ensures { λ r. ⌜ ((h : Header) → h .counts .instructions ≡ n → h .counts .locals ≡ s → r ≡ roomFor h (lentOf out work32 work64)) ⌝ }
+{
+    (size::output_room(n) <= out)
+        & (size::work32_room(n) <= work32)
+        & (size::work64_room(n, s) <= work64)
+}
+
+// Refusals 3 and 4, then the pass on the unit's parts.
+fn counted(unit: &[u8], out: &mut [u8], work32: &mut [u32], work64: &mut [u64], c: Counts) -> Answer
+    requires { ⌜ (isUnit (now unit) ≡ true) × (c ≡ headerOf (now unit) .counts) × (isLeft (headerOf (now unit)) ≡ false) × (roomFor (headerOf (now unit)) (lentOf (length (now out)) (length (now work32)) (length (now work64))) ≡ true) ⌝ }
+    ensures { λ r. ⌜ (r ≡ told (countsChecked (headerOf (now (unit .entry))) (optimized (sectionsOf (now (unit .entry))) (cellsOf (now (unit .entry)))))) × (now (out .exit) ≡ written (countsChecked (headerOf (now (unit .entry))) (optimized (sectionsOf (now (unit .entry))) (cellsOf (now (unit .entry))))) (now (out .entry))) ⌝ }
+{
+    let n = c.instructions;
+    if c.metadata != n {
+        return Answer::Refused(refusal::METADATA_COUNT, 0);
+    }
+    if c.types != c.locals {
+        return Answer::Refused(refusal::TYPE_COUNT, 0);
+    }
+    parts::optimize(
+        section::code(unit),
+        section::metadata(unit),
+        section::types(unit),
+        section::constants(unit),
+        section::functions(unit),
+        section::externs(unit),
+        section::cases(unit),
+        out,
+        work32,
+        work64,
+        n,
+    )
+}
+
+// Unchanged as it is too small, too large or defers, or a buffer is too short.
+fn laid(unit: &[u8], out: &mut [u8], work32: &mut [u32], work64: &mut [u64], c: Counts) -> Answer
+    requires { ⌜ (isUnit (now unit) ≡ true) × (c ≡ headerOf (now unit) .counts) ⌝ }
+    ensures { λ r. ⌜ (r ≡ told (afterLayout (now (unit .entry)) (lentOf (length (now (out .entry))) (length (now (work32 .entry))) (length (now (work64 .entry)))))) × (now (out .exit) ≡ written (afterLayout (now (unit .entry)) (lentOf (length (now (out .entry))) (length (now (work32 .entry))) (length (now (work64 .entry))))) (now (out .entry))) ⌝ }
+{
+    let n = c.instructions;
+    if is_left(n, c.defer) {
+        return Answer::Unchanged;
+    }
+    if !has_room(n, c.locals, out.len(), work32.len(), work64.len()) {
+        return Answer::Refused(refusal::SHORT_BUFFER, 0);
+    }
+    counted(unit, out, work32, work64, c)
+}
+
+// The answer, the work buffers left as they come.
+fn answer(unit: &[u8], out: &mut [u8], work32: &mut [u32], work64: &mut [u64]) -> Answer
+    ensures { λ r. ⌜ (r ≡ told (passAnswer (now (unit .entry)) (lentOf (length (now (out .entry))) (length (now (work32 .entry))) (length (now (work64 .entry)))))) × (now (out .exit) ≡ written (passAnswer (now (unit .entry)) (lentOf (length (now (out .entry))) (length (now (work32 .entry))) (length (now (work64 .entry))))) (now (out .entry))) ⌝ }
+{
+    match parse::check(unit) {
+        Layout::Refused(k, p) => Answer::Refused(k, p),
+        Layout::Unit(h) => laid(unit, out, work32, work64, h.counts),
+    }
+}
+
+// One pass on a unit: the answer that is defined, the output by its cases, the work buffers zeroed; what is returned runs as
+// what was given.
+pub fn pass(unit: &[u8], out: &mut [u8], work32: &mut [u32], work64: &mut [u64]) -> Answer
+    ensures { λ r. ⌜ (r ≡ told (passAnswer (now (unit .entry)) (lentOf (length (now (out .entry))) (length (now (work32 .entry))) (length (now (work64 .entry)))))) × (now (out .exit) ≡ written (passAnswer (now (unit .entry)) (lentOf (length (now (out .entry))) (length (now (work32 .entry))) (length (now (work64 .entry))))) (now (out .entry))) × (now (work32 .exit) ≡ replicate (length (now (work32 .entry))) 0) × (now (work64 .exit) ≡ replicate (length (now (work64 .entry))) 0) × RunsAlike (now (unit .entry)) (passAnswer (now (unit .entry)) (lentOf (length (now (out .entry))) (length (now (work32 .entry))) (length (now (work64 .entry))))) ⌝ }
+{
+    let r = answer(unit, out, work32, work64);
+    fill::zero_u32(work32);
+    fill::zero_u64(work64);
+    r
+}
