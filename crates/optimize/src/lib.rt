@@ -1,7 +1,7 @@
 // One pass over a function: `optimize_function`.
 mod code;
 mod jump;
-mod parts;
+pub mod parts;
 pub mod pass;
 mod retain;
 mod stub;

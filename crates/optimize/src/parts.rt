@@ -13,7 +13,7 @@ ghost use Rattle.flow.specs.Block.{leaders};
 ghost use Rattle.flow.specs.BranchLaws.{BranchesInside};
 ghost use Rattle.pc_map.specs.Boundaries.{Mapped};
 ghost use Rattle.answer.specs.Pass.{optimized, removal};
-ghost use Rattle.optimize.specs.Parts.{told, written, wordsIn, sectionsIn, cellsIn, Given, Room, Checked, numberedCode, wordsOf, afterOperands, afterBranches};
+ghost use Rattle.optimize.specs.Parts.{Tells, wordsIn, sectionsIn, cellsIn, Given, Room, Checked, numberedCode, wordsOf, afterOperands, afterBranches};
 use crate::Answer;
 use crate::code;
 use crate::retain;
@@ -36,7 +36,7 @@ fn conclude(
     out: &mut [u8],
 ) -> Answer
     requires { ⌜ Mapped (now keep) (now bounds) × (length (now keep) ≡ length (now words)) × (instructionSize * length (now words) ≤ length (now code)) × (metadataSize * length (now words) ≤ length (now metadata)) × BranchesInside (now words) × (resultSize (length (now words)) ≤ length (now out)) ⌝ }
-    ensures { λ r. ⌜ (r ≡ told (removal (cellsIn (length (now (words .entry))) (now (code .entry)) (now (metadata .entry))) (cellsBy (now (words .entry)) (now (metadata .entry))) (now (keep .entry)))) × (now (out .exit) ≡ written (removal (cellsIn (length (now (words .entry))) (now (code .entry)) (now (metadata .entry))) (cellsBy (now (words .entry)) (now (metadata .entry))) (now (keep .entry))) (now (out .entry))) ⌝ }
+    ensures { λ r. ⌜ Tells (removal (cellsIn (length (now (words .entry))) (now (code .entry)) (now (metadata .entry))) (cellsBy (now (words .entry)) (now (metadata .entry))) (now (keep .entry))) r (now (out .entry)) (now (out .exit)) ⌝ }
 {
     let n = words.len();
     let retained = bounds[n];
@@ -67,7 +67,7 @@ fn after_branches(
     n: usize,
 ) -> Answer
     requires { ⌜ Given n (now code) (now metadata) (sectionsIn (now types) (now constants) (now functions) (now externs) (now cases)) × Room n (length (now types)) (length (now out)) (length (now work32)) (length (now work64)) × Checked (sectionsIn (now types) (now constants) (now functions) (now externs) (now cases)) (cellsIn n (now code) (now metadata)) × (midOf 0 n (now work32) ≡ leaders (cellsIn n (now code) (now metadata))) × (midOf 0 n (now work64) ≡ wordsOf (numberedCode (sectionsIn (now types) (now constants) (now functions) (now externs) (now cases)) (cellsIn n (now code) (now metadata)))) ⌝ }
-    ensures { λ r. ⌜ (r ≡ told (afterBranches (sectionsIn (now (types .entry)) (now (constants .entry)) (now (functions .entry)) (now (externs .entry)) (now (cases .entry))) (cellsIn n (now (code .entry)) (now (metadata .entry))))) × (now (out .exit) ≡ written (afterBranches (sectionsIn (now (types .entry)) (now (constants .entry)) (now (functions .entry)) (now (externs .entry)) (now (cases .entry))) (cellsIn n (now (code .entry)) (now (metadata .entry)))) (now (out .entry))) ⌝ }
+    ensures { λ r. ⌜ Tells (afterBranches (sectionsIn (now (types .entry)) (now (constants .entry)) (now (functions .entry)) (now (externs .entry)) (now (cases .entry))) (cellsIn n (now (code .entry)) (now (metadata .entry)))) r (now (out .entry)) (now (out .exit)) ⌝ }
 {
     let at = 3 * n + 1;
     stub::mark_reached(&work64[0..n], metadata, &mut work32[at..]);
@@ -104,7 +104,7 @@ fn after_operands(
     n: usize,
 ) -> Answer
     requires { ⌜ Given n (now code) (now metadata) (sectionsIn (now types) (now constants) (now functions) (now externs) (now cases)) × Room n (length (now types)) (length (now out)) (length (now work32)) (length (now work64)) × (operandCheck (length (now types)) (tablesOf (now functions) (now externs) (now cases)) (cellsIn n (now code) (now metadata)) ≡ Check.Passed) × (midOf 0 n (now work64) ≡ wordsIn n (now code)) ⌝ }
-    ensures { λ r. ⌜ (r ≡ told (afterOperands (sectionsIn (now (types .entry)) (now (constants .entry)) (now (functions .entry)) (now (externs .entry)) (now (cases .entry))) (cellsIn n (now (code .entry)) (now (metadata .entry))))) × (now (out .exit) ≡ written (afterOperands (sectionsIn (now (types .entry)) (now (constants .entry)) (now (functions .entry)) (now (externs .entry)) (now (cases .entry))) (cellsIn n (now (code .entry)) (now (metadata .entry)))) (now (out .entry))) ⌝ }
+    ensures { λ r. ⌜ Tells (afterOperands (sectionsIn (now (types .entry)) (now (constants .entry)) (now (functions .entry)) (now (externs .entry)) (now (cases .entry))) (cellsIn n (now (code .entry)) (now (metadata .entry)))) r (now (out .entry)) (now (out .exit)) ⌝ }
 {
     match branch::check_branches(&work64[0..n]) {
         Check::Refused(k, p) => Answer::Refused(k, p),
@@ -134,7 +134,7 @@ pub fn optimize(
     n: usize,
 ) -> Answer
     requires { ⌜ Given n (now code) (now metadata) (sectionsIn (now types) (now constants) (now functions) (now externs) (now cases)) × Room n (length (now types)) (length (now out)) (length (now work32)) (length (now work64)) ⌝ }
-    ensures { λ r. ⌜ (r ≡ told (optimized (sectionsIn (now (types .entry)) (now (constants .entry)) (now (functions .entry)) (now (externs .entry)) (now (cases .entry))) (cellsIn n (now (code .entry)) (now (metadata .entry))))) × (now (out .exit) ≡ written (optimized (sectionsIn (now (types .entry)) (now (constants .entry)) (now (functions .entry)) (now (externs .entry)) (now (cases .entry))) (cellsIn n (now (code .entry)) (now (metadata .entry)))) (now (out .entry))) ⌝ }
+    ensures { λ r. ⌜ Tells (optimized (sectionsIn (now (types .entry)) (now (constants .entry)) (now (functions .entry)) (now (externs .entry)) (now (cases .entry))) (cellsIn n (now (code .entry)) (now (metadata .entry)))) r (now (out .entry)) (now (out .exit)) ⌝ }
 {
     code::load(code, &mut work64[0..n]);
     match operands::check_operands(

@@ -9,7 +9,7 @@ ghost use Rattle.unit.specs.Size.{maxLocalSlots};
 ghost use Rattle.answer.specs.Answer.{passAnswer, isLeft, roomFor, countsChecked, cellsOf, sectionsOf};
 ghost use Rattle.answer.specs.Pass.{optimized};
 ghost use Rattle.run.specs.Returned.{RunsAlike};
-ghost use Rattle.optimize.specs.Parts.{told, written};
+ghost use Rattle.optimize.specs.Parts.{Tells};
 ghost use Rattle.optimize.specs.Whole.{lentOf, afterLayout};
 use crate::Answer;
 use crate::parts;
@@ -47,7 +47,7 @@ fn has_room(n: usize, s: usize, out: usize, work32: usize, work64: usize) -> boo
 // Refusals 3 and 4, then the pass on the unit's parts.
 fn counted(unit: &[u8], out: &mut [u8], work32: &mut [u32], work64: &mut [u64], c: Counts) -> Answer
     requires { ⌜ (isUnit (now unit) ≡ true) × (c ≡ headerOf (now unit) .counts) × (isLeft (headerOf (now unit)) ≡ false) × (roomFor (headerOf (now unit)) (lentOf (length (now out)) (length (now work32)) (length (now work64))) ≡ true) ⌝ }
-    ensures { λ r. ⌜ (r ≡ told (countsChecked (headerOf (now (unit .entry))) (optimized (sectionsOf (now (unit .entry))) (cellsOf (now (unit .entry)))))) × (now (out .exit) ≡ written (countsChecked (headerOf (now (unit .entry))) (optimized (sectionsOf (now (unit .entry))) (cellsOf (now (unit .entry))))) (now (out .entry))) ⌝ }
+    ensures { λ r. ⌜ Tells (countsChecked (headerOf (now (unit .entry))) (optimized (sectionsOf (now (unit .entry))) (cellsOf (now (unit .entry))))) r (now (out .entry)) (now (out .exit)) ⌝ }
 {
     let n = c.instructions;
     if c.metadata != n {
@@ -74,7 +74,7 @@ fn counted(unit: &[u8], out: &mut [u8], work32: &mut [u32], work64: &mut [u64], 
 // Unchanged as it is too small, too large or defers, or a buffer is too short.
 fn laid(unit: &[u8], out: &mut [u8], work32: &mut [u32], work64: &mut [u64], c: Counts) -> Answer
     requires { ⌜ (isUnit (now unit) ≡ true) × (c ≡ headerOf (now unit) .counts) ⌝ }
-    ensures { λ r. ⌜ (r ≡ told (afterLayout (now (unit .entry)) (lentOf (length (now (out .entry))) (length (now (work32 .entry))) (length (now (work64 .entry)))))) × (now (out .exit) ≡ written (afterLayout (now (unit .entry)) (lentOf (length (now (out .entry))) (length (now (work32 .entry))) (length (now (work64 .entry))))) (now (out .entry))) ⌝ }
+    ensures { λ r. ⌜ Tells (afterLayout (now (unit .entry)) (lentOf (length (now (out .entry))) (length (now (work32 .entry))) (length (now (work64 .entry))))) r (now (out .entry)) (now (out .exit)) ⌝ }
 {
     let n = c.instructions;
     if is_left(n, c.defer) {
@@ -88,7 +88,7 @@ fn laid(unit: &[u8], out: &mut [u8], work32: &mut [u32], work64: &mut [u64], c: 
 
 // The answer, the work buffers left as they come.
 fn answer(unit: &[u8], out: &mut [u8], work32: &mut [u32], work64: &mut [u64]) -> Answer
-    ensures { λ r. ⌜ (r ≡ told (passAnswer (now (unit .entry)) (lentOf (length (now (out .entry))) (length (now (work32 .entry))) (length (now (work64 .entry)))))) × (now (out .exit) ≡ written (passAnswer (now (unit .entry)) (lentOf (length (now (out .entry))) (length (now (work32 .entry))) (length (now (work64 .entry))))) (now (out .entry))) ⌝ }
+    ensures { λ r. ⌜ Tells (passAnswer (now (unit .entry)) (lentOf (length (now (out .entry))) (length (now (work32 .entry))) (length (now (work64 .entry))))) r (now (out .entry)) (now (out .exit)) ⌝ }
 {
     match parse::check(unit) {
         Layout::Refused(k, p) => Answer::Refused(k, p),
@@ -99,7 +99,7 @@ fn answer(unit: &[u8], out: &mut [u8], work32: &mut [u32], work64: &mut [u64]) -
 // One pass on a unit: the answer that is defined, the output by its cases, the work buffers zeroed; what is returned runs as
 // what was given.
 pub fn pass(unit: &[u8], out: &mut [u8], work32: &mut [u32], work64: &mut [u64]) -> Answer
-    ensures { λ r. ⌜ (r ≡ told (passAnswer (now (unit .entry)) (lentOf (length (now (out .entry))) (length (now (work32 .entry))) (length (now (work64 .entry)))))) × (now (out .exit) ≡ written (passAnswer (now (unit .entry)) (lentOf (length (now (out .entry))) (length (now (work32 .entry))) (length (now (work64 .entry))))) (now (out .entry))) × (now (work32 .exit) ≡ replicate (length (now (work32 .entry))) 0) × (now (work64 .exit) ≡ replicate (length (now (work64 .entry))) 0) × RunsAlike (now (unit .entry)) (passAnswer (now (unit .entry)) (lentOf (length (now (out .entry))) (length (now (work32 .entry))) (length (now (work64 .entry))))) ⌝ }
+    ensures { λ r. ⌜ Tells (passAnswer (now (unit .entry)) (lentOf (length (now (out .entry))) (length (now (work32 .entry))) (length (now (work64 .entry))))) r (now (out .entry)) (now (out .exit)) × (now (work32 .exit) ≡ replicate (length (now (work32 .entry))) 0) × (now (work64 .exit) ≡ replicate (length (now (work64 .entry))) 0) × RunsAlike (now (unit .entry)) (passAnswer (now (unit .entry)) (lentOf (length (now (out .entry))) (length (now (work32 .entry))) (length (now (work64 .entry))))) ⌝ }
 {
     let r = answer(unit, out, work32, work64);
     fill::zero_u32(work32);

@@ -38,7 +38,7 @@ use Rattle.run.specs.Passed.{Good, optimized-runs, pass-runs}
 
 -- ---- the function of a unit of bytes is well
 
-instruction-fields : (code : List ℕ) (p : ℕ) → Bytes code → Fields (instructionAt code p)
+pub instruction-fields : (code : List ℕ) (p : ℕ) → Bytes code → Fields (instructionAt code p)
 unfolding instructionAt
 instruction-fields code p b = record {
   op-fits = b (8 * p);

@@ -1,3 +1,9 @@
+use mathlib.Core.Path.{_≡_, refl, sym, ap, _∙_}
+use Rattle.unit.specs.declared.Header.{Header}
+use Rattle.unit.specs.Laws.{layout-unit, layout-refused}
+use Rattle.answer.specs.Pass.{refused}
+use Rattle.optimize.specs.Parts.{tells-refused, tells-same}
+use Rattle.optimize.specs.Whole.{pass-refused, pass-laid}
 use borrow.Author.Needs.{needs}
 use Rattle.optimize.proofs.pass.answer.Statement.{statement}
 use Rattle.optimize.proofs.pass.answer.Tie as tie
@@ -20,11 +26,12 @@ enum-known-h c = search needs
 
 -- src/pass.rt:95:28
 laid-requires : tie.Need-laid-requires
-laid-requires c κs = ?
+laid-requires c κs = let e = layout-unit (c .before .before .before .before .before .before .before .before .before .before .before .args .unit .now) _ (sym (c .before .before .before .before .before .before .check .ensures) ∙ c .before .before .before .before .h .given .1) in (e .0, ap (λ (x : Header). x .counts) (e .1))
 
 -- src/pass.rt:90:1
 returns : tie.Need-returns
-returns c = ?
+returns c = let e = layout-refused (c .before .before .before .before .before .before .before .before .args .unit .now) _ _ (sym (c .before .before .before .check .ensures) ∙ c .before .k .given .1) in
+    tells-same _ (refused _ _) _ _ _ (pass-refused _ _ (e .0) ∙ rw (e .1, e .2)) (tells-refused _ _ _ (c .before .before .before .before .before .before .before .before .args .out .now) refl)
 
 -- src/pass.rt:90:1
 same-length : tie.Need-same-length
@@ -40,7 +47,8 @@ same-length-3 c = search needs
 
 -- src/pass.rt:90:1
 returns-2 : tie.Need-returns-2
-returns-2 c = ?
+returns-2 c = let e = layout-unit (c .before .before .before .before .before .before .before .before .before .before .before .before .before .before .before .before .before .before .args .unit .now) _ (sym (c .before .before .before .before .before .before .before .before .before .before .before .before .before .check .ensures) ∙ c .before .before .before .before .before .before .before .before .before .before .before .h .given .1) in
+    tells-same _ _ _ _ _ (pass-laid _ _ (e .0)) (c .before .before .before .before .before .before .laid .ensures)
 
 pub answer-spec : {M : Type 1} → statement M
 answer-spec =

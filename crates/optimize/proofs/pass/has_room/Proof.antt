@@ -1,3 +1,5 @@
+use mathlib.Core.Path.{refl, _∙_}
+use Rattle.optimize.specs.Whole.{room-test}
 use borrow.Author.Needs.{needs}
 use Rattle.optimize.proofs.pass.has_room.Statement.{statement}
 use Rattle.optimize.proofs.pass.has_room.Tie as tie
@@ -21,7 +23,7 @@ work64-room-requires c κs = search needs
 
 -- src/pass.rt:38:1
 returns : tie.Need-returns
-returns c = ?
+returns c = λ h n s. let a = c .before .before .before .args in room-test h (a .out) (a .work32) (a .work64) _ _ _ (c .before .before .output-room .ensures ∙ rw n) (c .before .work32-room .ensures ∙ rw n) (c .work64-room .ensures ∙ rw (n, s))
 
 pub has-room-spec : {M : Type 1} → statement M
 has-room-spec =

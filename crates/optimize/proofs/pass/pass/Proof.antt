@@ -1,3 +1,6 @@
+use mathlib.Core.Path.{_≡_, refl, sym, ap, _∙_}
+use native.Mathlib.Omega.{arith}
+use Rattle.run.specs.Given.{pass-alike}
 use borrow.Author.Needs.{needs}
 use Rattle.optimize.proofs.pass.pass.Statement.{statement}
 use Rattle.optimize.proofs.pass.pass.Tie as tie
@@ -33,7 +36,8 @@ same-length-3 c = search needs
 
 -- src/pass.rt:101:1
 returns : tie.Need-returns
-returns c = ?
+returns c = let s = c .before .before .before .before .before .before .before .before .before .before .before .before .before .before .before .before .before .before .before .before .before .before in
+    (c .before .before .before .before .before .before .before .before .before .before .before .before .before .before .answer .ensures, c .before .before .before .before .before .before .zero-u32 .ensures ∙ rw (c .before .before .before .before .before .before .before .before .before .before .before .before .before .before .answer .kept .1 .1 .0), c .before .before .zero-u64 .ensures ∙ rw (c .before .before .before .before .before .before .before .before .before .before .before .before .before .before .answer .kept .1 .1 .1 .0), pass-alike (s .args .unit .now) _ (λ i. omega (arith, c .before .before .before .before .before .before .before .before .before .before .before .before .before .before .before .before .before .before .before .before .before .shared-slice-known .given i)))
 
 pub pass-spec : {M : Type 1} → statement M
 pass-spec =
