@@ -44,5 +44,6 @@ pub record Retainable (T : Tables) (n : ℕ) (words metadata types leads marks :
 pub record Retains (n : ℕ) (metadata types constants functions externs cases work32 work64 work32′ work64′ : List ℕ) : Type 0 where
   pub keep : midOf (keepAt n) n work32′
       ≡ keptPlaces (sectionsIn types constants functions externs cases) (midOf 0 n work32) (midOf (keepAt n) n work32) (cellsBy (midOf 0 n work64) metadata)
+  pub flags : Flags (midOf (keepAt n) n work32′)
   pub bounds : midOf (keepAt n + n) (n + 1) work32′ ≡ mapOf (midOf (keepAt n) n work32′)
   pub code : midOf 0 n work64′ ≡ midOf 0 n work64

@@ -4,16 +4,18 @@ ghost use mathlib.Core.List.{List};
 ghost use Prim.Native.Nat.{ℕ, _+_, _*_, _/_, _≤_, _<_};
 ghost use lib.ListN.{length};
 ghost use borrow.Rule.Slice.PartMut.{midOf};
-ghost use Rattle.unit.specs.Size.{instructionSize, metadataSize, resultSize};
+ghost use Rattle.unit.specs.Size.{instructionSize, metadataSize, resultSize, work32Room, maxInstructions};
 ghost use Rattle.effects.specs.declared.Check.{Check};
 ghost use Rattle.effects.specs.Check.{operandCheck};
-ghost use Rattle.effects.specs.Shape.{tablesOf};
+ghost use Rattle.effects.specs.Shape.{Tables, tablesOf};
 ghost use Rattle.effects.specs.Cells.{cellsBy};
-ghost use Rattle.flow.specs.Block.{leaders};
 ghost use Rattle.flow.specs.BranchLaws.{BranchesInside};
 ghost use Rattle.pc_map.specs.Boundaries.{Mapped};
 ghost use Rattle.answer.specs.Pass.{optimized, removal};
-ghost use Rattle.optimize.specs.Parts.{Tells, wordsIn, sectionsIn, cellsIn, Given, Room, Checked, numberedCode, wordsOf, afterOperands, afterBranches};
+ghost use Rattle.optimize.specs.Parts.{Tells, wordsIn, sectionsIn, cellsIn, Given, Room, Checked, afterOperands, afterBranches, afterLoops};
+ghost use Rattle.values.specs.Walk.{sectionsOf};
+ghost use Rattle.optimize.specs.Kept.{keepAt};
+ghost use Rattle.optimize.specs.Steps.{Finished, Marks, Reached, Renumbered, Numberable};
 use crate::Answer;
 use crate::code;
 use crate::retain;
@@ -52,6 +54,54 @@ fn conclude(
     }
 }
 
+// The answer, of the retained places and their map in the work.
+fn finish(code: &[u8], metadata: &[u8], out: &mut [u8], work32: &[u32], work64: &[u64], n: usize) -> Answer
+    requires { ⌜ Finished n (now code) (now metadata) (length (now out)) (now work32) (now work64) ⌝ }
+    ensures { λ r. ⌜ Tells (removal (cellsIn n (now (code .entry)) (now (metadata .entry))) (cellsBy (midOf 0 n (now (work64 .entry))) (now (metadata .entry))) (midOf (keepAt n) n (now (work32 .entry)))) r (now (out .entry)) (now (out .exit)) ⌝ }
+{
+    let at = 3 * n + 1;
+    let end = at + n;
+    conclude(
+        code,
+        metadata,
+        &work64[0..n],
+        &work32[at..end],
+        &work32[end..end + n + 1],
+        out,
+    )
+}
+
+// From "same code, all kept" on: the reached places are known.
+fn after_loops(
+    code: &[u8],
+    metadata: &[u8],
+    types: &[u8],
+    constants: &[u8],
+    functions: &[u8],
+    externs: &[u8],
+    cases: &[u8],
+    out: &mut [u8],
+    work32: &mut [u32],
+    work64: &mut [u64],
+    n: usize,
+) -> Answer
+    requires { ⌜ Given n (now code) (now metadata) (sectionsIn (now types) (now constants) (now functions) (now externs) (now cases)) × Room n (length (now types)) (length (now out)) (length (now work32)) (length (now work64)) × Checked (sectionsIn (now types) (now constants) (now functions) (now externs) (now cases)) (cellsIn n (now code) (now metadata)) × Marks (sectionsIn (now types) (now constants) (now functions) (now externs) (now cases)) (cellsIn n (now code) (now metadata)) n (now work32) (now work64) ⌝ }
+    ensures { λ r. ⌜ Tells (afterLoops (sectionsIn (now (types .entry)) (now (constants .entry)) (now (functions .entry)) (now (externs .entry)) (now (cases .entry))) (cellsIn n (now (code .entry)) (now (metadata .entry)))) r (now (out .entry)) (now (out .exit)) ⌝ }
+{
+    retain::retain(metadata, types, functions, externs, cases, work32, work64, n);
+    finish(code, metadata, out, &work32[..], &work64[..], n)
+}
+
+// Marks the reached places. Refusal 9.
+fn reach(metadata: &[u8], work32: &mut [u32], words: &[u64], n: usize) -> Check
+    requires { ⌜ (1 < n) × (length (now words) ≡ n) × (n ≤ maxInstructions) × (length (now metadata) ≡ metadataSize * n) × (work32Room n ≤ length (now work32)) ⌝ }
+    ensures { λ r. ⌜ Reached n (now (metadata .entry)) (now (words .entry)) (now (work32 .entry)) (now (work32 .exit)) r ⌝ }
+{
+    let at = 3 * n + 1;
+    stub::mark_reached(words, metadata, &mut work32[at..]);
+    hint::check_loops(words, metadata, &work32[at..at + n])
+}
+
 // From refusal 9 on: the code is numbered, and its leaders are known.
 fn after_branches(
     code: &[u8],
@@ -66,27 +116,22 @@ fn after_branches(
     work64: &mut [u64],
     n: usize,
 ) -> Answer
-    requires { ⌜ Given n (now code) (now metadata) (sectionsIn (now types) (now constants) (now functions) (now externs) (now cases)) × Room n (length (now types)) (length (now out)) (length (now work32)) (length (now work64)) × Checked (sectionsIn (now types) (now constants) (now functions) (now externs) (now cases)) (cellsIn n (now code) (now metadata)) × (midOf 0 n (now work32) ≡ leaders (cellsIn n (now code) (now metadata))) × (midOf 0 n (now work64) ≡ wordsOf (numberedCode (sectionsIn (now types) (now constants) (now functions) (now externs) (now cases)) (cellsIn n (now code) (now metadata)))) ⌝ }
+    requires { ⌜ Given n (now code) (now metadata) (sectionsIn (now types) (now constants) (now functions) (now externs) (now cases)) × Room n (length (now types)) (length (now out)) (length (now work32)) (length (now work64)) × Checked (sectionsIn (now types) (now constants) (now functions) (now externs) (now cases)) (cellsIn n (now code) (now metadata)) × Renumbered (sectionsIn (now types) (now constants) (now functions) (now externs) (now cases)) (cellsIn n (now code) (now metadata)) n (now work32) (now work64) ⌝ }
     ensures { λ r. ⌜ Tells (afterBranches (sectionsIn (now (types .entry)) (now (constants .entry)) (now (functions .entry)) (now (externs .entry)) (now (cases .entry))) (cellsIn n (now (code .entry)) (now (metadata .entry)))) r (now (out .entry)) (now (out .exit)) ⌝ }
 {
-    let at = 3 * n + 1;
-    stub::mark_reached(&work64[0..n], metadata, &mut work32[at..]);
-    match hint::check_loops(&work64[0..n], metadata, &work32[at..at + n]) {
+    match reach(metadata, work32, &work64[0..n], n) {
         Check::Refused(k, p) => Answer::Refused(k, p),
-        Check::Passed => {
-            retain::retain(
-                metadata, types, functions, externs, cases, work32, work64, n,
-            );
-            conclude(
-                code,
-                metadata,
-                &work64[0..n],
-                &work32[at..at + n],
-                &work32[at + n..at + n + n + 1],
-                out,
-            )
-        }
+        Check::Passed => after_loops(code, metadata, types, constants, functions, externs, cases, out, work32, work64, n),
     }
+}
+
+// Marks the leaders and numbers the code.
+fn number(types: &[u8], constants: &[u8], work32: &mut [u32], work64: &mut [u64], n: usize)
+    requires { ⌜ Numberable n (length (now types)) (length (now work32)) (now work64) ⌝ }
+    ensures { λ _. ⌜ ((metadata : List ℕ) (locals : ℕ) (tables : Tables) → Renumbered (sectionsOf (now (types .entry)) (now (constants .entry)) locals tables) (cellsBy (midOf 0 n (now (work64 .entry))) metadata) n (now (work32 .exit)) (now (work64 .exit))) ⌝ }
+{
+    block::mark_leaders(&work64[0..n], &mut work32[0..n]);
+    stub::number_code(work64, &work32[0..n], types, constants);
 }
 
 // From refusal 8 on: the code is loaded.
@@ -109,12 +154,8 @@ fn after_operands(
     match branch::check_branches(&work64[0..n]) {
         Check::Refused(k, p) => Answer::Refused(k, p),
         Check::Passed => {
-            block::mark_leaders(&work64[0..n], &mut work32[0..n]);
-            stub::number_code(work64, &work32[0..n], types, constants);
-            after_branches(
-                code, metadata, types, constants, functions, externs, cases, out, work32, work64,
-                n,
-            )
+            number(types, constants, work32, work64, n);
+            after_branches(code, metadata, types, constants, functions, externs, cases, out, work32, work64, n)
         }
     }
 }

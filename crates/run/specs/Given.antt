@@ -73,6 +73,10 @@ atom-below (FloatConstant w) v h e p = let q : v ≡ Float w = cc in rw q float
 atom-below String v h e p = let z : _≡_ {A = ℕ} 0 1 = cc in absurd (omega arith)
 atom-below Missing v h e p = let z : _≡_ {A = ℕ} 0 1 = cc in absurd (omega arith)
 
+-- the constants of bytes are words of 64 bits
+pub constants-below : (l : List ℕ) → Bytes l → (k : ℕ) (v : Atom) → constantAtom (constantAt l k) ≡ some v → (p : ℕ) → Below p v
+constants-below l b k v = atom-below (constantAt l k) v (constant-small l k b)
+
 cell-at : (u : List ℕ) (p : ℕ) → p < headerOf u .counts .instructions → cellAt (cellsOf u) p ≡ record { instruction = instructionAt (codeOf u) p; metadata = metadataAt (metadataOf u) p }
 unfolding cellsOf
 cell-at u p h = getD-tabulate (headerOf u .counts .instructions) _ p noCell h
@@ -88,7 +92,7 @@ given-well u b e m =
       locals = unit-laid u e .locals;
       described = rw (cells-long u, m) (omega arith);
       fields = λ p h. let k : p < headerOf u .counts .instructions = rw cells-long at h in rw (cell-given u p k) (instruction-fields (codeOf u) p (bytes-mid (headerOf u .offsets .code) (instructionSize * headerOf u .counts .instructions) u b));
-      constants = λ k v c. atom-below (constantAt (constantsOf u) k) v (constant-small (constantsOf u) k (bytes-mid (headerOf u .offsets .constants) (constantSize * headerOf u .counts .constants) u b)) c;
+      constants = constants-below (constantsOf u) (bytes-mid (headerOf u .offsets .constants) (constantSize * headerOf u .counts .constants) u b);
     }
   where
     cell-given : (u : List ℕ) (p : ℕ) → p < headerOf u .counts .instructions → cellAt (cellsOf u) p .instruction ≡ instructionAt (codeOf u) p
