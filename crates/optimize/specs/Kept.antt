@@ -14,9 +14,11 @@ use Rattle.effects.specs.Cells.{cellOf, cellsBy}
 use Rattle.flow.specs.BranchLaws.{BranchesInside}
 use Rattle.flow.specs.Flags.{Flags}
 use Rattle.flow.specs.Marks.{Marked}
-use Rattle.answer.specs.Pass.{keptPlaces}
+use Rattle.flow.specs.Loop.{anchors}
+use Rattle.liveness.specs.Dead.{deadStores}
+use Rattle.answer.specs.Pass.{keptPlaces, usefulPlaces}
 use Rattle.optimize.specs.Parts.{sectionsIn}
-use Rattle.optimize.specs.Jumping.{mapOf}
+use Rattle.optimize.specs.Jumping.{mapOf, endsIn}
 
 -- where the kept places stand in the 32-bit work, and the loop ends counted from there
 abbrev pub keepAt : ℕ → ℕ
@@ -39,6 +41,18 @@ pub record Retainable (T : Tables) (n : ℕ) (words metadata types leads marks :
   pub inside : BranchesInside words
   pub long32 : work32Room n ≤ room32
   pub long64 : work64Room n (length types) ≤ room64
+
+-- what is left after plain hints: the useful places, and the loop ends
+pub record Useful (words metadata work work′ : List ℕ) : Type 0 where
+  pub keep : midOf 0 (length words) work′ ≡ usefulPlaces (midOf 0 (length words) work) (cellsBy words metadata)
+  pub ends : endsIn (length words) work′ ≡ anchors (midOf 0 (length words) work) (cellsBy words metadata)
+
+-- after dead stores
+pub record Stored (n : ℕ) (metadata types constants functions externs cases work32 work64 work32′ work64′ : List ℕ) : Type 0 where
+  pub keep : midOf (keepAt n) n work32′
+      ≡ deadStores (sectionsIn types constants functions externs cases) (midOf 0 n work32) (midOf (keepAt n) n work32) (cellsBy (midOf 0 n work64) metadata)
+  pub ends : midOf (keepAt n + endsAt n) n work32′ ≡ midOf (keepAt n + endsAt n) n work32
+  pub code : midOf 0 n work64′ ≡ midOf 0 n work64
 
 -- what it leaves: the retained places and their map; the code as it was
 pub record Retains (n : ℕ) (metadata types constants functions externs cases work32 work64 work32′ work64′ : List ℕ) : Type 0 where

@@ -3,14 +3,54 @@
 // [5n + 2, 6n + 2); the 64-bit work has the code at [0, n).
 ghost use mathlib.Core.Path.{_≡_};
 ghost use mathlib.Core.List.{List};
-ghost use Prim.Native.Nat.{ℕ};
+ghost use Prim.Native.Nat.{ℕ, _+_, _*_, _≤_};
 ghost use lib.ListN.{length};
 ghost use borrow.Rule.Slice.PartMut.{midOf};
+ghost use Rattle.unit.specs.Size.{metadataSize, maxInstructions};
 ghost use Rattle.effects.specs.Shape.{tablesOf};
-ghost use Rattle.optimize.specs.Kept.{Retainable, Retains, keepAt};
+ghost use Rattle.optimize.specs.Kept.{Retainable, Retains, Useful, Stored, keepAt};
 use crate::code;
 use crate::jump;
 use crate::stub;
+
+// The loop ends, of the reached places; then plain hints are not kept. The work is that from the kept places on.
+fn drop_hints(words: &[u64], metadata: &[u8], work: &mut [u32])
+    requires { ⌜ (length (now words) ≤ maxInstructions) × (metadataSize * length (now words) ≤ length (now metadata)) × (3 * length (now words) + 1 ≤ length (now work)) ⌝ }
+    ensures { λ _. ⌜ Useful (now (words .entry)) (now (metadata .entry)) (now (work .entry)) (now (work .exit)) ⌝ }
+{
+    let n = words.len();
+    stub::mark_anchors(words, metadata, work, 2 * n + 1);
+    code::drop_hints(words, &mut work[0..n]);
+}
+
+// The blocks, then dead stores are not kept.
+fn drop_stores(
+    metadata: &[u8],
+    types: &[u8],
+    functions: &[u8],
+    externs: &[u8],
+    cases: &[u8],
+    work32: &mut [u32],
+    work64: &mut [u64],
+    n: usize,
+)
+    requires { ⌜ Retainable (tablesOf (now functions) (now externs) (now cases)) n (midOf 0 n (now work64)) (now metadata) (now types) (midOf 0 n (now work32)) (midOf (keepAt n) n (now work32)) (length (now work32)) (length (now work64)) ⌝ }
+    ensures { λ _. ⌜ ((constants : List ℕ) → Stored n (now (metadata .entry)) (now (types .entry)) constants (now (functions .entry)) (now (externs .entry)) (now (cases .entry)) (now (work32 .entry)) (now (work64 .entry)) (now (work32 .exit)) (now (work64 .exit))) ⌝ }
+{
+    let at = 3 * n + 1;
+    let count = stub::number_blocks(&mut work32[0..at], n);
+    stub::drop_dead_stores(
+        work64,
+        &mut work32[0..at + n],
+        metadata,
+        types,
+        functions,
+        externs,
+        cases,
+        n,
+        count,
+    );
+}
 
 // "In order: unreachable code ..; Hint with flags 0; dead pure stores ..; then up to 16 rounds dropping a Jump"
 pub fn retain(
@@ -27,19 +67,9 @@ pub fn retain(
     ensures { λ _. ⌜ ((constants : List ℕ) → Retains n (now (metadata .entry)) (now (types .entry)) constants (now (functions .entry)) (now (externs .entry)) (now (cases .entry)) (now (work32 .entry)) (now (work64 .entry)) (now (work32 .exit)) (now (work64 .exit))) ⌝ }
 {
     let at = 3 * n + 1;
-    stub::mark_anchors(&work64[0..n], metadata, &mut work32[at..], 2 * n + 1);
-    code::drop_hints(&work64[0..n], &mut work32[at..at + n]);
-    let count = stub::number_blocks(&mut work32[0..at], n);
-    stub::drop_dead_stores(
-        work64,
-        &mut work32[0..at + n],
-        metadata,
-        types,
-        functions,
-        externs,
-        cases,
-        n,
-        count,
+    drop_hints(&work64[0..n], metadata, &mut work32[at..]);
+    drop_stores(
+        metadata, types, functions, externs, cases, work32, work64, n,
     );
     jump::drop_jumps(&work64[0..n], &mut work32[at..]);
 }

@@ -1,0 +1,82 @@
+use borrow.Author.Needs.{needs}
+use Rattle.optimize.proofs.retain.drop_stores.Statement.{statement}
+use Rattle.optimize.proofs.retain.drop_stores.Tie as tie
+use Rattle.optimize.proofs.retain.drop_stores.Reads as reads
+use Rattle.optimize.proofs.retain.drop_stores.Lts as lts
+use Rattle.optimize.proofs.stub.drop_dead_stores.Reads as drop-dead-stores-reads
+use Rattle.optimize.proofs.stub.number_blocks.Reads as number-blocks-reads
+
+-- src/retain.rt:40:14
+mul-at : tie.Need-mul-at
+mul-at c = search needs
+
+-- src/retain.rt:40:14
+add-at : tie.Need-add-at
+add-at c = search needs
+
+-- src/retain.rt:41:37
+sub-number-blocks : tie.Need-sub-number-blocks
+sub-number-blocks c = search needs
+
+-- src/retain.rt:41:37
+part-number-blocks-start : tie.Need-part-number-blocks-start
+part-number-blocks-start c = search needs
+
+-- src/retain.rt:41:37
+part-number-blocks-end : tie.Need-part-number-blocks-end
+part-number-blocks-end c = search needs
+
+-- src/retain.rt:41:9
+number-blocks-requires : tie.Need-number-blocks-requires
+number-blocks-requires c κs = ?
+
+-- src/retain.rt:44:24
+add-drop-dead-stores : tie.Need-add-drop-dead-stores
+add-drop-dead-stores c = search needs
+
+-- src/retain.rt:44:9
+sub-drop-dead-stores : tie.Need-sub-drop-dead-stores
+sub-drop-dead-stores c = search needs
+
+-- src/retain.rt:44:9
+part-drop-dead-stores-start : tie.Need-part-drop-dead-stores-start
+part-drop-dead-stores-start c = search needs
+
+-- src/retain.rt:44:9
+part-drop-dead-stores-end : tie.Need-part-drop-dead-stores-end
+part-drop-dead-stores-end c = search needs
+
+-- src/retain.rt:42:5
+drop-dead-stores-requires : tie.Need-drop-dead-stores-requires
+drop-dead-stores-requires c κs = ?
+
+-- src/retain.rt:27:1
+same-length : tie.Need-same-length
+same-length c = search needs
+
+-- src/retain.rt:27:1
+same-length-2 : tie.Need-same-length-2
+same-length-2 c = search needs
+
+-- src/retain.rt:27:1
+returns : tie.Need-returns
+returns c = ?
+
+pub drop-stores-spec : {M : Type 1} → statement M
+drop-stores-spec =
+    tie.close
+    (tie.spec
+    mul-at
+    add-at
+    sub-number-blocks
+    part-number-blocks-start
+    part-number-blocks-end
+    number-blocks-requires
+    add-drop-dead-stores
+    sub-drop-dead-stores
+    part-drop-dead-stores-start
+    part-drop-dead-stores-end
+    drop-dead-stores-requires
+    same-length
+    same-length-2
+    returns)
