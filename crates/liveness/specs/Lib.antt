@@ -14,3 +14,5 @@ pub mod Solving
 pub mod Unread
 pub mod Sweeping
 pub mod Sweep
+pub mod Droppable
+pub mod Stores
