@@ -24,11 +24,12 @@ use Rattle.flow.specs.Marks.{Marked}
 use Rattle.flow.specs.Flags.{Flags}
 use Rattle.pc_map.specs.Boundary.{isKept}
 use Rattle.liveness.specs.Live.{Row, liveBefore, edges, isLast, noRow, joined, liveAfter, roundFrom}
+use Rattle.liveness.specs.Rows.{bit, before-bit, before-long, Wide, after-long, walk-wide}
 use Rattle.liveness.specs.Dead.{Swept, isDead, sweptAt, sweepFrom}
 use Rattle.run.specs.Step.{Succ, next, branch}
 use Rattle.run.specs.Frame.{In, here, there, in-left, in-right}
 use Rattle.run.specs.Solved.{whole-at, row-at}
-use Rattle.run.specs.Rows.{bit, or-left, or-right, before-bit, before-long, Wide, joined-bit, after-long, walk-wide}
+use Rattle.run.specs.Rows.{or-left, or-right, joined-bit}
 
 -- a slot is live before an instruction, by whether it is after it
 unfoldable pub flow : Bool → Bool → Bool → Bool → Bool
