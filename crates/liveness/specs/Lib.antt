@@ -9,6 +9,8 @@ pub mod Shown
 pub mod Round
 pub mod Out
 pub mod Visit
+pub mod Only
+pub mod Memory
 pub mod Rounding
 pub mod Solving
 pub mod Unread

@@ -90,19 +90,6 @@ rows-refl (a ∷ x) = rw (row-refl a) (rows-refl x)
 
 -- ---- what a round starts from
 
--- the lent memory is as large as is needed, and all places named in it are inside
-pub record Ready (w count : ℕ) (words blocks starts : List ℕ) (live uses preserved : ℕ) : Type 0 where
-  pub few : w ≤ 1024
-  pub most : length words ≤ maxInstructions
-  pub long-blocks : length blocks ≡ length words
-  pub long-live : live ≡ w * count
-  pub same-uses : uses ≡ live
-  pub same-preserved : preserved ≡ live
-  pub long-starts : count < length starts
-  pub rising : Rising starts count (length words)
-  pub inside : (p : ℕ) → p < length words → branchInside (length words) p (ofWord (getD words p 0)) ≡ true
-  pub rows-inside : (q : ℕ) → q < length words → w * getD blocks q 0 + w ≤ live
-
 pub record Around (S : Sections) (leaders keep : List ℕ) (cells : List Cell) (w count : ℕ) (rows : List Row) (blocks starts uses preserved live : List ℕ) : Type 0 where
   pub long : length leaders ≡ length cells
   pub flags : Flags leaders

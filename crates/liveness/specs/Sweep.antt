@@ -205,19 +205,5 @@ module _ (S : Sections) (leaders keep₀ words metadata : List ℕ) (rows : List
       let a′ : Entered (isLast (length words) leaders q) w live blocks (length words) q (ofWord (getD words q 0)) row row₁ = rw both at a in
       sweep-turn S leaders keep₀ (cellsBy words metadata) rows w blocks live g keep row row₁ keep′ row′ q (rw long h) (rw e at s) (rw (x, long) a′) (rw x v)
 
--- the lent memory is as large as is needed, and all that is named in it is inside
-pub record Sweepable (T : Tables) (words metadata types leaders blocks : List ℕ) (keep w live : ℕ) : Type 0 where
-  pub few : w ≤ 1024
-  pub most : length words ≤ maxInstructions
-  pub long-blocks : length blocks ≡ length words
-  pub long-leaders : length leaders ≡ length words
-  pub long-flags : keep ≡ length words
-  pub entries : metadataSize * length words ≤ length metadata
-  pub inside : (p : ℕ) → p < length words → branchInside (length words) p (ofWord (getD words p 0)) ≡ true
-  pub rows-inside : (q : ℕ) → q < length words → w * getD blocks q 0 + w ≤ live
-  pub typed : (p : ℕ) → p < length words → rangeWithin (length types) (getD (writesByClass (class (ofWord (getD words p 0))) (ofWord (getD words p 0))) 0 emptyRange) ≡ true
-  pub held : (p : ℕ) → p < length words → rangeWithin (64 * w) (getD (writesByClass (class (ofWord (getD words p 0))) (ofWord (getD words p 0))) 0 emptyRange) ≡ true
-  pub fits : (p : ℕ) → p < length words → Fits w T (cellOf metadata p (getD words p 0))
-
 abbrev pub sections : ℕ → List ℕ → List ℕ → Tables → Sections
 sections locals types constants T = record { locals = locals; types = types; constants = constants; tables = T }

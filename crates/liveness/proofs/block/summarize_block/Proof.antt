@@ -1,65 +1,105 @@
-use mathlib.Core.Path.{_≡_, refl, sym, _∙_}
-use Prim.Native.Nat.{suc, _-_, _≤_}
-use native.Mathlib.Omega.{arith}
-use lib.ListN.{length}
-use Rattle.liveness.specs.Through.{Summary, summary-begin, summary-turn}
-use Rattle.effects.specs.Shape.{Tables, Cell, tablesOf}
-use Rattle.effects.specs.Cells.{cellOf, cellsBy, cell-at}
-use borrow.Author.Needs.{needs}
 use Rattle.liveness.proofs.block.summarize_block.Statement.{statement}
 use Rattle.liveness.proofs.block.summarize_block.Tie as tie
+use Rattle.liveness.proofs.block.summarize_block.Reads as reads
+use Rattle.liveness.proofs.block.summarize_block.Lts as lts
+use Rattle.liveness.proofs.block.summarize_place.Reads as summarize-place-reads
+use Rattle.liveness.proofs.row.fill.Reads as fill-reads
 
 abbrev Inv-loop : tie.InvT-loop
-Inv-loop uses₀ preserved₀ words metadata keep functions externs cases start end p₀ uses preserved p =
-    (start ≤ p) × (p ≤ end) × (length uses ≡ length uses₀) × (length preserved ≡ length uses) × Summary (tablesOf functions externs cases) keep (cellsBy words metadata) uses preserved p (end - p)
+Inv-loop memory₀ metadata keep functions externs cases b start end w at uses preserved p₀ memory p =
+    ?
 
 abbrev μ-loop : tie.MeasureT-loop
-μ-loop uses₀ preserved₀ words metadata keep functions externs cases start end p₀ uses preserved p =
-    p - start
+μ-loop memory₀ metadata keep functions externs cases b start end w at uses preserved p₀ memory p =
+    ?
 
+-- src/block.rt:78:14
+mul-at : tie.Need-mul-at Inv-loop μ-loop
+mul-at c = ?
+
+-- src/block.rt:79:16
+add-uses : tie.Need-add-uses Inv-loop μ-loop
+add-uses c = ?
+
+-- src/block.rt:80:21
+add-preserved : tie.Need-add-preserved Inv-loop μ-loop
+add-preserved c = ?
+
+-- src/block.rt:81:33
+add-fill : tie.Need-add-fill Inv-loop μ-loop
+add-fill c = ?
+
+-- src/block.rt:81:15
+mul-fill : tie.Need-mul-fill Inv-loop μ-loop
+mul-fill c = ?
+
+-- src/block.rt:81:15
+sub-fill : tie.Need-sub-fill Inv-loop μ-loop
+sub-fill c = ?
+
+-- src/block.rt:81:15
+part-fill-start : tie.Need-part-fill-start Inv-loop μ-loop
+part-fill-start c = ?
+
+-- src/block.rt:81:15
+part-fill-end : tie.Need-part-fill-end Inv-loop μ-loop
+part-fill-end c = ?
+
+-- src/block.rt:81:5
+fill-requires : tie.Need-fill-requires Inv-loop μ-loop
+fill-requires c κs = ?
+
+-- src/block.rt:82:38
+add-fill-2 : tie.Need-add-fill-2 Inv-loop μ-loop
+add-fill-2 c = ?
+
+-- src/block.rt:82:15
+mul-fill-2 : tie.Need-mul-fill-2 Inv-loop μ-loop
+mul-fill-2 c = ?
+
+-- src/block.rt:82:15
+sub-fill-2 : tie.Need-sub-fill-2 Inv-loop μ-loop
+sub-fill-2 c = ?
+
+-- src/block.rt:82:15
+part-fill-start-2 : tie.Need-part-fill-start-2 Inv-loop μ-loop
+part-fill-start-2 c = ?
+
+-- src/block.rt:82:15
+part-fill-end-2 : tie.Need-part-fill-end-2 Inv-loop μ-loop
+part-fill-end-2 c = ?
+
+-- src/block.rt:82:5
+fill-requires-2 : tie.Need-fill-requires-2 Inv-loop μ-loop
+fill-requires-2 c κs = ?
+
+-- src/block.rt:84:5
 loop-holds : tie.Need-loop-holds Inv-loop μ-loop
-loop-holds c =
-    let s = c .before .before .before .before .before .before .before .before .before .before .before .before .before .before .before .before in
-    let T : Tables = tablesOf (s .args .functions .now) (s .args .externs .now) (s .args .cases .now) in
-    let u = c .before .before .before .before .before .before .fill in
-    let v = c .before .before .fill2 in
-    (s .pre .0, omega arith, refl, v .kept .0 ∙ s .pre .4 ∙ sym (u .kept .0), summary-begin T (s .args .keep .now) (cellsBy (s .args .words .now) (s .args .metadata .now)) (length (s .args .uses .now)) _ _ _ _ _ refl (omega arith) (u .ensures) (rw (← s .pre .4) (v .ensures)) (u .kept .0))
+loop-holds c = ?
 
+-- src/block.rt:85:9
+sub-p : tie.Need-sub-p Inv-loop μ-loop
+sub-p c = ?
+
+-- src/block.rt:86:9
 summarize-place-requires : tie.Need-summarize-place-requires Inv-loop μ-loop
-summarize-place-requires c κs =
-    let s = c .before .before .before .before .before .before .before .before .before .before .before .before .before .before .before .before .before .before .before .before in
-    let T : Tables = tablesOf (s .args .functions .now) (s .args .externs .now) (s .args .cases .now) in
-    let l = c .before .before .before .loop in
-    let long : length (l .uses) ≡ length (s .args .uses .now) = l .inv .2 ∙ c .before .before .before .before .before .before .before .before .before .before .fill .kept .0 in
-    (omega arith, s .pre .2, s .pre .3, l .inv .3, rw long (s .pre .5 (l .p - 1) (omega arith)))
+summarize-place-requires c κs = ?
 
+-- src/block.rt:84:5
+loop-less : tie.Need-loop-less Inv-loop μ-loop
+loop-less c = ?
+
+-- src/block.rt:84:5
 loop-again : tie.Need-loop-again Inv-loop μ-loop
-loop-again c =
-    let s = c .before .before .before .before .before .before .before .before .before .before .before .before .before .before .before .before .before .before .before .before .before .before .before .before .before in
-    let T : Tables = tablesOf (s .args .functions .now) (s .args .externs .now) (s .args .cases .now) in
-    let l = c .before .before .before .before .before .before .before .before .loop in
-    let x = c .before .before .before .before .summarize-place in
-    let q : l .p ≡ suc (l .p - 1) = omega arith in (
-      omega arith,
-      omega arith,
-      x .kept .0 ∙ l .inv .2,
-      omega (arith, x .kept .0, x .kept .1),
-      summary-turn T (s .args .keep .now) (cellsBy (s .args .words .now) (s .args .metadata .now)) _ _ _ _ _ _ _ _ q (l .inv .1) (cell-at (s .args .words .now) (s .args .metadata .now) (l .p - 1) (omega arith)) (l .inv .4) (x .kept .0) (x .ensures),
-    )
+loop-again c = ?
 
+-- src/block.rt:62:1
 same-length : tie.Need-same-length Inv-loop μ-loop
-same-length c = c .before .loop .inv .2 ∙ c .before .before .before .before .before .before .before .before .fill .kept .0
+same-length c = ?
 
-same-length-2 : tie.Need-same-length-2 Inv-loop μ-loop
-same-length-2 c = c .before .loop .inv .3 ∙ c .before .loop .inv .2 ∙ c .before .before .before .before .before .before .before .before .fill .kept .0 ∙ sym (c .before .before .before .before .before .before .before .before .before .before .before .before .before .before .before .before .before .before .pre .4)
-
+-- src/block.rt:62:1
 returns : tie.Need-returns Inv-loop μ-loop
-returns c =
-    let s = c .before .before .before .before .before .before .before .before .before .before .before .before .before .before .before .before .before .before in
-    let T : Tables = tablesOf (s .args .functions .now) (s .args .externs .now) (s .args .cases .now) in
-    let l = c .before .loop in
-    let e : l .p ≡ s .args .start = omega arith in
-    rw (← e) (l .inv .4)
+returns c = ?
 
 pub summarize-block-spec : {M : Type 1} → statement M
 summarize-block-spec =
@@ -67,13 +107,25 @@ summarize-block-spec =
     (tie.spec
     Inv-loop
     μ-loop
-    (λ c κs. search needs)
-    (λ c κs. search needs)
+    mul-at
+    add-uses
+    add-preserved
+    add-fill
+    mul-fill
+    sub-fill
+    part-fill-start
+    part-fill-end
+    fill-requires
+    add-fill-2
+    mul-fill-2
+    sub-fill-2
+    part-fill-start-2
+    part-fill-end-2
+    fill-requires-2
     loop-holds
-    (λ c. search needs)
+    sub-p
     summarize-place-requires
-    (λ c. search needs)
+    loop-less
     loop-again
     same-length
-    same-length-2
     returns)

@@ -1,52 +1,113 @@
-use Prim.Native.Nat.{_+_, _*_, _≤_}
-use native.Mathlib.Omega.{arith}
-use lib.ListN.{length}
-use borrow.Author.Tests.{eq-eqb, ne-eqb}
-use Rattle.liveness.specs.Through.{placed, not-placed}
-use Rattle.effects.specs.Shape.{Tables, Cell, tablesOf}
-use Rattle.effects.specs.Cells.{cellOf, cellsBy, cell-at}
-use Rattle.unit.specs.Entry.{metadataAt}
-use Rattle.unit.specs.Size.{metadataSize}
 use borrow.Author.Needs.{needs}
 use Rattle.liveness.proofs.block.summarize_place.Statement.{statement}
 use Rattle.liveness.proofs.block.summarize_place.Tie as tie
+use Rattle.liveness.proofs.block.summarize_place.Reads as reads
+use Rattle.liveness.proofs.block.summarize_place.Lts as lts
+use Rattle.instruction.proofs.Instruction.from_word.Reads as from-word-reads
+use Rattle.liveness.proofs.touch.live_before.Reads as live-before-reads
+use Rattle.liveness.proofs.touch.put_writes.Reads as put-writes-reads
 
+-- src/block.rt:36:8
+mul-if1 : tie.Need-mul-if1
+mul-if1 c = search needs
+
+-- src/block.rt:36:8
+shared-slice-read-if1 : tie.Need-shared-slice-read-if1
+shared-slice-read-if1 c = search needs
+
+-- src/block.rt:37:9
 returns : tie.Need-returns
-returns c = not-placed _ _ _ _ _ (ne-eqb _ _ (c .if1 .taken))
+returns c = ?
 
+-- src/block.rt:39:36
+mul-from-word : tie.Need-mul-from-word
+mul-from-word c = search needs
+
+-- src/block.rt:39:36
+slice-read-from-word : tie.Need-slice-read-from-word
+slice-read-from-word c = search needs
+
+-- src/block.rt:39:9
+from-word-requires : tie.Need-from-word-requires
+from-word-requires c κs = search needs
+
+-- src/block.rt:41:32
+add-put-writes : tie.Need-add-put-writes
+add-put-writes c = search needs
+
+-- src/block.rt:41:9
+mul-put-writes : tie.Need-mul-put-writes
+mul-put-writes c = search needs
+
+-- src/block.rt:41:9
+sub-put-writes : tie.Need-sub-put-writes
+sub-put-writes c = search needs
+
+-- src/block.rt:41:9
+part-put-writes-start : tie.Need-part-put-writes-start
+part-put-writes-start c = search needs
+
+-- src/block.rt:41:9
+part-put-writes-end : tie.Need-part-put-writes-end
+part-put-writes-end c = search needs
+
+-- src/block.rt:40:5
 put-writes-requires : tie.Need-put-writes-requires
-put-writes-requires c κs =
-    let s = c .before .before .before .before .before .before .before .before .before .before .before .before .before in
-    let T : Tables = tablesOf (s .args .functions .now) (s .args .externs .now) (s .args .cases .now) in
-    let room : metadataSize * s .args .p + metadataSize ≤ length (s .args .metadata .now) = omega arith in
-    rw (c .before .from-word .ensures, s .pre .3) (room, s .pre .4)
+put-writes-requires c κs = ?
 
+-- src/block.rt:51:27
+add-live-before : tie.Need-add-live-before
+add-live-before c = search needs
+
+-- src/block.rt:51:9
+mul-live-before : tie.Need-mul-live-before
+mul-live-before c = search needs
+
+-- src/block.rt:51:9
+sub-live-before : tie.Need-sub-live-before
+sub-live-before c = search needs
+
+-- src/block.rt:51:9
+part-live-before-start : tie.Need-part-live-before-start
+part-live-before-start c = search needs
+
+-- src/block.rt:51:9
+part-live-before-end : tie.Need-part-live-before-end
+part-live-before-end c = search needs
+
+-- src/block.rt:50:5
 live-before-requires : tie.Need-live-before-requires
-live-before-requires c κs =
-    let s = c .before .before .before .before .before .before .before .before .before .before .before .before .before .before .before .before .before in
-    let T : Tables = tablesOf (s .args .functions .now) (s .args .externs .now) (s .args .cases .now) in
-    let room : metadataSize * s .args .p + metadataSize ≤ length (s .args .metadata .now) = omega arith in
-    rw (c .before .before .before .before .before .from-word .ensures) (room, s .pre .4)
+live-before-requires c κs = ?
 
+-- src/block.rt:21:1
+same-length : tie.Need-same-length
+same-length c = search needs
+
+-- src/block.rt:21:1
 returns-2 : tie.Need-returns-2
-returns-2 c =
-    let s = c .before .before .before .before .before .before .before .before .before .before .before .before .before .before .before .before .before .before .before .before in
-    let T : Tables = tablesOf (s .args .functions .now) (s .args .externs .now) (s .args .cases .now) in
-    let i = c .before .before .before .before .before .before .before .before .from-word in
-    placed _ _ _ _ _ _ _ (eq-eqb _ _ (c .before .before .before .before .before .before .before .before .before .before .if1 .left)) (rw (i .ensures) at (c .before .before .before .before .before .before .put-writes .ensures)) (rw (i .ensures) at (c .before .before .live-before .ensures))
+returns-2 c = ?
 
 pub summarize-place-spec : {M : Type 1} → statement M
 summarize-place-spec =
     tie.close
     (tie.spec
-    (λ c. search needs)
-    (λ c. search needs)
+    mul-if1
+    shared-slice-read-if1
     returns
-    (λ c. search needs)
-    (λ c. search needs)
-    (λ c κs. search needs)
+    mul-from-word
+    slice-read-from-word
+    from-word-requires
+    add-put-writes
+    mul-put-writes
+    sub-put-writes
+    part-put-writes-start
+    part-put-writes-end
     put-writes-requires
+    add-live-before
+    mul-live-before
+    sub-live-before
+    part-live-before-start
+    part-live-before-end
     live-before-requires
-    (λ c. search needs)
-    (λ c. search needs)
+    same-length
     returns-2)

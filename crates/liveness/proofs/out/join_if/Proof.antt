@@ -1,57 +1,45 @@
-use mathlib.Core.Path.{_≡_}
-use Prim.Native.Nat.{_+_, _*_, _-_}
-use native.Mathlib.Omega.{arith}
-use lib.ListN.{length, getD}
-use Rattle.liveness.specs.Out.{joined-if, not-joined}
 use borrow.Author.Needs.{needs}
 use Rattle.liveness.proofs.out.join_if.Statement.{statement}
 use Rattle.liveness.proofs.out.join_if.Tie as tie
+use Rattle.liveness.proofs.out.join_if.Reads as reads
+use Rattle.liveness.proofs.out.join_if.Lts as lts
+use Rattle.liveness.proofs.row.join.Reads as join-reads
 
+-- src/out.rt:22:23
 mul-at : tie.Need-mul-at
-mul-at c =
-    let h = c .before .before .before .before .pre .1 (c .if1 .taken) in
-    omega (arith, h .0, h .1)
+mul-at c = ?
 
+-- src/out.rt:22:23
 shared-slice-read-at : tie.Need-shared-slice-read-at
-shared-slice-read-at c =
-    let h = c .before .before .before .before .before .pre .1 (c .before .if1 .taken) in
-    omega (arith, h .0, h .1)
+shared-slice-read-at c = ?
 
+-- src/out.rt:22:23
 cast-at : tie.Need-cast-at
-cast-at c = omega (arith, c .shared-slice-known3 .given (c .before .before .before .before .before .args .q))
+cast-at c = ?
 
+-- src/out.rt:22:18
 mul-at-2 : tie.Need-mul-at-2
-mul-at-2 c =
-    let h = c .before .before .before .before .before .pre .1 (c .before .if1 .taken) in
-    omega (arith, h .0, h .1)
+mul-at-2 c = ?
 
+-- src/out.rt:23:37
 add-join : tie.Need-add-join
-add-join c =
-    let h = c .before .before .before .before .before .before .pre .1 (c .before .before .if1 .taken) in
-    omega (arith, h .0, h .1)
+add-join c = ?
 
-mul-join : tie.Need-mul-join
-mul-join c =
-    let h = c .before .before .before .before .before .before .pre .1 (c .before .before .if1 .taken) in
-    omega (arith, h .0, h .1)
+-- src/out.rt:23:9
+join-requires : tie.Need-join-requires
+join-requires c κs = ?
 
-part-join-end : tie.Need-part-join-end
-part-join-end c =
-    let h = c .before .before .before .before .before .before .pre .1 (c .before .before .if1 .taken) in
-    omega (arith, h .0, h .1)
+-- src/out.rt:16:1
+same-length : tie.Need-same-length
+same-length c = search needs
 
+-- src/out.rt:16:1
 returns : tie.Need-returns
-returns c =
-    let s = c .before .before .before .before .before .before .before .before .before .before in
-    let w = length (s .args .out .now) in
-    let at = w * getD (s .args .blocks .now) (s .args .q) 0 in
-    let part : at + w - at ≡ w = omega arith in
-    joined-if w (s .args .live .now) (s .args .blocks .now) _ (s .args .q) _ _ (c .before .before .before .before .before .before .if1 .taken) (rw part at (c .before .before .join .ensures))
+returns c = ?
 
+-- src/out.rt:16:1
 returns-2 : tie.Need-returns-2
-returns-2 c =
-    let s = c .before .before .before .before in
-    not-joined (length (s .args .out .now)) (s .args .live .now) (s .args .blocks .now) _ (s .args .q) _ (c .if1 .left)
+returns-2 c = ?
 
 pub join-if-spec : {M : Type 1} → statement M
 join-if-spec =
@@ -62,11 +50,7 @@ join-if-spec =
     cast-at
     mul-at-2
     add-join
-    mul-join
-    (λ c. search needs)
-    (λ c. search needs)
-    part-join-end
-    (λ c κs. search needs)
-    (λ c. search needs)
+    join-requires
+    same-length
     returns
     returns-2)

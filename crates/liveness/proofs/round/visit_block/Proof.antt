@@ -1,57 +1,77 @@
-use mathlib.Core.Path.{_≡_, refl, _∙_}
-use Prim.Native.Nat.{_+_, _*_, _-_, _<_}
-use native.Mathlib.Omega.{arith}
-use lib.ListN.{length, getD}
-use Rattle.words.specs.Regions.{mid-long}
-use Rattle.liveness.specs.Visit.{Visited}
 use borrow.Author.Needs.{needs}
 use Rattle.liveness.proofs.round.visit_block.Statement.{statement}
 use Rattle.liveness.proofs.round.visit_block.Tie as tie
+use Rattle.liveness.proofs.round.visit_block.Reads as reads
+use Rattle.liveness.proofs.round.visit_block.Lts as lts
+use Rattle.liveness.proofs.out.live_out.Reads as live-out-reads
+use Rattle.liveness.proofs.row.transfer.Reads as transfer-reads
 
+-- src/round.rt:25:14
+mul-at : tie.Need-mul-at
+mul-at c = ?
+
+-- src/round.rt:26:22
+add-end : tie.Need-add-end
+add-end c = search needs
+
+-- src/round.rt:26:15
+mul-end : tie.Need-mul-end
+mul-end c = search needs
+
+-- src/round.rt:26:15
+shared-slice-read-end : tie.Need-shared-slice-read-end
+shared-slice-read-end c = search needs
+
+-- src/round.rt:26:15
+cast-end : tie.Need-cast-end
+cast-end c = ?
+
+-- src/round.rt:27:41
+sub-live-out : tie.Need-sub-live-out
+sub-live-out c = ?
+
+-- src/round.rt:27:5
 live-out-requires : tie.Need-live-out-requires
-live-out-requires c κs =
-    let s = c .before .before .before .before .before .before .before .before .before .before in
-    let e : getD (s .args .starts .now) (s .args .b + 1) 0 - 1 < length (s .args .words .now) = omega arith in
-    (s .pre .0, e, s .pre .1, s .pre .2, s .pre .9 (getD (s .args .starts .now) (s .args .b + 1) 0 - 1) e, s .pre .10)
+live-out-requires c κs = ?
 
+-- src/round.rt:30:9
+add-transfer : tie.Need-add-transfer
+add-transfer c = ?
+
+-- src/round.rt:31:9
+add-transfer-2 : tie.Need-add-transfer-2
+add-transfer-2 c = ?
+
+-- src/round.rt:32:9
+add-transfer-3 : tie.Need-add-transfer-3
+add-transfer-3 c = ?
+
+-- src/round.rt:28:5
+transfer-requires : tie.Need-transfer-requires
+transfer-requires c κs = ?
+
+-- src/round.rt:20:1
+same-length : tie.Need-same-length
+same-length c = search needs
+
+-- src/round.rt:20:1
 returns : tie.Need-returns
-returns c =
-    let s = c .before .before .before .before .before .before .before .before .before .before .before .before .before .before .before .before .before .before .before .before in
-    let w = length (s .args .out .now) in
-    let at = w * s .args .b in
-    let part : at + w - at ≡ w = omega arith in
-    let t = c .before .before .transfer in
-    let made = rw part at (t .ensures) in
-    let long : length (t .last .0) ≡ w = rw part at (t .kept .0) ∙ mid-long (s .args .live .now) at w (s .pre .5) in
-    record { row = t .last .0; out = c .before .before .before .before .before .before .before .before .before .live-out .last .0; outs = c .before .before .before .before .before .before .before .before .before .live-out .ensures; put = rw part; long = long; bits = made .0; moved = made .1 }
+returns c = ?
 
 pub visit-block-spec : {M : Type 1} → statement M
 visit-block-spec =
     tie.close
     (tie.spec
-    (λ c. search needs)
-    (λ c. search needs)
-    (λ c. search needs)
-    (λ c. search needs)
-    (λ c. search needs)
-    (λ c. search needs)
+    mul-at
+    add-end
+    mul-end
+    shared-slice-read-end
+    cast-end
+    sub-live-out
     live-out-requires
-    (λ c. search needs)
-    (λ c. search needs)
-    (λ c. search needs)
-    (λ c. search needs)
-    (λ c. search needs)
-    (λ c. search needs)
-    (λ c. search needs)
-    (λ c. search needs)
-    (λ c. search needs)
-    (λ c. search needs)
-    (λ c. search needs)
-    (λ c. search needs)
-    (λ c. search needs)
-    (λ c. search needs)
-    (λ c. search needs)
-    (λ c κs. search needs)
-    (λ c. search needs)
-    (λ c. search needs)
+    add-transfer
+    add-transfer-2
+    add-transfer-3
+    transfer-requires
+    same-length
     returns)

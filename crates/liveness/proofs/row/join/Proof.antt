@@ -1,32 +1,73 @@
-use Prim.Native.Nat.{_≤_, _-_}
-use native.Mathlib.Omega.{arith}
-use lib.ListN.{length}
-use Rattle.liveness.specs.Wordwise.{orWords, or-past, joined-sets, Stored, stored-begin, stored-turn, stored-end}
-use borrow.Author.Needs.{needs}
 use Rattle.liveness.proofs.row.join.Statement.{statement}
 use Rattle.liveness.proofs.row.join.Tie as tie
+use Rattle.liveness.proofs.row.join.Reads as reads
+use Rattle.liveness.proofs.row.join.Lts as lts
 
 abbrev Inv-loop : tie.InvT-loop
-Inv-loop row₀ other k₀ row k = (k ≤ length row₀) × Stored (orWords row₀ other) row₀ row k
+Inv-loop memory₀ a b w k₀ memory k = ?
 
 abbrev μ-loop : tie.MeasureT-loop
-μ-loop row₀ other k₀ row k = length row₀ - k
+μ-loop memory₀ a b w k₀ memory k = ?
 
+-- src/row.rt:71:5
 loop-holds : tie.Need-loop-holds Inv-loop μ-loop
-loop-holds c = (omega arith, stored-begin _ _)
+loop-holds c = ?
 
+-- src/row.rt:72:24
+add-x : tie.Need-add-x Inv-loop μ-loop
+add-x c = ?
+
+-- src/row.rt:72:17
+mul-x : tie.Need-mul-x Inv-loop μ-loop
+mul-x c = ?
+
+-- src/row.rt:72:17
+slice-read-x : tie.Need-slice-read-x Inv-loop μ-loop
+slice-read-x c = ?
+
+-- src/row.rt:73:36
+add-memory : tie.Need-add-memory Inv-loop μ-loop
+add-memory c = ?
+
+-- src/row.rt:73:29
+mul-memory : tie.Need-mul-memory Inv-loop μ-loop
+mul-memory c = ?
+
+-- src/row.rt:73:29
+slice-read-memory : tie.Need-slice-read-memory Inv-loop μ-loop
+slice-read-memory c = ?
+
+-- src/row.rt:73:16
+add-memory-2 : tie.Need-add-memory-2 Inv-loop μ-loop
+add-memory-2 c = ?
+
+-- src/row.rt:73:9
+mul-memory-2 : tie.Need-mul-memory-2 Inv-loop μ-loop
+mul-memory-2 c = ?
+
+-- src/row.rt:73:9
+slice-write-memory : tie.Need-slice-write-memory Inv-loop μ-loop
+slice-write-memory c = ?
+
+-- src/row.rt:74:9
+add-k : tie.Need-add-k Inv-loop μ-loop
+add-k c = ?
+
+-- src/row.rt:71:5
+loop-less : tie.Need-loop-less Inv-loop μ-loop
+loop-less c = ?
+
+-- src/row.rt:71:5
 loop-again : tie.Need-loop-again Inv-loop μ-loop
-loop-again c =
-    let l = c .before .before .before .loop in
-    (omega arith, stored-turn _ _ _ _ _ (l .inv .1) (c .before .before .loop-test .taken) (rw (l .inv .1 .rest (l .k) (omega arith))))
+loop-again c = ?
 
+-- src/row.rt:66:1
 same-length : tie.Need-same-length Inv-loop μ-loop
-same-length c = c .before .loop .inv .1 .long
+same-length c = ?
 
+-- src/row.rt:66:1
 returns : tie.Need-returns Inv-loop μ-loop
-returns c =
-    let s = c .before .before in
-    joined-sets _ _ _ (stored-end _ _ _ _ (c .before .loop .inv .1) (omega arith) (or-past (s .args .row .now) (s .args .other .now) (s .pre)))
+returns c = ?
 
 pub join-spec : {M : Type 1} → statement M
 join-spec =
@@ -35,14 +76,17 @@ join-spec =
     Inv-loop
     μ-loop
     loop-holds
-    (λ c. search needs)
-    (λ c. search needs)
-    (λ c. search needs)
-    (λ c. search needs)
-    (λ c. search needs)
-    (λ c. search needs)
-    (λ c. search needs)
-    (λ c. search needs)
+    add-x
+    mul-x
+    slice-read-x
+    add-memory
+    mul-memory
+    slice-read-memory
+    add-memory-2
+    mul-memory-2
+    slice-write-memory
+    add-k
+    loop-less
     loop-again
     same-length
     returns)

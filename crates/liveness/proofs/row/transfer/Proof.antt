@@ -1,45 +1,97 @@
-use mathlib.Core.Path.{refl}
-use Prim.Native.Nat.{_<_, _^_}
-use lib.ListN.{getD}
-use lib.Bits.{or-lt, and-lt}
-use Prim.Native.Nat.{_≤_, _-_}
-use native.Mathlib.Omega.{arith}
-use lib.ListN.{length}
-use Rattle.liveness.specs.Wordwise.{transferWords, transfer-past, transferred-sets, stored-end, Storing, storing-begin, storing-turn, moved}
-use borrow.Author.Needs.{needs}
 use Rattle.liveness.proofs.row.transfer.Statement.{statement}
 use Rattle.liveness.proofs.row.transfer.Tie as tie
+use Rattle.liveness.proofs.row.transfer.Reads as reads
+use Rattle.liveness.proofs.row.transfer.Lts as lts
 
 abbrev Inv-loop : tie.InvT-loop
-Inv-loop live₀ uses preserved out changes₀ k₀ live changes k = (k ≤ length live₀) × Storing (transferWords uses out preserved) live₀ live k changes
+Inv-loop memory₀ live uses preserved out w changes₀ k₀ memory changes k = ?
 
 abbrev μ-loop : tie.MeasureT-loop
-μ-loop live₀ uses preserved out changes₀ k₀ live changes k = length live₀ - k
+μ-loop memory₀ live uses preserved out w changes₀ k₀ memory changes k = ?
 
+-- src/row.rt:93:5
 loop-holds : tie.Need-loop-holds Inv-loop μ-loop
-loop-holds c = (omega arith, storing-begin _ _)
+loop-holds c = ?
 
+-- src/row.rt:94:24
+add-x : tie.Need-add-x Inv-loop μ-loop
+add-x c = ?
+
+-- src/row.rt:94:17
+mul-x : tie.Need-mul-x Inv-loop μ-loop
+mul-x c = ?
+
+-- src/row.rt:94:17
+slice-read-x : tie.Need-slice-read-x Inv-loop μ-loop
+slice-read-x c = ?
+
+-- src/row.rt:95:24
+add-y : tie.Need-add-y Inv-loop μ-loop
+add-y c = ?
+
+-- src/row.rt:95:17
+mul-y : tie.Need-mul-y Inv-loop μ-loop
+mul-y c = ?
+
+-- src/row.rt:95:17
+slice-read-y : tie.Need-slice-read-y Inv-loop μ-loop
+slice-read-y c = ?
+
+-- src/row.rt:95:44
+add-y-2 : tie.Need-add-y-2 Inv-loop μ-loop
+add-y-2 c = ?
+
+-- src/row.rt:95:37
+mul-y-2 : tie.Need-mul-y-2 Inv-loop μ-loop
+mul-y-2 c = ?
+
+-- src/row.rt:95:37
+slice-read-y-2 : tie.Need-slice-read-y-2 Inv-loop μ-loop
+slice-read-y-2 c = ?
+
+-- src/row.rt:95:62
+add-y-3 : tie.Need-add-y-3 Inv-loop μ-loop
+add-y-3 c = ?
+
+-- src/row.rt:95:55
+mul-y-3 : tie.Need-mul-y-3 Inv-loop μ-loop
+mul-y-3 c = ?
+
+-- src/row.rt:95:55
+slice-read-y-3 : tie.Need-slice-read-y-3 Inv-loop μ-loop
+slice-read-y-3 c = ?
+
+-- src/row.rt:96:16
+add-memory : tie.Need-add-memory Inv-loop μ-loop
+add-memory c = ?
+
+-- src/row.rt:96:9
+mul-memory : tie.Need-mul-memory Inv-loop μ-loop
+mul-memory c = ?
+
+-- src/row.rt:96:9
+slice-write-memory : tie.Need-slice-write-memory Inv-loop μ-loop
+slice-write-memory c = ?
+
+-- src/row.rt:98:9
+add-k : tie.Need-add-k Inv-loop μ-loop
+add-k c = ?
+
+-- src/row.rt:93:5
+loop-less : tie.Need-loop-less Inv-loop μ-loop
+loop-less c = ?
+
+-- src/row.rt:93:5
 loop-again : tie.Need-loop-again Inv-loop μ-loop
-loop-again c =
-    let s = c .before .before .before .before .before .before .args in
-    let l = c .before .before .before .before .before .loop in
-    let old : getD (l .live) (l .k) 0 < 2 ^ 64 = omega (arith, c .before .before .before .slice-known .given (l .k)) in
-    let u : getD (s .uses .now) (l .k) 0 < 2 ^ 64 = omega (arith, c .before .before .shared-slice-known .given (l .k)) in
-    let o : getD (s .out .now) (l .k) 0 < 2 ^ 64 = omega (arith, c .before .shared-slice-known2 .given (l .k)) in
-    let p : getD (s .preserved .now) (l .k) 0 < 2 ^ 64 = omega (arith, c .shared-slice-known3 .given (l .k)) in
-    (omega arith, storing-turn _ _ _ _ _ _ (l .inv .1) (c .before .before .before .before .loop-test .taken) refl old (or-lt 64 _ _ u (and-lt 64 _ _ o p)))
+loop-again c = ?
 
+-- src/row.rt:80:1
 same-length : tie.Need-same-length Inv-loop μ-loop
-same-length c = c .before .loop .inv .1 .stored .long
+same-length c = ?
 
+-- src/row.rt:80:1
 returns : tie.Need-returns Inv-loop μ-loop
-returns c =
-    let s = c .before .before in
-    let l = c .before .loop in (
-      transferred-sets (s .args .uses .now) (s .args .out .now) (s .args .preserved .now) _
-          (stored-end _ _ _ _ (l .inv .1 .stored) (omega arith) (transfer-past (s .args .uses .now) (s .args .out .now) (s .args .preserved .now) _ (s .pre .0) (s .pre .2))),
-      moved _ _ _ _ _ (l .inv .1) (omega arith),
-    )
+returns c = ?
 
 pub transfer-spec : {M : Type 1} → statement M
 transfer-spec =
@@ -48,18 +100,23 @@ transfer-spec =
     Inv-loop
     μ-loop
     loop-holds
-    (λ c. search needs)
-    (λ c. search needs)
-    (λ c. search needs)
-    (λ c. search needs)
-    (λ c. search needs)
-    (λ c. search needs)
-    (λ c. search needs)
-    (λ c. search needs)
-    (λ c. search needs)
-    (λ c. search needs)
-    (λ c. search needs)
-    (λ c. search needs)
+    add-x
+    mul-x
+    slice-read-x
+    add-y
+    mul-y
+    slice-read-y
+    add-y-2
+    mul-y-2
+    slice-read-y-2
+    add-y-3
+    mul-y-3
+    slice-read-y-3
+    add-memory
+    mul-memory
+    slice-write-memory
+    add-k
+    loop-less
     loop-again
     same-length
     returns)

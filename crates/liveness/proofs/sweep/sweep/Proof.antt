@@ -1,75 +1,111 @@
-use mathlib.Core.Path.{_≡_, refl, sym, _∙_}
-use mathlib.Core.List.{List}
-use Prim.Native.Nat.{ℕ, suc, _-_, _≤_, _<_}
-use native.Mathlib.Omega.{arith}
-use lib.ListN.{length}
-use Rattle.effects.specs.Shape.{tablesOf}
-use Rattle.effects.specs.Cells.{cellsBy, cells-long}
-use Rattle.liveness.specs.Live.{Row}
-use Rattle.liveness.specs.Sweep.{Grounds, SweepFrom, sections, sweep-begin, sweep-end, code-turn}
-use borrow.Author.Needs.{needs}
 use Rattle.liveness.proofs.sweep.sweep.Statement.{statement}
 use Rattle.liveness.proofs.sweep.sweep.Tie as tie
+use Rattle.liveness.proofs.sweep.sweep.Reads as reads
+use Rattle.liveness.proofs.sweep.sweep.Lts as lts
+use Rattle.liveness.proofs.sweep.enter_place.Reads as enter-place-reads
+use Rattle.liveness.proofs.sweep.sweep_place.Reads as sweep-place-reads
 
 abbrev Inv-loop : tie.InvT-loop
-Inv-loop keep₀ row₀ live words metadata types leaders blocks functions externs cases p₀ keep row p =
-    (p ≤ length words) × (length keep ≡ length keep₀) × (length row ≡ length row₀)
-    × ((locals : ℕ) (constants : List ℕ) (rows : List Row) → Grounds (sections locals types constants (tablesOf functions externs cases)) leaders keep₀ (cellsBy words metadata) rows (length row₀) blocks live
-    → SweepFrom (sections locals types constants (tablesOf functions externs cases)) leaders keep₀ (cellsBy words metadata) rows keep row p)
+Inv-loop memory₀ table₀ sets metadata types functions externs cases n flags p₀ memory table p = ?
 
 abbrev μ-loop : tie.MeasureT-loop
-μ-loop keep₀ row₀ live words metadata types leaders blocks functions externs cases p₀ keep row p = p
+μ-loop memory₀ table₀ sets metadata types functions externs cases n flags p₀ memory table p = ?
 
+-- src/sweep.rt:101:17
+mul-flags : tie.Need-mul-flags Inv-loop μ-loop
+mul-flags c = ?
+
+-- src/sweep.rt:101:17
+add-flags : tie.Need-add-flags Inv-loop μ-loop
+add-flags c = ?
+
+-- src/sweep.rt:103:5
 loop-holds : tie.Need-loop-holds Inv-loop μ-loop
-loop-holds c =
-    let s = c .before .before .before .before .before .before .before .before .before .before .before .args in
-    (omega arith, refl, refl, λ locals constants rows g. sweep-begin _ _ _ _ rows (length (s .row .now)) (s .blocks .now) (s .live .now) g _ _ (sym (cells-long (s .words .now) (s .metadata .now))))
+loop-holds c = ?
 
+-- src/sweep.rt:104:9
+sub-p : tie.Need-sub-p Inv-loop μ-loop
+sub-p c = ?
+
+-- src/sweep.rt:105:45
+add-enter-place : tie.Need-add-enter-place Inv-loop μ-loop
+add-enter-place c = ?
+
+-- src/sweep.rt:105:35
+mul-enter-place : tie.Need-mul-enter-place Inv-loop μ-loop
+mul-enter-place c = ?
+
+-- src/sweep.rt:105:35
+sub-enter-place : tie.Need-sub-enter-place Inv-loop μ-loop
+sub-enter-place c = ?
+
+-- src/sweep.rt:105:35
+part-enter-place-start : tie.Need-part-enter-place-start Inv-loop μ-loop
+part-enter-place-start c = ?
+
+-- src/sweep.rt:105:35
+part-enter-place-end : tie.Need-part-enter-place-end Inv-loop μ-loop
+part-enter-place-end c = ?
+
+-- src/sweep.rt:105:53
+sub-enter-place-2 : tie.Need-sub-enter-place-2 Inv-loop μ-loop
+sub-enter-place-2 c = ?
+
+-- src/sweep.rt:105:53
+part-enter-place-start-2 : tie.Need-part-enter-place-start-2 Inv-loop μ-loop
+part-enter-place-start-2 c = ?
+
+-- src/sweep.rt:105:53
+part-enter-place-end-2 : tie.Need-part-enter-place-end-2 Inv-loop μ-loop
+part-enter-place-end-2 c = ?
+
+-- src/sweep.rt:105:9
 enter-place-requires : tie.Need-enter-place-requires Inv-loop μ-loop
-enter-place-requires c κs =
-    let l = c .before .before .loop in
-    let s = c .before .before .before .before .before .before .before .before .before .before .before .before .before .before in
-    let r = s .pre in
-    let h : l .p - 1 < length (s .args .words .now) = omega arith in
-    rw (l .inv .2) (r .few, h, r .most, r .long-blocks, r .long-leaders, r .inside (l .p - 1) h, r .rows-inside)
+enter-place-requires c κs = ?
 
+-- src/sweep.rt:108:31
+add-sweep-place : tie.Need-add-sweep-place Inv-loop μ-loop
+add-sweep-place c = ?
+
+-- src/sweep.rt:108:13
+mul-sweep-place : tie.Need-mul-sweep-place Inv-loop μ-loop
+mul-sweep-place c = ?
+
+-- src/sweep.rt:108:13
+sub-sweep-place : tie.Need-sub-sweep-place Inv-loop μ-loop
+sub-sweep-place c = ?
+
+-- src/sweep.rt:108:13
+part-sweep-place-start : tie.Need-part-sweep-place-start Inv-loop μ-loop
+part-sweep-place-start c = ?
+
+-- src/sweep.rt:108:13
+part-sweep-place-end : tie.Need-part-sweep-place-end Inv-loop μ-loop
+part-sweep-place-end c = ?
+
+-- src/sweep.rt:106:9
 sweep-place-requires : tie.Need-sweep-place-requires Inv-loop μ-loop
-sweep-place-requires c κs =
-    let l = c .before .before .before .before .before .before .before .loop in
-    let s = c .before .before .before .before .before .before .before .before .before .before .before .before .before .before .before .before .before .before .before in
-    let r = s .pre in
-    let h : l .p - 1 < length (s .args .words .now) = omega arith in
-    let long : length (c .before .before .before .before .enter-place .last .0) ≡ length (s .args .row .now) = c .before .before .before .before .enter-place .kept .0 ∙ l .inv .2 in
-    (h, r .entries, l .inv .1 ∙ r .long-flags, record { few = rw long (r .few); typed = r .typed (l .p - 1) h; inside = rw long (r .held (l .p - 1) h) }, rw long (r .fits (l .p - 1) h))
+sweep-place-requires c κs = ?
 
+-- src/sweep.rt:103:5
+loop-less : tie.Need-loop-less Inv-loop μ-loop
+loop-less c = ?
+
+-- src/sweep.rt:103:5
 loop-again : tie.Need-loop-again Inv-loop μ-loop
-loop-again c =
-    let l = c .before .before .before .before .before .before .before .before .before .before .before .before .loop in
-    let s = c .before .before .before .before .before .before .before .before .before .before .before .before .before .before .before .before .before .before .before .before .before .before .before .before .args in
-    let x = c .before .before .before .before .before .before .before .before .before .enter-place in
-    let y = c .before .before .before .before .sweep-place in
-    let h : l .p - 1 < length (s .words .now) = omega arith in
-    let e : l .p ≡ suc (l .p - 1) = omega arith in (
-      omega arith,
-      y .kept .0 ∙ l .inv .1,
-      omega (arith, y .kept .1, x .kept .0, l .inv .2),
-      λ locals constants rows g.
-          code-turn _ (s .leaders .now) _ (s .words .now) (s .metadata .now) rows (length (s .row .now)) (s .blocks .now) (s .live .now) g (l .keep) (l .row) (x .last .0) _ _ (l .p) (l .p - 1) e h
-          (l .inv .3 locals constants rows g) (rw (l .inv .2) at (x .ensures)) (y .ensures),
-    )
+loop-again c = ?
 
+-- src/sweep.rt:87:1
 same-length : tie.Need-same-length Inv-loop μ-loop
-same-length c = c .before .loop .inv .1
+same-length c = ?
 
+-- src/sweep.rt:87:1
 same-length-2 : tie.Need-same-length-2 Inv-loop μ-loop
-same-length-2 c = c .before .loop .inv .2
+same-length-2 c = ?
 
+-- src/sweep.rt:87:1
 returns : tie.Need-returns Inv-loop μ-loop
-returns c =
-    let l = c .before .loop in
-    let s = c .before .before .before .before .before .before .before .before .before .before .before .before .before .args in
-    let end : l .p ≡ 0 = omega arith in
-    λ locals constants rows g. sweep-end _ _ _ _ rows (length (s .row .now)) (s .blocks .now) (s .live .now) g _ (l .row) (rw end at (l .inv .3 locals constants rows g))
+returns c = ?
 
 pub sweep-spec : {M : Type 1} → statement M
 sweep-spec =
@@ -77,11 +113,26 @@ sweep-spec =
     (tie.spec
     Inv-loop
     μ-loop
+    mul-flags
+    add-flags
     loop-holds
-    (λ c. search needs)
+    sub-p
+    add-enter-place
+    mul-enter-place
+    sub-enter-place
+    part-enter-place-start
+    part-enter-place-end
+    sub-enter-place-2
+    part-enter-place-start-2
+    part-enter-place-end-2
     enter-place-requires
+    add-sweep-place
+    mul-sweep-place
+    sub-sweep-place
+    part-sweep-place-start
+    part-sweep-place-end
     sweep-place-requires
-    (λ c. search needs)
+    loop-less
     loop-again
     same-length
     same-length-2

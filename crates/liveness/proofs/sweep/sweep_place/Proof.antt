@@ -1,66 +1,133 @@
-use mathlib.Core.Path.{sym, _∙_}
-use Prim.Native.Nat.{_+_, _*_, _≤_}
-use native.Mathlib.Omega.{arith}
-use lib.ListN.{length, getD}
-use borrow.Author.Tests.{eq-eqb, ne-eqb}
-use Rattle.unit.specs.Size.{metadataSize}
-use Rattle.effects.specs.Shape.{Tables, Cell, tablesOf}
-use Rattle.effects.specs.Cells.{cellOf}
-use Rattle.liveness.specs.Unread.{deadBy}
-use Rattle.liveness.specs.Sweeping.{swept-off, swept-gone, swept-on}
 use borrow.Author.Needs.{needs}
 use Rattle.liveness.proofs.sweep.sweep_place.Statement.{statement}
 use Rattle.liveness.proofs.sweep.sweep_place.Tie as tie
+use Rattle.liveness.proofs.sweep.sweep_place.Reads as reads
+use Rattle.liveness.proofs.sweep.sweep_place.Lts as lts
+use Rattle.instruction.proofs.Instruction.from_word.Reads as from-word-reads
+use Rattle.liveness.proofs.dead.is_dead.Reads as is-dead-reads
+use Rattle.liveness.proofs.touch.live_before.Reads as live-before-reads
 
+-- src/sweep.rt:64:8
+mul-if1 : tie.Need-mul-if1
+mul-if1 c = search needs
+
+-- src/sweep.rt:64:8
+slice-read-if1 : tie.Need-slice-read-if1
+slice-read-if1 c = search needs
+
+-- src/sweep.rt:65:9
 returns : tie.Need-returns
-returns c =
-    let s = c .before .before .before .before .before .before .before .before .before .before in
-    let T : Tables = tablesOf (s .args .functions .now) (s .args .externs .now) (s .args .cases .now) in
-    let x : Cell = cellOf (s .args .metadata .now) (s .args .p) (getD (s .args .words .now) (s .args .p) 0) in
-    let dead = deadBy (s .args .types .now) (s .args .row .now) (x .instruction) in
-    swept-off T _ dead x (s .args .p) _ _ (ne-eqb _ _ (c .if1 .taken))
+returns c = ?
 
+-- src/sweep.rt:68:15
+add-end : tie.Need-add-end
+add-end c = search needs
+
+-- src/sweep.rt:69:36
+mul-from-word : tie.Need-mul-from-word
+mul-from-word c = search needs
+
+-- src/sweep.rt:69:36
+slice-read-from-word : tie.Need-slice-read-from-word
+slice-read-from-word c = search needs
+
+-- src/sweep.rt:69:9
+from-word-requires : tie.Need-from-word-requires
+from-word-requires c κs = search needs
+
+-- src/sweep.rt:70:29
+mul-is-dead : tie.Need-mul-is-dead
+mul-is-dead c = search needs
+
+-- src/sweep.rt:70:29
+sub-is-dead : tie.Need-sub-is-dead
+sub-is-dead c = search needs
+
+-- src/sweep.rt:70:29
+part-is-dead-start : tie.Need-part-is-dead-start
+part-is-dead-start c = search needs
+
+-- src/sweep.rt:70:29
+part-is-dead-end : tie.Need-part-is-dead-end
+part-is-dead-end c = search needs
+
+-- src/sweep.rt:70:8
 is-dead-requires : tie.Need-is-dead-requires
-is-dead-requires c κs = rw (c .before .from-word .ensures) (c .before .before .before .before .before .before .before .before .before .before .before .before .before .pre .3)
+is-dead-requires c κs = ?
 
+-- src/sweep.rt:71:9
+mul-keep : tie.Need-mul-keep
+mul-keep c = search needs
+
+-- src/sweep.rt:71:9
+slice-write-keep : tie.Need-slice-write-keep
+slice-write-keep c = search needs
+
+-- src/sweep.rt:72:9
+same-length : tie.Need-same-length
+same-length c = search needs
+
+-- src/sweep.rt:72:9
+same-length-2 : tie.Need-same-length-2
+same-length-2 c = search needs
+
+-- src/sweep.rt:72:9
 returns-2 : tie.Need-returns-2
-returns-2 c =
-    let s = c .before .before .before .before .before .before .before .before .before .before .before .before .before .before .before in
-    let T : Tables = tablesOf (s .args .functions .now) (s .args .externs .now) (s .args .cases .now) in
-    let x : Cell = cellOf (s .args .metadata .now) (s .args .p) (getD (s .args .words .now) (s .args .p) 0) in
-    let dead = deadBy (s .args .types .now) (s .args .row .now) (x .instruction) in
-    swept-gone T _ dead x (s .args .p) _ _ (eq-eqb _ _ (c .before .before .before .before .before .if1 .left)) (sym (rw (c .before .before .before .from-word .ensures) at (c .before .is-dead .ensures)) ∙ c .if2 .taken)
+returns-2 c = ?
 
+-- src/sweep.rt:75:9
+mul-live-before : tie.Need-mul-live-before
+mul-live-before c = search needs
+
+-- src/sweep.rt:75:9
+sub-live-before : tie.Need-sub-live-before
+sub-live-before c = search needs
+
+-- src/sweep.rt:75:9
+part-live-before-start : tie.Need-part-live-before-start
+part-live-before-start c = search needs
+
+-- src/sweep.rt:75:9
+part-live-before-end : tie.Need-part-live-before-end
+part-live-before-end c = search needs
+
+-- src/sweep.rt:74:5
 live-before-requires : tie.Need-live-before-requires
-live-before-requires c κs =
-    let s = c .before .before .before .before .before .before .before .before .before .before .before .before .before .before .before .before in
-    let room : metadataSize * s .args .p + metadataSize ≤ length (s .args .metadata .now) = omega arith in
-    rw (c .before .before .before .before .from-word .ensures) (room, s .pre .4)
+live-before-requires c κs = ?
 
+-- src/sweep.rt:50:1
+same-length-3 : tie.Need-same-length-3
+same-length-3 c = search needs
+
+-- src/sweep.rt:50:1
 returns-3 : tie.Need-returns-3
-returns-3 c =
-    let s = c .before .before .before .before .before .before .before .before .before .before .before .before .before .before .before .before .before .before .before in
-    let T : Tables = tablesOf (s .args .functions .now) (s .args .externs .now) (s .args .cases .now) in
-    let x : Cell = cellOf (s .args .metadata .now) (s .args .p) (getD (s .args .words .now) (s .args .p) 0) in
-    let dead = deadBy (s .args .types .now) (s .args .row .now) (x .instruction) in
-    swept-on T _ dead x (s .args .p) _ _ _ (eq-eqb _ _ (c .before .before .before .before .before .before .before .before .before .if1 .left)) (sym (rw (c .before .before .before .before .before .before .before .from-word .ensures) at (c .before .before .before .before .before .is-dead .ensures)) ∙ c .before .before .before .before .if2 .left) (rw (c .before .before .before .before .before .before .before .from-word .ensures) at (c .before .before .live-before .ensures))
+returns-3 c = ?
 
 pub sweep-place-spec : {M : Type 1} → statement M
 sweep-place-spec =
     tie.close
     (tie.spec
-    (λ c. search needs)
-    (λ c. search needs)
+    mul-if1
+    slice-read-if1
     returns
-    (λ c. search needs)
-    (λ c. search needs)
-    (λ c κs. search needs)
+    add-end
+    mul-from-word
+    slice-read-from-word
+    from-word-requires
+    mul-is-dead
+    sub-is-dead
+    part-is-dead-start
+    part-is-dead-end
     is-dead-requires
-    (λ c. search needs)
-    (λ c. search needs)
-    (λ c. search needs)
-    (λ c. search needs)
+    mul-keep
+    slice-write-keep
+    same-length
+    same-length-2
     returns-2
+    mul-live-before
+    sub-live-before
+    part-live-before-start
+    part-live-before-end
     live-before-requires
-    (λ c. search needs)
+    same-length-3
     returns-3)

@@ -1,0 +1,97 @@
+-- The code and the sets of slots in one buffer of words, and what is known of the places in one of numbers.
+-- Assumes nothing.
+use mathlib.Core.Path.{_≡_, refl, sym, ap, _∙_}
+use mathlib.Core.Bool.{true}
+use mathlib.Core.List.{List}
+use Prim.Native.Nat.{ℕ, _+_, _*_, _-_, _≤_, _<_}
+use native.Mathlib.Omega.{arith}
+use lib.ListN.{length, getD}
+use borrow.Rule.Slice.PartMut.{midOf, putMid}
+use Rattle.words.specs.Regions.{mid-long, get-mid}
+use Rattle.instruction.specs.Instruction.{ofWord, class}
+use Rattle.unit.specs.Size.{maxInstructions, metadataSize}
+use Rattle.effects.specs.Shape.{Tables}
+use Rattle.effects.specs.Cells.{cellOf}
+use Rattle.effects.specs.Effects.{rangeWithin}
+use Rattle.effects.specs.Form.{emptyRange}
+use Rattle.effects.specs.Sound.{writesByClass}
+use Rattle.flow.specs.Branch.{branchInside}
+use Rattle.liveness.specs.declared.Layout.{Layout}
+use Rattle.liveness.specs.Touched.{Fits}
+use Rattle.liveness.specs.Visit.{Rising}
+
+-- one after another, and all within the buffer
+pub record Laid (s : Layout) (room : ℕ) : Type 0 where
+  pub row : s .code ≤ s .row
+  pub uses : s .row + s .width ≤ s .uses
+  pub preserved : s .uses + s .width * s .count ≤ s .preserved
+  pub live : s .preserved + s .width * s .count ≤ s .live
+  pub end : s .live + s .width * s .count ≤ room
+
+abbrev pub codeOf : Layout → List ℕ → List ℕ
+codeOf s m = midOf 0 (s .code) m
+
+abbrev pub rowOf : Layout → List ℕ → List ℕ
+rowOf s m = midOf (s .row) (s .width) m
+
+abbrev pub usesOf : Layout → List ℕ → List ℕ
+usesOf s m = midOf (s .uses) (s .width * s .count) m
+
+abbrev pub preservedOf : Layout → List ℕ → List ℕ
+preservedOf s m = midOf (s .preserved) (s .width * s .count) m
+
+abbrev pub liveOf : Layout → List ℕ → List ℕ
+liveOf s m = midOf (s .live) (s .width * s .count) m
+
+-- without gaps
+abbrev pub laidOut : ℕ → ℕ → ℕ → Layout
+laidOut n w count = record {
+  code = n;
+  width = w;
+  count = count;
+  row = n;
+  uses = n + w;
+  preserved = n + w + w * count;
+  live = n + w + w * count + w * count;
+}
+
+pub laid-out : (n w count room : ℕ) → n + w + 3 * (w * count) ≤ room → Laid (laidOut n w count) room
+laid-out n w count room h = record { row = omega arith; uses = omega arith; preserved = omega arith; live = omega arith; end = omega arith }
+
+-- the code's branches and the blocks' numbers stay inside
+pub record Coded (s : Layout) (memory blocks : List ℕ) : Type 0 where
+  pub laid : Laid s (length memory)
+  pub most : s .code ≤ maxInstructions
+  pub long-blocks : length blocks ≡ s .code
+  pub inside : (p : ℕ) → p < s .code → branchInside (s .code) p (ofWord (getD memory p 0)) ≡ true
+  pub rows-inside : (q : ℕ) → q < s .code → s .width * getD blocks q 0 + s .width ≤ s .width * s .count
+
+-- what rounds start from
+pub record Ready (s : Layout) (memory blocks starts : List ℕ) : Type 0 where
+  pub coded : Coded s memory blocks
+  pub long-starts : s .count < length starts
+  pub rising : Rising starts (s .count) (s .code)
+
+-- ---- the numbers of n places: leaders, blocks, starts, flags of kept places
+
+abbrev pub leadersOf : ℕ → List ℕ → List ℕ
+leadersOf n t = midOf 0 n t
+
+abbrev pub blocksOf : ℕ → List ℕ → List ℕ
+blocksOf n t = midOf n n t
+
+abbrev pub flagsAt : ℕ → ℕ
+flagsAt n = 3 * n + 1
+
+abbrev pub flagsOf : ℕ → List ℕ → List ℕ
+flagsOf n t = midOf (flagsAt n) n t
+
+-- what the sweep starts from
+pub record Sweepable (s : Layout) (T : Tables) (memory metadata types table : List ℕ) : Type 0 where
+  pub coded : Coded s memory (blocksOf (s .code) table)
+  pub long-table : flagsAt (s .code) + s .code ≤ length table
+  pub entries : metadataSize * s .code ≤ length metadata
+  pub few : s .width ≤ 1024
+  pub typed : (p : ℕ) → p < s .code → rangeWithin (length types) (getD (writesByClass (class (ofWord (getD memory p 0))) (ofWord (getD memory p 0))) 0 emptyRange) ≡ true
+  pub held : (p : ℕ) → p < s .code → rangeWithin (64 * s .width) (getD (writesByClass (class (ofWord (getD memory p 0))) (ofWord (getD memory p 0))) 0 emptyRange) ≡ true
+  pub fits : (p : ℕ) → p < s .code → Fits (s .width) T (cellOf metadata p (getD memory p 0))
