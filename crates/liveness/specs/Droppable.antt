@@ -34,8 +34,6 @@ use Rattle.flow.specs.Flags.{Flags, sum-whole, sum-most, sum-first}
 use Rattle.liveness.specs.Touched.{Within, Fits, within-any}
 use Rattle.liveness.specs.Shown.{row-before}
 use Rattle.liveness.specs.Visit.{Rising}
-use Rattle.liveness.specs.Rounding.{Ready}
-use Rattle.liveness.specs.Sweep.{Sweepable}
 
 -- the code was checked, its blocks are numbered, and the flags of kept places are there
 pub record Droppable (T : Tables) (n count : ℕ) (words metadata types leaders blocks starts keep : List ℕ) : Type 0 where
@@ -109,12 +107,10 @@ nothing-read s T = refl
 
 -- ---- the code, its sets and its blocks
 
-module _ (T : Tables) (n count : ℕ) (words metadata types leaders blocks starts keep : List ℕ) (d : Droppable T n count words metadata types leaders blocks starts keep) where
+module _ {T : Tables} {n count : ℕ} {words metadata types leaders blocks starts keep : List ℕ} (d : Droppable T n count words metadata types leaders blocks starts keep)
+    {w : ℕ} (ew : w ≡ setWords (length types)) where
   abbrev s : ℕ
   s = length types
-
-  abbrev w : ℕ
-  w = setWords s
 
   abbrev cells : List Cell
   cells = cellsBy words metadata
@@ -147,7 +143,7 @@ module _ (T : Tables) (n count : ℕ) (words metadata types leaders blocks start
       let lesser : count ≤ min n (maxSetWords / w) = le-min few-blocks most in
       let product : 3 * w * count ≤ 3 * w * min n (maxSetWords / w) = mul-le-mul-left (3 * w) lesser in
       let same : 3 * w * count ≡ 3 * (w * count) = mul-assoc 3 w count in
-      let all : 24 * n + 4 * s + w + 3 * w * min n (maxSetWords / w) ≤ m = h in
+      let all : 24 * n + 4 * s + w + 3 * w * min n (maxSetWords / w) ≤ m = rw ew h in
       sizes n s w (3 * w * count) (3 * (w * count)) (3 * w * min n (maxSetWords / w)) m product same all
     where
       sizes : (n s w a b c m : ℕ) → a ≤ c → a ≡ b → 24 * n + 4 * s + w + c ≤ m → n + w + b ≤ m
@@ -183,31 +179,9 @@ module _ (T : Tables) (n count : ℕ) (words metadata types leaders blocks start
       let way = block-walk leaders (d .flags) b (rw (← d .total) h) in
       rw (d .places b (omega arith), d .places (b + 1) (omega arith)) (way .some, rw (← d .long-leaders) (way .within))
 
-  pub ready : Ready w count words blocks starts (w * count) (w * count) (w * count)
-  ready = record {
-    few = few-words;
-    most = rw (d .long-words) (d .most);
-    long-blocks = d .long-blocks ∙ sym (d .long-words);
-    long-live = refl;
-    same-uses = refl;
-    same-preserved = refl;
-    long-starts = rw (d .long-starts) (omega (arith, few-blocks));
-    rising = rw (d .long-words) starts-rise;
-    inside = λ p h. rw (d .long-words) (d .inside p (rw (d .long-words) at h));
-    rows-inside = λ q h. block-row q (rw (d .long-words) at h);
-  }
+  -- the slots that a store writes have a type and a bit
+  pub typed-at : (p : ℕ) → p < n → rangeWithin (length types) (getD (writesByClass (class (ofWord (getD words p 0))) (ofWord (getD words p 0))) 0 emptyRange) ≡ true
+  typed-at p h = let x : Cell = cellOf metadata p (getD words p 0) in written-within (length types) T x (checked p h .writes-within)
 
-  pub sweepable : Sweepable T words metadata types leaders blocks (length keep) w (w * count)
-  sweepable = record {
-    few = few-words;
-    most = rw (d .long-words) (d .most);
-    long-blocks = d .long-blocks ∙ sym (d .long-words);
-    long-leaders = d .long-leaders ∙ sym (d .long-words);
-    long-flags = d .long-keep ∙ sym (d .long-words);
-    entries = rw (d .long-words) (d .entries);
-    inside = λ p h. rw (d .long-words) (d .inside p (rw (d .long-words) at h));
-    rows-inside = λ q h. block-row q (rw (d .long-words) at h);
-    typed = λ p h. let x : Cell = cellOf metadata p (getD words p 0) in written-within s T x (checked p (rw (d .long-words) at h) .writes-within);
-    held = λ p h. let x : Cell = cellOf metadata p (getD words p 0) in written-within (64 * w) T x (fits-at p (rw (d .long-words) at h) .writes-fit);
-    fits = λ p h. fits-at p (rw (d .long-words) at h);
-  }
+  pub held-at : (p : ℕ) → p < n → rangeWithin (64 * w) (getD (writesByClass (class (ofWord (getD words p 0))) (ofWord (getD words p 0))) 0 emptyRange) ≡ true
+  held-at p h = let x : Cell = cellOf metadata p (getD words p 0) in written-within (64 * w) T x (fits-at p h .writes-fit)

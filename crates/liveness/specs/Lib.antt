@@ -18,3 +18,4 @@ pub mod Sweeping
 pub mod Sweep
 pub mod Droppable
 pub mod Stores
+pub mod Workable

@@ -48,12 +48,10 @@ false-bit zero t = refl
 false-bit (suc s) zero = refl
 false-bit (suc s) (suc t) = false-bit s t
 
-module _ (T : Tables) (n count : ℕ) (words metadata types leaders blocks starts keep : List ℕ) (d : Droppable T n count words metadata types leaders blocks starts keep) (constants : List ℕ) where
+module _ {T : Tables} {n count : ℕ} {words metadata types leaders blocks starts keep : List ℕ} (d : Droppable T n count words metadata types leaders blocks starts keep)
+    {w : ℕ} (ew : w ≡ setWords (length types)) (constants : List ℕ) where
   abbrev S : Sections
   S = sections (length types) types constants T
-
-  abbrev w : ℕ
-  w = setWords (length types)
 
   abbrev cells : List Cell
   cells = cellsBy words metadata
@@ -98,9 +96,9 @@ module _ (T : Tables) (n count : ℕ) (words metadata types leaders blocks start
     each = length-replicate count nothing ∙ d .total;
     numbers = rw long-cells (d .numbers);
     places = d .places;
-    room = enough-words T n count words metadata types leaders blocks starts keep d;
+    room = enough-words d ew;
     long-uses = long;
-    within = reads-within T n count words metadata types leaders blocks starts keep d;
+    within = reads-within d ew;
     inside = inside-cells;
     summed = s;
     shown = rw z start-shown;
@@ -116,7 +114,7 @@ module _ (T : Tables) (n count : ℕ) (words metadata types leaders blocks start
     each = f .each;
     numbers = rw long-cells (d .numbers);
     inside = inside-cells;
-    within = reads-within T n count words metadata types leaders blocks starts keep d;
+    within = reads-within d ew;
     shown = f .shown;
     long-keep = d .long-keep ∙ sym long-cells;
     keep-flags = d .keep-flags;
@@ -126,11 +124,11 @@ module _ (T : Tables) (n count : ℕ) (words metadata types leaders blocks start
 
   pub no-words : w ≡ 0 → keep ≡ deadStores S leaders keep cells
   unfolding deadStores withoutDead liveRows
-  no-words e = rw e
+  no-words e = rw (← ew, e)
 
   pub too-many : maxSetWords < w * count → keep ≡ deadStores S leaders keep cells
   unfolding deadStores withoutDead liveRows
-  too-many h = rw (← d .total, lt-leb (w * count) maxSetWords h) (go (eqb w 0))
+  too-many h = rw (← d .total, ← ew, lt-leb (w * count) maxSetWords h) (go (eqb w 0))
     where
       go : (t : Bool) → keep ≡ withoutDead S leaders keep cells (cond t none none)
       go true = refl
@@ -139,7 +137,7 @@ module _ (T : Tables) (n count : ℕ) (words metadata types leaders blocks start
   module _ (some-words : 0 < w) (few : w * count ≤ maxSetWords) where
     same-rows : liveRows S leaders keep cells ≡ solveIn S (length cells) leaders keep limit cells first
     unfolding liveRows
-    same-rows = rw (← d .total, ne-eqb w 0 (λ e. omega arith), le-leb (w * count) maxSetWords few)
+    same-rows = rw (← d .total, ← ew, ne-eqb w 0 (λ e. omega arith), le-leb (w * count) maxSetWords few)
 
     -- rows are found and the stores that are dead by them are dropped, or the rounds ran out
     pub dropped : (r : Bool) (live keep′ : List ℕ) → Solved S leaders keep cells w limit first live r → (r ≡ false → keep′ ≡ keep)
