@@ -1,15 +1,15 @@
 -- What the pass knows of its code where it drops dead stores, and what that gives each of the three walks.
 -- Assumes nothing.
-use mathlib.Core.Path.{_≡_, refl, sym, ap, _∙_}
+use mathlib.Core.Path.{_≡_, refl, sym}
 use mathlib.Core.Bool.{Bool, true, false, _||_, false≢true}
 use mathlib.Core.List.{List, [], _∷_}
-use Prim.Native.Nat.{ℕ, zero, suc, _+_, _*_, _-_, _/_, _≤_, _<_, min}
+use Prim.Native.Nat.{ℕ, _+_, _*_, _/_, _≤_, _<_, min}
 use native.Mathlib.Nat.{mul-comm, mul-assoc, mul-le-mul-left, le-div-iff-mul-le, le-min}
 use native.Mathlib.Decide.{decLe}
 use native.Mathlib.Omega.{arith}
 use lib.Dec.{eqb, leb}
-use lib.ListN.{length, getD, take, List·getD-eq-default}
-use borrow.Author.Tests.{eqb-true, leb-true, le-leb}
+use lib.ListN.{length, getD, List·getD-eq-default}
+use borrow.Author.Tests.{leb-true, le-leb}
 use Rattle.words.specs.Lists.{tabulate, getD-tabulate}
 use Rattle.instruction.specs.declared.Instruction.{Instruction}
 use Rattle.instruction.specs.declared.Class.{Class}
@@ -25,7 +25,7 @@ use Rattle.effects.specs.Form.{emptyRange}
 use Rattle.effects.specs.Check.{operandRefusal}
 use Rattle.effects.specs.Cells.{cellOf, cellsBy, cells-long, cell-at}
 use Rattle.effects.specs.Operands.{left-true, right-true, cases-inside}
-use Rattle.effects.specs.Sound.{Sound, sound, isOutside, writesByClass, reads-by-class, writes-by-class}
+use Rattle.effects.specs.Sound.{Sound, sound, isOutside, writesByClass, writes-by-class}
 use Rattle.flow.specs.Branch.{branchInside}
 use Rattle.flow.specs.Block.{blockOf, blockCount}
 use Rattle.flow.specs.Blocks.{blockStart, block-walk, block-below}

@@ -2,18 +2,17 @@
 -- Assumes nothing.
 use mathlib.Core.Path.{_≡_, refl, sym, ap, _∙_}
 use mathlib.Core.Bool.{Bool, true, false, cond}
-use mathlib.Core.List.{List, [], _∷_}
-use mathlib.Core.Option.{Option, none, some}
-use Prim.Native.Nat.{ℕ, zero, suc, _+_, _*_, _-_, _/_, _≤_, _<_, min}
+use mathlib.Core.List.{List}
+use mathlib.Core.Option.{none, some}
+use Prim.Native.Nat.{ℕ, zero, suc, _+_, _*_, _/_, _≤_, _<_}
 use native.Mathlib.Omega.{arith}
-use lib.Dec.{eqb, leb}
+use lib.Dec.{eqb}
 use lib.ListN.{length, getD, replicate, length-replicate, getD-replicate}
 use lib.Seq.{ext-getD}
-use borrow.Author.Tests.{eq-eqb, ne-eqb, le-leb, lt-leb}
-use Rattle.words.specs.Bits.{member}
+use borrow.Author.Tests.{ne-eqb, le-leb, lt-leb}
 use Rattle.words.specs.Regions.{mid-long, get-mid}
 use Rattle.instruction.specs.Instruction.{ofWord}
-use Rattle.unit.specs.Size.{setWords, maxSetWords, work64Room}
+use Rattle.unit.specs.Size.{setWords, maxSetWords}
 use Rattle.effects.specs.Shape.{Tables, Sections, Cell, cellAt}
 use Rattle.effects.specs.Cells.{cellsBy, cells-long, cell-at}
 use Rattle.flow.specs.Branch.{branchInside}
@@ -21,12 +20,12 @@ use Rattle.liveness.specs.Live.{Row, noRow, solveIn, maxLivenessWork, li
 use Rattle.liveness.specs.Dead.{sweepFrom, withoutDead, deadStores}
 use Rattle.liveness.specs.Wordwise.{none-in}
 use Rattle.liveness.specs.Rows.{start-wide}
-use Rattle.liveness.specs.Shown.{rowAt, Holds, Shown, row-before}
+use Rattle.liveness.specs.Shown.{rowAt, Shown, row-before}
 use Rattle.liveness.specs.Visit.{Summed}
 use Rattle.liveness.specs.Rounding.{Around}
 use Rattle.liveness.specs.Solving.{Found, Solved}
 use Rattle.liveness.specs.Sweep.{Grounds, sections}
-use Rattle.liveness.specs.Droppable.{Droppable, enough-words, some-blocks, reads-within}
+use Rattle.liveness.specs.Droppable.{Droppable, enough-words, reads-within}
 
 -- ---- words of 0 show rows without any slot
 

@@ -4,6 +4,7 @@ mod dead;
 mod out;
 mod round;
 mod row;
+pub mod stores;
 mod sweep;
 mod touch;
 
