@@ -72,6 +72,14 @@ module _ (m : List ℕ) (a k : ℕ) (h : a + k ≤ length m) where
           | no g ↦ get-before m a k ys e h j 0 (omega arith)
         ]
 
+-- a part that was lent from a to a + k is back
+pub lent : (m : List ℕ) (a k : ℕ) (ys : List ℕ) → a + k ≤ length m → length ys ≡ length (midOf a (a + k - a) m)
+    → Only (At a k) m (putMid a (a + k - a) m ys) × (midOf a k (putMid a (a + k - a) m ys) ≡ ys)
+lent m a k ys h e =
+    let part : a + k - a ≡ k = omega arith in
+    let long : length ys ≡ k = rw part at e ∙ mid-long m a k h in
+    rw part (only-put m a k h ys long, mid-put m a k ys long h)
+
 module _ (P : ℕ → Type 0) (m m′ : List ℕ) (o : Only P m m′) where
   -- a region with no such place is as it was
   pub same-mid : (b k : ℕ) → b + k ≤ length m → ((j : ℕ) → At b k j → P j → ⊥) → midOf b k m′ ≡ midOf b k m
