@@ -10,8 +10,8 @@ use borrow.Rule.Slice.PartMut.{midOf, putMid}
 use Rattle.words.specs.Regions.{mid-long, get-mid}
 use Rattle.instruction.specs.Instruction.{ofWord, class}
 use Rattle.unit.specs.Size.{maxInstructions, metadataSize}
-use Rattle.effects.specs.Shape.{Tables}
-use Rattle.effects.specs.Cells.{cellOf}
+use Rattle.effects.specs.Shape.{Tables, cellAt}
+use Rattle.effects.specs.Cells.{cellOf, cellsBy, cell-at}
 use Rattle.effects.specs.Effects.{rangeWithin}
 use Rattle.effects.specs.Form.{emptyRange}
 use Rattle.effects.specs.Sound.{writesByClass}
@@ -20,6 +20,13 @@ use Rattle.liveness.specs.declared.Layout.{Layout}
 use Rattle.liveness.specs.Only.{At, Only, same-mid}
 use Rattle.liveness.specs.Touched.{Fits}
 use Rattle.liveness.specs.Visit.{Rising}
+
+-- a cell of the code
+pub cell-in : (m metadata : List ℕ) (n p v : ℕ) → n ≤ length m → p < n → v ≡ getD m p 0 → cellAt (cellsBy (midOf 0 n m) metadata) p ≡ cellOf metadata p v
+cell-in m metadata n p v h l e =
+    let long : length (midOf 0 n m) ≡ n = mid-long m 0 n (omega arith) in
+    let at : 0 + p ≡ p = omega arith in
+    cell-at (midOf 0 n m) metadata p (rw long l) ∙ rw (get-mid m 0 n p 0 l, at, e)
 
 -- one after another, and all within the buffer
 pub record Laid (s : Layout) (room : ℕ) : Type 0 where

@@ -1,7 +1,7 @@
 -- What a list still holds after some of its places were written.
 -- Assumes nothing.
 use mathlib.Core.Path.{_≡_, refl, sym, ap, _∙_}
-use mathlib.Core.Logic.{_⊎_}
+use mathlib.Core.Logic.{_⊎_, inl, inr}
 use mathlib.Core.List.{List}
 use Prim.Native.Nat.{ℕ, _+_, _-_, _≤_, _<_}
 use native.Mathlib.Decide.{decLe}
@@ -80,10 +80,35 @@ lent m a k ys h e =
     let long : length ys ≡ k = rw part at e ∙ mid-long m a k h in
     rw part (only-put m a k h ys long, mid-put m a k ys long h)
 
+pub lent-long : (m : List ℕ) (a k : ℕ) → a + k ≤ length m → length (midOf a (a + k - a) m) ≡ k
+lent-long m a k h = let part : a + k - a ≡ k = omega arith in rw part (mid-long m a k h)
+
 module _ (P : ℕ → Type 0) (m m′ : List ℕ) (o : Only P m m′) where
   -- a region with no such place is as it was
   pub same-mid : (b k : ℕ) → b + k ≤ length m → ((j : ℕ) → At b k j → P j → ⊥) → midOf b k m′ ≡ midOf b k m
   same-mid b k h f = same-part m′ m b b k (rw (o .long) h) h (λ i q. o .same (b + i) (f (b + i) (omega arith, omega arith)))
+
+-- two parts that were lent one after the other, first the one that lies behind
+pub record Both (a b k : ℕ) (m m₁ m₂ xs ys : List ℕ) : Type 0 where
+  pub only : Only (Either (At a k) (At b k)) m m₂
+  pub low : midOf a k m₂ ≡ xs
+  pub high : midOf b k m₂ ≡ ys
+  pub was : midOf a (a + k - a) m₁ ≡ midOf a k m
+
+pub both-lent : (m : List ℕ) (a b k : ℕ) (xs ys m₁ : List ℕ) → a + k ≤ b → b + k ≤ length m → m₁ ≡ putMid b (b + k - b) m ys → length ys ≡ length (midOf b (b + k - b) m)
+    → length xs ≡ length (midOf a (a + k - a) m₁) → Both a b k m m₁ (putMid a (a + k - a) m₁ xs) xs ys
+both-lent m a b k xs ys m₁ h g e ly lx =
+    let part : a + k - a ≡ k = omega arith in
+    let y : Only (At b k) m m₁ × (midOf b k m₁ ≡ ys) = rw e (lent m b k ys g ly) in
+    let room : a + k ≤ length m₁ = omega (arith, y .0 .long) in
+    let x = lent m₁ a k xs room lx in
+    let m₂ = putMid a (a + k - a) m₁ xs in
+    record {
+      only = only-both (Either (At a k) (At b k)) m m₁ m₂ (only-more (At b k) (Either (At a k) (At b k)) m m₁ (λ j i. inr i) (y .0)) (only-more (At a k) (Either (At a k) (At b k)) m₁ m₂ (λ j i. inl i) (x .0));
+      low = x .1;
+      high = same-mid (At a k) m₁ m₂ (x .0) b k (rw (y .0 .long) g) (λ j i n. omega (arith, i .0, n .1)) ∙ y .1;
+      was = rw part (same-mid (At b k) m m₁ (y .0) a k (omega arith) (λ j i n. omega (arith, i .1, n .0)));
+    }
 
 -- the whole, of the region that changed
 pub put-only : (a k : ℕ) (m m′ : List ℕ) → Only (At a k) m m′ → a + k ≤ length m → m′ ≡ putMid a k m (midOf a k m′)
