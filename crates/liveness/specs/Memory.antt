@@ -10,15 +10,23 @@ use borrow.Rule.Slice.PartMut.{midOf, putMid}
 use Rattle.words.specs.Regions.{mid-long, get-mid}
 use Rattle.instruction.specs.Instruction.{ofWord, class}
 use Rattle.unit.specs.Size.{maxInstructions, metadataSize}
-use Rattle.effects.specs.Shape.{Tables}
-use Rattle.effects.specs.Cells.{cellOf}
+use Rattle.effects.specs.Shape.{Tables, cellAt}
+use Rattle.effects.specs.Cells.{cellOf, cellsBy, cell-at}
 use Rattle.effects.specs.Effects.{rangeWithin}
 use Rattle.effects.specs.Form.{emptyRange}
 use Rattle.effects.specs.Sound.{writesByClass}
 use Rattle.flow.specs.Branch.{branchInside}
 use Rattle.liveness.specs.declared.Layout.{Layout}
+use Rattle.liveness.specs.Only.{At, Only, same-mid}
 use Rattle.liveness.specs.Touched.{Fits}
 use Rattle.liveness.specs.Visit.{Rising}
+
+-- a cell of the code
+pub cell-in : (m metadata : List ℕ) (n p v : ℕ) → n ≤ length m → p < n → v ≡ getD m p 0 → cellAt (cellsBy (midOf 0 n m) metadata) p ≡ cellOf metadata p v
+cell-in m metadata n p v h l e =
+    let long : length (midOf 0 n m) ≡ n = mid-long m 0 n (omega arith) in
+    let at : 0 + p ≡ p = omega arith in
+    cell-at (midOf 0 n m) metadata p (rw long l) ∙ rw (get-mid m 0 n p 0 l, at, e)
 
 -- one after another, and all within the buffer
 pub record Laid (s : Layout) (room : ℕ) : Type 0 where
@@ -65,6 +73,28 @@ pub record Coded (s : Layout) (memory blocks : List ℕ) : Type 0 where
   pub long-blocks : length blocks ≡ s .code
   pub inside : (p : ℕ) → p < s .code → branchInside (s .code) p (ofWord (getD memory p 0)) ≡ true
   pub rows-inside : (q : ℕ) → q < s .code → s .width * getD blocks q 0 + s .width ≤ s .width * s .count
+
+-- what was written behind the code leaves all that
+module _ (s : Layout) (P : ℕ → Type 0) (m m′ : List ℕ) (o : Only P m m′) (past : (j : ℕ) → P j → s .code ≤ j) where
+  pub same-word : (p : ℕ) → p < s .code → getD m′ p 0 ≡ getD m p 0
+  same-word p h = o .same p (λ i. let q = past p i in omega arith)
+
+  pub same-code : Laid s (length m) → codeOf s m′ ≡ codeOf s m
+  same-code l = same-mid P m m′ o 0 (s .code) (omega (arith, l .row, l .uses, l .preserved, l .live, l .end)) (λ j h i. let q = past j i in omega (arith, h .1))
+
+  pub still-coded : (blocks : List ℕ) → Coded s m blocks → Coded s m′ blocks
+  still-coded blocks c = record {
+    laid = rw (o .long) (c .laid);
+    most = c .most;
+    long-blocks = c .long-blocks;
+    inside = λ p h. rw (same-word p h) (c .inside p h);
+    rows-inside = c .rows-inside;
+  }
+
+-- a set in the row leaves the blocks' live sets
+pub same-live : (s : Layout) (m m′ : List ℕ) → Laid s (length m) → Only (At (s .row) (s .width)) m m′ → liveOf s m′ ≡ liveOf s m
+same-live s m m′ l o =
+    same-mid (At (s .row) (s .width)) m m′ o (s .live) (s .width * s .count) (l .end) (λ j h i. omega (arith, h .0, i .1, l .uses, l .preserved, l .live))
 
 -- what rounds start from
 pub record Ready (s : Layout) (memory blocks starts : List ℕ) : Type 0 where

@@ -58,28 +58,25 @@ fn summarize_place(
     );
 }
 
-// The sets of block b, of the places from start to end.
-pub fn summarize_block(
+// The two sets of the places from start to end.
+fn summarize_block(
     memory: &mut [u64],
-    sets: Layout,
+    uses: usize,
+    preserved: usize,
+    w: usize,
     metadata: &[u8],
     keep: &[u32],
     functions: &[u8],
     externs: &[u8],
     cases: &[u8],
-    b: usize,
     start: usize,
     end: usize,
 )
-    requires { ⌜ Laid sets (length (now memory)) × (b < sets .count) × (start ≤ end) × (end ≤ sets .code) × (metadataSize * sets .code ≤ length (now metadata)) × (length (now keep) ≡ sets .code) × ((p : ℕ) → p < sets .code → Fits (sets .width) (tablesOf (now functions) (now externs) (now cases)) (cellOf (now metadata) p (getD (now memory) p 0))) ⌝ }
-    ensures { λ _. ⌜ Summary (tablesOf (now (functions .entry)) (now (externs .entry)) (now (cases .entry))) (now (keep .entry)) (cellsBy (codeOf sets (now (memory .entry))) (now (metadata .entry))) (midOf (sets .uses + sets .width * b) (sets .width) (now (memory .exit))) (midOf (sets .preserved + sets .width * b) (sets .width) (now (memory .exit))) start (end - start) × Only (Either (At (sets .uses + sets .width * b) (sets .width)) (At (sets .preserved + sets .width * b) (sets .width))) (now (memory .entry)) (now (memory .exit)) ⌝ }
+    requires { ⌜ (end ≤ uses) × (uses + w ≤ preserved) × (preserved + w ≤ length (now memory)) × (start ≤ end) × (metadataSize * end ≤ length (now metadata)) × (end ≤ length (now keep)) × ((p : ℕ) → p < end → Fits w (tablesOf (now functions) (now externs) (now cases)) (cellOf (now metadata) p (getD (now memory) p 0))) ⌝ }
+    ensures { λ _. ⌜ ((n : ℕ) → end ≤ n → n ≤ uses → Summary (tablesOf (now (functions .entry)) (now (externs .entry)) (now (cases .entry))) (now (keep .entry)) (cellsBy (midOf 0 n (now (memory .entry))) (now (metadata .entry))) (midOf uses w (now (memory .exit))) (midOf preserved w (now (memory .exit))) start (end - start)) × Only (Either (At uses w) (At preserved w)) (now (memory .entry)) (now (memory .exit)) ⌝ }
 {
-    let w = sets.width;
-    let at = w * b;
-    let uses = sets.uses + at;
-    let preserved = sets.preserved + at;
-    row::fill(&mut memory[uses..uses + w], 0);
     row::fill(&mut memory[preserved..preserved + w], u64::MAX);
+    row::fill(&mut memory[uses..uses + w], 0);
     let mut p = end;
     while p > start {
         p -= 1;
@@ -114,17 +111,19 @@ pub fn summarize(
 {
     let mut b: usize = 0;
     while b < sets.count {
+        let at = sets.width * b;
         let start = starts[b] as usize;
         let end = starts[b + 1] as usize;
         summarize_block(
             memory,
-            sets,
+            sets.uses + at,
+            sets.preserved + at,
+            sets.width,
             metadata,
             keep,
             functions,
             externs,
             cases,
-            b,
             start,
             end,
         );

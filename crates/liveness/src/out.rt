@@ -33,7 +33,9 @@ pub fn live_out(memory: &mut [u64], blocks: &[u32], sets: Layout, p: usize)
     let i = Instruction::from_word(memory[p]);
     let c = i.class();
     let next = p as u64 + 1;
-    row::fill(&mut memory[sets.row..sets.row + sets.width], 0);
+    let start = sets.row;
+    let end = start + sets.width;
+    row::fill(&mut memory[start..end], 0);
     join_if(
         memory,
         blocks,

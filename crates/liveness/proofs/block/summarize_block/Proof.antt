@@ -1,105 +1,98 @@
+use mathlib.Core.Path.{_≡_, refl, sym, _∙_}
+use mathlib.Core.Logic.{⊎-elim}
+use mathlib.Core.List.{List}
+use Prim.Native.Nat.{ℕ, suc, _+_, _-_, _≤_, _<_}
+use native.Mathlib.Omega.{arith}
+use lib.ListN.{length, getD}
+use borrow.Rule.Slice.PartMut.{midOf, putMid}
+use Rattle.words.specs.Regions.{mid-long}
+use Rattle.effects.specs.Shape.{Tables, tablesOf}
+use Rattle.effects.specs.Cells.{cellsBy}
+use Rattle.liveness.specs.Memory.{cell-in}
+use Rattle.liveness.specs.Only.{At, Either, Only, only-none, only-both, lent-long, both-lent, same-mid}
+use Rattle.liveness.specs.Through.{Summary, summary-begin, summary-turn}
+use borrow.Author.Needs.{needs}
 use Rattle.liveness.proofs.block.summarize_block.Statement.{statement}
 use Rattle.liveness.proofs.block.summarize_block.Tie as tie
-use Rattle.liveness.proofs.block.summarize_block.Reads as reads
-use Rattle.liveness.proofs.block.summarize_block.Lts as lts
-use Rattle.liveness.proofs.block.summarize_place.Reads as summarize-place-reads
-use Rattle.liveness.proofs.row.fill.Reads as fill-reads
 
 abbrev Inv-loop : tie.InvT-loop
-Inv-loop memory₀ metadata keep functions externs cases b start end w at uses preserved p₀ memory p =
-    ?
+Inv-loop memory₀ uses preserved w metadata keep functions externs cases start end p₀ memory p =
+    (start ≤ p) × (p ≤ end) × (length memory ≡ length memory₀) × Only (Either (At uses w) (At preserved w)) memory₀ memory
+    × ((n : ℕ) → end ≤ n → n ≤ uses → Summary (tablesOf functions externs cases) keep (cellsBy (midOf 0 n memory₀) metadata) (midOf uses w memory) (midOf preserved w memory) p (end - p))
 
 abbrev μ-loop : tie.MeasureT-loop
-μ-loop memory₀ metadata keep functions externs cases b start end w at uses preserved p₀ memory p =
-    ?
+μ-loop memory₀ uses preserved w metadata keep functions externs cases start end p₀ memory p = p - start
 
--- src/block.rt:78:14
-mul-at : tie.Need-mul-at Inv-loop μ-loop
-mul-at c = ?
-
--- src/block.rt:79:16
-add-uses : tie.Need-add-uses Inv-loop μ-loop
-add-uses c = ?
-
--- src/block.rt:80:21
-add-preserved : tie.Need-add-preserved Inv-loop μ-loop
-add-preserved c = ?
-
--- src/block.rt:81:33
-add-fill : tie.Need-add-fill Inv-loop μ-loop
-add-fill c = ?
-
--- src/block.rt:81:15
-mul-fill : tie.Need-mul-fill Inv-loop μ-loop
-mul-fill c = ?
-
--- src/block.rt:81:15
-sub-fill : tie.Need-sub-fill Inv-loop μ-loop
-sub-fill c = ?
-
--- src/block.rt:81:15
-part-fill-start : tie.Need-part-fill-start Inv-loop μ-loop
-part-fill-start c = ?
-
--- src/block.rt:81:15
-part-fill-end : tie.Need-part-fill-end Inv-loop μ-loop
-part-fill-end c = ?
-
--- src/block.rt:81:5
-fill-requires : tie.Need-fill-requires Inv-loop μ-loop
-fill-requires c κs = ?
-
--- src/block.rt:82:38
-add-fill-2 : tie.Need-add-fill-2 Inv-loop μ-loop
-add-fill-2 c = ?
-
--- src/block.rt:82:15
-mul-fill-2 : tie.Need-mul-fill-2 Inv-loop μ-loop
-mul-fill-2 c = ?
-
--- src/block.rt:82:15
-sub-fill-2 : tie.Need-sub-fill-2 Inv-loop μ-loop
-sub-fill-2 c = ?
-
--- src/block.rt:82:15
-part-fill-start-2 : tie.Need-part-fill-start-2 Inv-loop μ-loop
-part-fill-start-2 c = ?
-
--- src/block.rt:82:15
-part-fill-end-2 : tie.Need-part-fill-end-2 Inv-loop μ-loop
-part-fill-end-2 c = ?
-
--- src/block.rt:82:5
-fill-requires-2 : tie.Need-fill-requires-2 Inv-loop μ-loop
-fill-requires-2 c κs = ?
-
--- src/block.rt:84:5
 loop-holds : tie.Need-loop-holds Inv-loop μ-loop
-loop-holds c = ?
+loop-holds c =
+    let s = c .before .before .before .before .before .before .before .before .before .before .before .before .before .before in
+    let v = c .before .before .before .before .before .before .fill in
+    let u = c .before .before .fill2 in
+    let T : Tables = tablesOf (s .args .functions .now) (s .args .externs .now) (s .args .cases .now) in
+    let m = s .args .memory .now in
+    let x = both-lent m (s .args .uses) (s .args .preserved) (s .args .w) (u .last .0) (v .last .0) _ (s .pre .1) (s .pre .2) refl (v .kept .0) (u .kept .0) in
+    let long : length (midOf (s .args .uses) (s .args .w) m) ≡ s .args .w = mid-long m (s .args .uses) (s .args .w) (omega arith) in
+    let none = rw (x .was, long) at (u .ensures) in
+    let all = rw (lent-long m (s .args .preserved) (s .args .w) (s .pre .2)) at (v .ensures) in
+    (s .pre .3, omega arith, refl, only-none _ _, λ n h g. summary-begin T (s .args .keep .now) _ (s .args .w) _ _ _ _ _ refl (omega arith) (x .low ∙ none) (x .high ∙ all) (rw (x .low) (rw (x .was, long) at (u .kept .0))))
 
--- src/block.rt:85:9
-sub-p : tie.Need-sub-p Inv-loop μ-loop
-sub-p c = ?
-
--- src/block.rt:86:9
 summarize-place-requires : tie.Need-summarize-place-requires Inv-loop μ-loop
-summarize-place-requires c κs = ?
+summarize-place-requires c κs =
+    let s = c .before .before .before .before .before .before .before .before .before .before .before .before .before .before .before .before .before in
+    let v = c .before .before .before .before .before .before .before .before .before .fill in
+    let u = c .before .before .before .before .before .fill2 in
+    let l = c .before .before .loop in
+    let m = s .args .memory .now in
+    let x = both-lent m (s .args .uses) (s .args .preserved) (s .args .w) (u .last .0) (v .last .0) _ (s .pre .1) (s .pre .2) refl (v .kept .0) (u .kept .0) in
+    let o = only-both _ _ _ _ (x .only) (l .inv .3) in
+    let same = o .same (l .p - 1) (⊎-elim (λ i. omega (arith, i .0)) (λ i. omega (arith, i .0))) in
+    (omega arith, s .pre .1, rw (o .long) (s .pre .2), omega arith, omega arith, rw same (s .pre .6 (l .p - 1) (omega arith)))
 
--- src/block.rt:84:5
-loop-less : tie.Need-loop-less Inv-loop μ-loop
-loop-less c = ?
-
--- src/block.rt:84:5
 loop-again : tie.Need-loop-again Inv-loop μ-loop
-loop-again c = ?
+loop-again c =
+    let s = c .before .before .before .before .before .before .before .before .before .before .before .before .before .before .before .before .before .before .before .before in
+    let v = c .before .before .before .before .before .before .before .before .before .before .before .before .fill in
+    let u = c .before .before .before .before .before .before .before .before .fill2 in
+    let l = c .before .before .before .before .before .loop in
+    let y = c .before .before .summarize-place in
+    let T : Tables = tablesOf (s .args .functions .now) (s .args .externs .now) (s .args .cases .now) in
+    let m = s .args .memory .now in
+    let x = both-lent m (s .args .uses) (s .args .preserved) (s .args .w) (u .last .0) (v .last .0) _ (s .pre .1) (s .pre .2) refl (v .kept .0) (u .kept .0) in
+    let m₂ = putMid (s .args .uses) (s .args .uses + s .args .w - s .args .uses) (putMid (s .args .preserved) (s .args .preserved + s .args .w - s .args .preserved) m (v .last .0)) (u .last .0) in
+    let q : l .p ≡ suc (l .p - 1) = omega arith in
+    let same = l .inv .3 .same (l .p - 1) (⊎-elim (λ i. omega (arith, i .0)) (λ i. omega (arith, i .0))) in
+    let room : s .args .uses + s .args .w ≤ length (l .memory) = rw (l .inv .2, x .only .long) (omega arith) in
+    let long : length (midOf (s .args .uses) (s .args .w) (y .last .0)) ≡ length (midOf (s .args .uses) (s .args .w) (l .memory)) = mid-long (y .last .0) (s .args .uses) (s .args .w) (rw (y .kept .0) room) ∙ sym (mid-long (l .memory) (s .args .uses) (s .args .w) room) in (
+      omega arith,
+      omega arith,
+      y .kept .0 ∙ l .inv .2,
+      only-both _ _ _ _ (l .inv .3) (y .ensures .1),
+      λ n h g.
+          let within : n ≤ length m₂ = rw (x .only .long) (omega arith) in
+          summary-turn T (s .args .keep .now) (cellsBy (midOf 0 n m₂) (s .args .metadata .now)) _ _ _ _ _ _ _ _ q (l .inv .1) (cell-in m₂ (s .args .metadata .now) n (l .p - 1) _ within (omega arith) same) (l .inv .4 n h g) long (y .ensures .0),
+    )
 
--- src/block.rt:62:1
 same-length : tie.Need-same-length Inv-loop μ-loop
-same-length c = ?
+same-length c =
+    let s = c .before .before .before .before .before .before .before .before .before .before .before .before .before .before .before .before in
+    let v = c .before .before .before .before .before .before .before .before .fill in
+    let u = c .before .before .before .before .fill2 in
+    c .before .loop .inv .2 ∙ both-lent (s .args .memory .now) (s .args .uses) (s .args .preserved) (s .args .w) (u .last .0) (v .last .0) _ (s .pre .1) (s .pre .2) refl (v .kept .0) (u .kept .0) .only .long
 
--- src/block.rt:62:1
 returns : tie.Need-returns Inv-loop μ-loop
-returns c = ?
+returns c =
+    let s = c .before .before .before .before .before .before .before .before .before .before .before .before .before .before .before .before in
+    let v = c .before .before .before .before .before .before .before .before .fill in
+    let u = c .before .before .before .before .fill2 in
+    let l = c .before .loop in
+    let m = s .args .memory .now in
+    let x = both-lent m (s .args .uses) (s .args .preserved) (s .args .w) (u .last .0) (v .last .0) _ (s .pre .1) (s .pre .2) refl (v .kept .0) (u .kept .0) in
+    let end : l .p ≡ s .args .start = omega arith in (
+      λ n h g.
+          let code = same-mid _ m _ (x .only) 0 n (omega arith) (λ j i. ⊎-elim (λ k. omega (arith, i .1, k .0)) (λ k. omega (arith, i .1, k .0))) in
+          rw (code, end) at (l .inv .4 n h g),
+      only-both _ _ _ _ (x .only) (l .inv .3),
+    )
 
 pub summarize-block-spec : {M : Type 1} → statement M
 summarize-block-spec =
@@ -107,25 +100,22 @@ summarize-block-spec =
     (tie.spec
     Inv-loop
     μ-loop
-    mul-at
-    add-uses
-    add-preserved
-    add-fill
-    mul-fill
-    sub-fill
-    part-fill-start
-    part-fill-end
-    fill-requires
-    add-fill-2
-    mul-fill-2
-    sub-fill-2
-    part-fill-start-2
-    part-fill-end-2
-    fill-requires-2
+    (λ c. search needs)
+    (λ c. search needs)
+    (λ c. search needs)
+    (λ c. search needs)
+    (λ c. search needs)
+    (λ c κs. search needs)
+    (λ c. search needs)
+    (λ c. search needs)
+    (λ c. search needs)
+    (λ c. search needs)
+    (λ c. search needs)
+    (λ c κs. search needs)
     loop-holds
-    sub-p
+    (λ c. search needs)
     summarize-place-requires
-    loop-less
+    (λ c. search needs)
     loop-again
     same-length
     returns)

@@ -1,73 +1,48 @@
+use mathlib.Core.Path.{_≡_, refl, sym, _∙_}
+use Prim.Native.Nat.{_+_, _≤_, _-_}
+use native.Mathlib.Omega.{arith}
+use lib.ListN.{length}
+use borrow.Rule.Slice.PartMut.{midOf}
+use Rattle.words.specs.Regions.{mid-long}
+use Rattle.liveness.specs.Only.{At, Only, only-none}
+use Rattle.liveness.specs.Wordwise.{orWords, or-past, joined-sets, Stored, stored-begin, stored-end, part-only, part-other, part-old, part-turn}
+use borrow.Author.Needs.{needs}
 use Rattle.liveness.proofs.row.join.Statement.{statement}
 use Rattle.liveness.proofs.row.join.Tie as tie
-use Rattle.liveness.proofs.row.join.Reads as reads
-use Rattle.liveness.proofs.row.join.Lts as lts
 
 abbrev Inv-loop : tie.InvT-loop
-Inv-loop memory₀ a b w k₀ memory k = ?
+Inv-loop memory₀ a b w k₀ memory k = (k ≤ w) × (length memory ≡ length memory₀) × Only (At a w) memory₀ memory × Stored (orWords (midOf a w memory₀) (midOf b w memory₀)) (midOf a w memory₀) (midOf a w memory) k
 
 abbrev μ-loop : tie.MeasureT-loop
-μ-loop memory₀ a b w k₀ memory k = ?
+μ-loop memory₀ a b w k₀ memory k = w - k
 
--- src/row.rt:71:5
 loop-holds : tie.Need-loop-holds Inv-loop μ-loop
-loop-holds c = ?
+loop-holds c = (omega arith, refl, only-none _ _, stored-begin _ _)
 
--- src/row.rt:72:24
-add-x : tie.Need-add-x Inv-loop μ-loop
-add-x c = ?
-
--- src/row.rt:72:17
-mul-x : tie.Need-mul-x Inv-loop μ-loop
-mul-x c = ?
-
--- src/row.rt:72:17
-slice-read-x : tie.Need-slice-read-x Inv-loop μ-loop
-slice-read-x c = ?
-
--- src/row.rt:73:36
-add-memory : tie.Need-add-memory Inv-loop μ-loop
-add-memory c = ?
-
--- src/row.rt:73:29
-mul-memory : tie.Need-mul-memory Inv-loop μ-loop
-mul-memory c = ?
-
--- src/row.rt:73:29
-slice-read-memory : tie.Need-slice-read-memory Inv-loop μ-loop
-slice-read-memory c = ?
-
--- src/row.rt:73:16
-add-memory-2 : tie.Need-add-memory-2 Inv-loop μ-loop
-add-memory-2 c = ?
-
--- src/row.rt:73:9
-mul-memory-2 : tie.Need-mul-memory-2 Inv-loop μ-loop
-mul-memory-2 c = ?
-
--- src/row.rt:73:9
-slice-write-memory : tie.Need-slice-write-memory Inv-loop μ-loop
-slice-write-memory c = ?
-
--- src/row.rt:74:9
-add-k : tie.Need-add-k Inv-loop μ-loop
-add-k c = ?
-
--- src/row.rt:71:5
-loop-less : tie.Need-loop-less Inv-loop μ-loop
-loop-less c = ?
-
--- src/row.rt:71:5
 loop-again : tie.Need-loop-again Inv-loop μ-loop
-loop-again c = ?
+loop-again c =
+    let s = c .before .before .before .before in
+    let l = c .before .before .before .loop in
+    let m = s .args .memory .now in
+    let room : s .args .a + s .args .w ≤ length m = omega arith in
+    let h = c .before .before .loop-test .taken in
+    let own = part-old m (l .memory) (s .args .a) (s .args .w) (l .k) (l .inv .2) room h _ (l .inv .3) in
+    let other = part-other m (l .memory) (s .args .a) (s .args .w) (l .k) (l .inv .2) room h (s .args .b) (λ i. omega (arith, i .1)) in
+    let more : l .k + 1 ≤ s .args .w = omega arith in
+    let only = part-only m (l .memory) (s .args .a) (s .args .w) (l .k) (l .inv .2) room h _ in
+    (more, only .long, only, part-turn m (l .memory) (s .args .a) (s .args .w) (l .k) (l .inv .2) room h _ _ (l .inv .3) (rw (own, other)))
 
--- src/row.rt:66:1
 same-length : tie.Need-same-length Inv-loop μ-loop
-same-length c = ?
+same-length c = c .before .loop .inv .1
 
--- src/row.rt:66:1
 returns : tie.Need-returns Inv-loop μ-loop
-returns c = ?
+returns c =
+    let s = c .before .before in
+    let l = c .before .loop in
+    let m = s .args .memory .now in
+    let long : length (midOf (s .args .a) (s .args .w) m) ≡ s .args .w = mid-long m (s .args .a) (s .args .w) (omega arith) in
+    let same : length (midOf (s .args .b) (s .args .w) m) ≡ s .args .w = mid-long m (s .args .b) (s .args .w) (omega arith) in
+    (joined-sets _ _ _ (stored-end _ _ _ _ (l .inv .3) (omega arith) (or-past (midOf (s .args .a) (s .args .w) m) (midOf (s .args .b) (s .args .w) m) (same ∙ sym long))), l .inv .2)
 
 pub join-spec : {M : Type 1} → statement M
 join-spec =
@@ -76,17 +51,17 @@ join-spec =
     Inv-loop
     μ-loop
     loop-holds
-    add-x
-    mul-x
-    slice-read-x
-    add-memory
-    mul-memory
-    slice-read-memory
-    add-memory-2
-    mul-memory-2
-    slice-write-memory
-    add-k
-    loop-less
+    (λ c. search needs)
+    (λ c. search needs)
+    (λ c. search needs)
+    (λ c. search needs)
+    (λ c. search needs)
+    (λ c. search needs)
+    (λ c. search needs)
+    (λ c. search needs)
+    (λ c. search needs)
+    (λ c. search needs)
+    (λ c. search needs)
     loop-again
     same-length
     returns)

@@ -1,97 +1,61 @@
+use mathlib.Core.Path.{_≡_, refl, sym, _∙_}
+use Prim.Native.Nat.{_+_, _-_, _≤_, _<_, _^_}
+use native.Mathlib.Omega.{arith}
+use lib.ListN.{length, getD}
+use lib.Bits.{or-lt, and-lt}
+use borrow.Rule.Slice.PartMut.{midOf}
+use Rattle.words.specs.Regions.{mid-long}
+use Rattle.liveness.specs.Only.{At, Only, only-none}
+use Rattle.liveness.specs.Wordwise.{transferWords, transfer-past, transferred-sets, stored-end, Storing, storing-begin, moved, part-only, part-other, part-moves}
+use borrow.Author.Needs.{needs}
 use Rattle.liveness.proofs.row.transfer.Statement.{statement}
 use Rattle.liveness.proofs.row.transfer.Tie as tie
-use Rattle.liveness.proofs.row.transfer.Reads as reads
-use Rattle.liveness.proofs.row.transfer.Lts as lts
 
 abbrev Inv-loop : tie.InvT-loop
-Inv-loop memory₀ live uses preserved out w changes₀ k₀ memory changes k = ?
+Inv-loop memory₀ live uses preserved out w changes₀ k₀ memory changes k =
+    (k ≤ w) × (length memory ≡ length memory₀) × Only (At live w) memory₀ memory
+    × Storing (transferWords (midOf uses w memory₀) (midOf out w memory₀) (midOf preserved w memory₀)) (midOf live w memory₀) (midOf live w memory) k changes
 
 abbrev μ-loop : tie.MeasureT-loop
-μ-loop memory₀ live uses preserved out w changes₀ k₀ memory changes k = ?
+μ-loop memory₀ live uses preserved out w changes₀ k₀ memory changes k = w - k
 
--- src/row.rt:93:5
 loop-holds : tie.Need-loop-holds Inv-loop μ-loop
-loop-holds c = ?
+loop-holds c = (omega arith, refl, only-none _ _, storing-begin _ _)
 
--- src/row.rt:94:24
-add-x : tie.Need-add-x Inv-loop μ-loop
-add-x c = ?
-
--- src/row.rt:94:17
-mul-x : tie.Need-mul-x Inv-loop μ-loop
-mul-x c = ?
-
--- src/row.rt:94:17
-slice-read-x : tie.Need-slice-read-x Inv-loop μ-loop
-slice-read-x c = ?
-
--- src/row.rt:95:24
-add-y : tie.Need-add-y Inv-loop μ-loop
-add-y c = ?
-
--- src/row.rt:95:17
-mul-y : tie.Need-mul-y Inv-loop μ-loop
-mul-y c = ?
-
--- src/row.rt:95:17
-slice-read-y : tie.Need-slice-read-y Inv-loop μ-loop
-slice-read-y c = ?
-
--- src/row.rt:95:44
-add-y-2 : tie.Need-add-y-2 Inv-loop μ-loop
-add-y-2 c = ?
-
--- src/row.rt:95:37
-mul-y-2 : tie.Need-mul-y-2 Inv-loop μ-loop
-mul-y-2 c = ?
-
--- src/row.rt:95:37
-slice-read-y-2 : tie.Need-slice-read-y-2 Inv-loop μ-loop
-slice-read-y-2 c = ?
-
--- src/row.rt:95:62
-add-y-3 : tie.Need-add-y-3 Inv-loop μ-loop
-add-y-3 c = ?
-
--- src/row.rt:95:55
-mul-y-3 : tie.Need-mul-y-3 Inv-loop μ-loop
-mul-y-3 c = ?
-
--- src/row.rt:95:55
-slice-read-y-3 : tie.Need-slice-read-y-3 Inv-loop μ-loop
-slice-read-y-3 c = ?
-
--- src/row.rt:96:16
-add-memory : tie.Need-add-memory Inv-loop μ-loop
-add-memory c = ?
-
--- src/row.rt:96:9
-mul-memory : tie.Need-mul-memory Inv-loop μ-loop
-mul-memory c = ?
-
--- src/row.rt:96:9
-slice-write-memory : tie.Need-slice-write-memory Inv-loop μ-loop
-slice-write-memory c = ?
-
--- src/row.rt:98:9
-add-k : tie.Need-add-k Inv-loop μ-loop
-add-k c = ?
-
--- src/row.rt:93:5
-loop-less : tie.Need-loop-less Inv-loop μ-loop
-loop-less c = ?
-
--- src/row.rt:93:5
 loop-again : tie.Need-loop-again Inv-loop μ-loop
-loop-again c = ?
+loop-again c =
+    let s = c .before .before .before .before .before .before .args in
+    let l = c .before .before .before .before .before .loop in
+    let m = s .memory .now in
+    let room : s .live + s .w ≤ length m = omega arith in
+    let h = c .before .before .before .before .loop-test .taken in
+    let more : l .k + 1 ≤ s .w = omega arith in
+    let old : getD (l .memory) (s .live + l .k) 0 < 2 ^ 64 = omega (arith, c .slice-known4 .given (s .live + l .k)) in
+    let eu = part-other m (l .memory) (s .live) (s .w) (l .k) (l .inv .2) room h (s .uses) (λ i. omega (arith, i .0)) in
+    let eo = part-other m (l .memory) (s .live) (s .w) (l .k) (l .inv .2) room h (s .out) (λ i. omega (arith, i .0)) in
+    let ep = part-other m (l .memory) (s .live) (s .w) (l .k) (l .inv .2) room h (s .preserved) (λ i. omega (arith, i .0)) in
+    let u : getD (midOf (s .uses) (s .w) m) (l .k) 0 < 2 ^ 64 = rw (← eu) (omega (arith, c .slice-known4 .given (s .uses + l .k))) in
+    let o : getD (midOf (s .out) (s .w) m) (l .k) 0 < 2 ^ 64 = rw (← eo) (omega (arith, c .slice-known4 .given (s .out + l .k))) in
+    let p : getD (midOf (s .preserved) (s .w) m) (l .k) 0 < 2 ^ 64 = rw (← ep) (omega (arith, c .slice-known4 .given (s .preserved + l .k))) in
+    let only = part-only m (l .memory) (s .live) (s .w) (l .k) (l .inv .2) room h _ in
+    (more, only .long, only, part-moves m (l .memory) (s .live) (s .w) (l .k) (l .inv .2) room h _ _ _ (l .inv .3) (rw (eu, eo, ep)) old (or-lt 64 _ _ u (and-lt 64 _ _ o p)))
 
--- src/row.rt:80:1
 same-length : tie.Need-same-length Inv-loop μ-loop
-same-length c = ?
+same-length c = c .before .loop .inv .1
 
--- src/row.rt:80:1
 returns : tie.Need-returns Inv-loop μ-loop
-returns c = ?
+returns c =
+    let s = c .before .before .args in
+    let l = c .before .loop in
+    let m = s .memory .now in
+    let long : length (midOf (s .live) (s .w) m) ≡ s .w = mid-long m (s .live) (s .w) (omega arith) in
+    let lu : length (midOf (s .uses) (s .w) m) ≡ s .w = mid-long m (s .uses) (s .w) (omega arith) in
+    let lo : length (midOf (s .out) (s .w) m) ≡ s .w = mid-long m (s .out) (s .w) (omega arith) in (
+      transferred-sets (midOf (s .uses) (s .w) m) (midOf (s .out) (s .w) m) (midOf (s .preserved) (s .w) m) _
+          (stored-end _ _ _ _ (l .inv .3 .stored) (omega arith) (transfer-past (midOf (s .uses) (s .w) m) (midOf (s .out) (s .w) m) (midOf (s .preserved) (s .w) m) _ (lu ∙ sym long) (lo ∙ sym long))),
+      moved _ _ _ _ _ (l .inv .3) (omega arith),
+      l .inv .2,
+    )
 
 pub transfer-spec : {M : Type 1} → statement M
 transfer-spec =
@@ -100,23 +64,23 @@ transfer-spec =
     Inv-loop
     μ-loop
     loop-holds
-    add-x
-    mul-x
-    slice-read-x
-    add-y
-    mul-y
-    slice-read-y
-    add-y-2
-    mul-y-2
-    slice-read-y-2
-    add-y-3
-    mul-y-3
-    slice-read-y-3
-    add-memory
-    mul-memory
-    slice-write-memory
-    add-k
-    loop-less
+    (λ c. search needs)
+    (λ c. search needs)
+    (λ c. search needs)
+    (λ c. search needs)
+    (λ c. search needs)
+    (λ c. search needs)
+    (λ c. search needs)
+    (λ c. search needs)
+    (λ c. search needs)
+    (λ c. search needs)
+    (λ c. search needs)
+    (λ c. search needs)
+    (λ c. search needs)
+    (λ c. search needs)
+    (λ c. search needs)
+    (λ c. search needs)
+    (λ c. search needs)
     loop-again
     same-length
     returns)
