@@ -48,10 +48,10 @@ module _ (S : Sections) (leaders keep₀ : List ℕ) (cells : List Cell) (rows :
   abbrev pub sweepAt : ℕ → dead.Swept
   sweepAt p = sweepFrom S (length cells) leaders keep₀ rows p (drop p cells)
 
-  abbrev afterAt : ℕ → Row
+  abbrev pub afterAt : ℕ → Row
   afterAt p = liveAfter S (length cells) leaders keep₀ rows p (cellAt cells p) (sweepAt (suc p) .before)
 
-  abbrev stays : ℕ → Bool
+  abbrev pub stays : ℕ → Bool
   stays p = isKept keep₀ p && not (isDead S (cellAt cells p) (afterAt p))
 
   sweep-at : (p : ℕ) → p < length cells → sweepAt p ≡ sweptAt S (length cells) leaders keep₀ rows (cellAt cells p) (isKept keep₀ p) (afterAt p) (sweepAt (suc p))
@@ -73,7 +73,7 @@ module _ (S : Sections) (leaders keep₀ : List ℕ) (cells : List Cell) (rows :
       go false = refl
   swept-before x false a r = refl
 
-  swept-keep : (x : Cell) (k : Bool) (a : Row) (r : dead.Swept) → sweptAt S (length cells) leaders keep₀ rows x k a r .keep ≡ cond (k && not (isDead S x a)) 1 0 ∷ r .keep
+  pub swept-keep : (x : Cell) (k : Bool) (a : Row) (r : dead.Swept) → sweptAt S (length cells) leaders keep₀ rows x k a r .keep ≡ cond (k && not (isDead S x a)) 1 0 ∷ r .keep
   unfolding sweptAt goes remains
   swept-keep x true a r = go (isDead S x a)
     where
@@ -82,10 +82,10 @@ module _ (S : Sections) (leaders keep₀ : List ℕ) (cells : List Cell) (rows :
       go false = refl
   swept-keep x false a r = refl
 
-  before-at : (p : ℕ) → p < length cells → sweepAt p .before ≡ cond (stays p) (liveBefore (S .tables) (cellAt cells p) (afterAt p)) (afterAt p)
+  pub before-at : (p : ℕ) → p < length cells → sweepAt p .before ≡ cond (stays p) (liveBefore (S .tables) (cellAt cells p) (afterAt p)) (afterAt p)
   before-at p h = ap (λ (r : dead.Swept). r .before) (sweep-at p h) ∙ swept-before (cellAt cells p) (isKept keep₀ p) (afterAt p) (sweepAt (suc p))
 
-  keep-at : (p : ℕ) → p < length cells → sweepAt p .keep ≡ cond (stays p) 1 0 ∷ sweepAt (suc p) .keep
+  pub keep-at : (p : ℕ) → p < length cells → sweepAt p .keep ≡ cond (stays p) 1 0 ∷ sweepAt (suc p) .keep
   keep-at p h = ap (λ (r : dead.Swept). r .keep) (sweep-at p h) ∙ swept-keep (cellAt cells p) (isKept keep₀ p) (afterAt p) (sweepAt (suc p))
 
   -- what the sweep starts from
