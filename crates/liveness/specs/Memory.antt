@@ -1,6 +1,7 @@
 -- The code and the sets of slots in one buffer of words, and what is known of the places in one of numbers.
 -- Assumes nothing.
 use mathlib.Core.Path.{_≡_, refl, sym, ap, _∙_}
+use mathlib.Core.Logic.{⊎-elim, inl, inr}
 use mathlib.Core.Bool.{true}
 use mathlib.Core.List.{List}
 use Prim.Native.Nat.{ℕ, _+_, _*_, _-_, _≤_, _<_}
@@ -10,16 +11,18 @@ use borrow.Rule.Slice.PartMut.{midOf, putMid}
 use Rattle.words.specs.Regions.{mid-long, get-mid}
 use Rattle.instruction.specs.Instruction.{ofWord, class}
 use Rattle.unit.specs.Size.{maxInstructions, metadataSize}
-use Rattle.effects.specs.Shape.{Tables, cellAt}
+use Rattle.effects.specs.Shape.{Tables, Cell, cellAt}
 use Rattle.effects.specs.Cells.{cellOf, cellsBy, cell-at}
 use Rattle.effects.specs.Effects.{rangeWithin}
 use Rattle.effects.specs.Form.{emptyRange}
 use Rattle.effects.specs.Sound.{writesByClass}
 use Rattle.flow.specs.Branch.{branchInside}
 use Rattle.liveness.specs.declared.Layout.{Layout}
-use Rattle.liveness.specs.Only.{At, Only, same-mid}
+use Rattle.liveness.specs.Only.{At, Either, Only, only-more, same-mid, put-mid}
+use Rattle.liveness.specs.Shown.{row-before}
+use Rattle.liveness.specs.Through.{Summary}
 use Rattle.liveness.specs.Touched.{Fits}
-use Rattle.liveness.specs.Visit.{Rising}
+use Rattle.liveness.specs.Visit.{Rising, Summed, summed-turn}
 
 -- a cell of the code
 pub cell-in : (m metadata : List ℕ) (n p v : ℕ) → n ≤ length m → p < n → v ≡ getD m p 0 → cellAt (cellsBy (midOf 0 n m) metadata) p ≡ cellOf metadata p v
@@ -95,6 +98,40 @@ module _ (s : Layout) (P : ℕ → Type 0) (m m′ : List ℕ) (o : Only P m m�
 pub same-live : (s : Layout) (m m′ : List ℕ) → Laid s (length m) → Only (At (s .row) (s .width)) m m′ → liveOf s m′ ≡ liveOf s m
 same-live s m m′ l o =
     same-mid (At (s .row) (s .width)) m m′ o (s .live) (s .width * s .count) (l .end) (λ j h i. omega (arith, h .0, i .1, l .uses, l .preserved, l .live))
+
+-- ---- what is written into the blocks' sets
+
+abbrev pub InSums : Layout → ℕ → Type 0
+InSums s = Either (At (s .uses) (s .width * s .count)) (At (s .preserved) (s .width * s .count))
+
+pub past-sums : (s : Layout) (room : ℕ) → Laid s room → (j : ℕ) → InSums s j → s .code ≤ j
+past-sums s room l j = ⊎-elim (λ i. omega (arith, i .0, l .row, l .uses)) (λ i. omega (arith, i .0, l .row, l .uses, l .preserved))
+
+-- the two sets of block b
+module _ (s : Layout) (m m′ : List ℕ) (b : ℕ) (l : Laid s (length m)) (h : b < s .count)
+    (o : Only (Either (At (s .uses + s .width * b) (s .width)) (At (s .preserved + s .width * b) (s .width))) m m′) where
+  inner : s .width * b + s .width ≤ s .width * s .count
+  inner = row-before (s .width) b (s .count) h
+
+  pub in-sums : Only (InSums s) m m′
+  in-sums =
+      only-more (Either (At (s .uses + s .width * b) (s .width)) (At (s .preserved + s .width * b) (s .width))) (InSums s) m m′
+      (λ j. ⊎-elim (λ i. inl (omega (arith, i .0), omega (arith, i .1, inner))) (λ i. inr (omega (arith, i .0), omega (arith, i .1, inner)))) o
+
+  pub sums-turn : (T : Tables) (keep : List ℕ) (cells : List Cell) (starts : List ℕ) → Summed T keep cells (s .width) starts (usesOf s m) (preservedOf s m) b
+      → Summary T keep cells (midOf (s .uses + s .width * b) (s .width) m′) (midOf (s .preserved + s .width * b) (s .width) m′) (getD starts b 0) (getD starts (b + 1) 0 - getD starts b 0)
+      → Summed T keep cells (s .width) starts (usesOf s m′) (preservedOf s m′) (b + 1)
+  sums-turn T keep cells starts =
+      summed-turn T keep cells (s .width) starts (usesOf s m) (preservedOf s m) (usesOf s m′) (preservedOf s m′) _ _ b (s .count) h (mid-long m (s .uses) (s .width * s .count) ends) (mid-long m (s .preserved) (s .width * s .count) ends′)
+      (mid-long m′ (s .uses + s .width * b) (s .width) (rw (o .long) (omega (arith, ends, inner)))) (mid-long m′ (s .preserved + s .width * b) (s .width) (rw (o .long) (omega (arith, ends′, inner))))
+      (put-mid _ m m′ (s .uses) (s .width * s .count) (s .width * b) (s .width) o ends inner (λ j i. ⊎-elim (λ k. k) (λ k. absurd (omega (arith, i .1, k .0, l .preserved)))))
+      (put-mid _ m m′ (s .preserved) (s .width * s .count) (s .width * b) (s .width) o ends′ inner (λ j i. ⊎-elim (λ k. absurd (omega (arith, i .0, k .1, inner, l .preserved))) (λ k. k)))
+    where
+      ends : s .uses + s .width * s .count ≤ length m
+      ends = omega (arith, l .preserved, l .live, l .end)
+
+      ends′ : s .preserved + s .width * s .count ≤ length m
+      ends′ = omega (arith, l .live, l .end)
 
 -- what rounds start from
 pub record Ready (s : Layout) (memory blocks starts : List ℕ) : Type 0 where
