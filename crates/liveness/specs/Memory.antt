@@ -2,13 +2,15 @@
 -- Assumes nothing.
 use mathlib.Core.Path.{_≡_, refl, sym, ap, _∙_}
 use mathlib.Core.Logic.{⊎-elim, inl, inr}
-use mathlib.Core.Bool.{true}
+use mathlib.Core.Bool.{Bool, true, _&&_, _||_}
 use mathlib.Core.List.{List}
 use Prim.Native.Nat.{ℕ, _+_, _*_, _-_, _≤_, _<_}
 use native.Mathlib.Omega.{arith}
 use lib.ListN.{length, getD}
 use borrow.Rule.Slice.PartMut.{midOf, putMid}
+use Rattle.words.specs.Bits.{member}
 use Rattle.words.specs.Regions.{mid-long, get-mid}
+use Rattle.instruction.specs.declared.Instruction.{Instruction}
 use Rattle.instruction.specs.Instruction.{ofWord, class}
 use Rattle.unit.specs.Size.{maxInstructions, metadataSize}
 use Rattle.effects.specs.Shape.{Tables, Cell, cellAt}
@@ -18,11 +20,13 @@ use Rattle.effects.specs.Form.{emptyRange}
 use Rattle.effects.specs.Sound.{writesByClass}
 use Rattle.flow.specs.Branch.{branchInside}
 use Rattle.liveness.specs.declared.Layout.{Layout}
-use Rattle.liveness.specs.Only.{At, Either, Only, only-more, same-mid, put-mid}
-use Rattle.liveness.specs.Shown.{row-before}
+use Rattle.liveness.specs.Only.{At, Either, Only, only-both, only-more, mid-mid, same-mid, put-mid}
+use Rattle.liveness.specs.Out.{OutOf}
+use Rattle.liveness.specs.Shown.{rowAt, row-before}
 use Rattle.liveness.specs.Through.{Summary}
 use Rattle.liveness.specs.Touched.{Fits}
-use Rattle.liveness.specs.Visit.{Rising, Summed, summed-turn}
+use Rattle.liveness.specs.Visit.{Rising, Summed, Visited, summed-turn}
+use Rattle.liveness.specs.Wordwise.{Moved}
 
 -- a cell of the code
 pub cell-in : (m metadata : List ℕ) (n p v : ℕ) → n ≤ length m → p < n → v ≡ getD m p 0 → cellAt (cellsBy (midOf 0 n m) metadata) p ≡ cellOf metadata p v
@@ -132,6 +136,45 @@ module _ (s : Layout) (m m′ : List ℕ) (b : ℕ) (l : Laid s (length m)) (h :
 
       ends′ : s .preserved + s .width * s .count ≤ length m
       ends′ = omega (arith, l .live, l .end)
+
+abbrev pub InRows : Layout → ℕ → Type 0
+InRows s = Either (At (s .row) (s .width)) (At (s .live) (s .width * s .count))
+
+pub past-rows : (s : Layout) (room : ℕ) → Laid s room → (j : ℕ) → InRows s j → s .code ≤ j
+past-rows s room l j = ⊎-elim (λ i. omega (arith, i .0, l .row)) (λ i. omega (arith, i .0, l .row, l .uses, l .preserved, l .live))
+
+-- what is live at the end of block b, in the row, and then at its start
+module _ (s : Layout) (m m₁ m₂ : List ℕ) (b : ℕ) (l : Laid s (length m)) (h : b < s .count) (o : Only (At (s .row) (s .width)) m m₁) (o₁ : Only (At (s .live + s .width * b) (s .width)) m₁ m₂) where
+  room : s .width * b + s .width ≤ s .width * s .count
+  room = row-before (s .width) b (s .count) h
+
+  pub in-rows : Only (InRows s) m m₂
+  in-rows =
+      only-both (InRows s) m m₁ m₂ (only-more (At (s .row) (s .width)) (InRows s) m m₁ (λ j i. inl i) o)
+      (only-more (At (s .live + s .width * b) (s .width)) (InRows s) m₁ m₂ (λ j i. inr (omega (arith, i .0), omega (arith, i .1, room))) o₁)
+
+  block-row : (a : ℕ) → s .row + s .width ≤ a → a + s .width * s .count ≤ length m → midOf (a + s .width * b) (s .width) m₁ ≡ rowAt (s .width) (midOf a (s .width * s .count) m) b
+  block-row a g q =
+      same-mid (At (s .row) (s .width)) m m₁ o (a + s .width * b) (s .width) (omega (arith, q, room)) (λ j i k. omega (arith, i .0, k .1, g)) ∙ sym (mid-mid m a (s .width * s .count) (s .width * b) (s .width) q room)
+
+  pub visited : (p : ℕ) (i : Instruction) (blocks : List ℕ) (r : Bool) → OutOf (s .width) (liveOf s m) blocks (s .code) p i (rowOf s m₁)
+      → ((t : ℕ) → member (midOf (s .live + s .width * b) (s .width) m₂) t ≡ (member (midOf (s .uses + s .width * b) (s .width) m₁) t || (member (rowOf s m₁) t && member (midOf (s .preserved + s .width * b) (s .width) m₁) t)))
+      → Moved r (midOf (s .live + s .width * b) (s .width) m₁) (midOf (s .live + s .width * b) (s .width) m₂)
+      → Visited (s .width) b p (s .code) i blocks (usesOf s m) (preservedOf s m) (liveOf s m) (liveOf s m₂) r
+  visited p i blocks r outs bits moved =
+      let u = block-row (s .uses) (l .uses) (omega (arith, l .preserved, l .live, l .end)) in
+      let v = block-row (s .preserved) (omega (arith, l .uses, l .preserved)) (omega (arith, l .live, l .end)) in
+      let x = block-row (s .live) (omega (arith, l .uses, l .preserved, l .live)) (l .end) in
+      let ends : s .live + s .width * s .count ≤ length m₁ = rw (o .long) (l .end) in
+      record {
+        row = midOf (s .live + s .width * b) (s .width) m₂;
+        out = rowOf s m₁;
+        outs = outs;
+        put = rw (← same-live s m m₁ l o) (put-mid (At (s .live + s .width * b) (s .width)) m₁ m₂ (s .live) (s .width * s .count) (s .width * b) (s .width) o₁ ends room (λ j i k. k));
+        long = mid-long m₂ (s .live + s .width * b) (s .width) (rw (o₁ .long) (omega (arith, ends, room)));
+        bits = rw (u, v) at bits;
+        moved = rw x at moved;
+      }
 
 -- what rounds start from
 pub record Ready (s : Layout) (memory blocks starts : List ℕ) : Type 0 where
