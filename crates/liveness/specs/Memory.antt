@@ -14,7 +14,7 @@ use Rattle.instruction.specs.declared.Instruction.{Instruction}
 use Rattle.instruction.specs.Instruction.{ofWord, class}
 use Rattle.unit.specs.Size.{maxInstructions, metadataSize}
 use Rattle.effects.specs.Shape.{Tables, Cell, cellAt}
-use Rattle.effects.specs.Cells.{cellOf, cellsBy, cell-at}
+use Rattle.effects.specs.Cells.{cellOf, cellsBy, cell-at, cells-long}
 use Rattle.effects.specs.Effects.{rangeWithin}
 use Rattle.effects.specs.Form.{emptyRange}
 use Rattle.effects.specs.Sound.{writesByClass}
@@ -181,6 +181,34 @@ pub record Ready (s : Layout) (memory blocks starts : List ℕ) : Type 0 where
   pub coded : Coded s memory blocks
   pub long-starts : s .count < length starts
   pub rising : Rising starts (s .count) (s .code)
+
+-- rounds leave the code and what blocks use and preserve
+module _ (s : Layout) (m m′ : List ℕ) (l : Laid s (length m)) (o : Only (InRows s) m m′) where
+  pub rows-code : codeOf s m′ ≡ codeOf s m
+  rows-code = same-code s (InRows s) m m′ o (past-rows s (length m) l) l
+
+  between : (a : ℕ) → s .row + s .width ≤ a → a + s .width * s .count ≤ s .live → midOf a (s .width * s .count) m′ ≡ midOf a (s .width * s .count) m
+  between a g q =
+      same-mid (InRows s) m m′ o a (s .width * s .count) (omega (arith, q, l .end)) (λ j i. ⊎-elim (λ k. omega (arith, i .0, k .1, g)) (λ k. omega (arith, i .1, k .0, q)))
+
+  pub rows-uses : usesOf s m′ ≡ usesOf s m
+  rows-uses = between (s .uses) (l .uses) (omega (arith, l .preserved, l .live))
+
+  pub rows-preserved : preservedOf s m′ ≡ preservedOf s m
+  rows-preserved = between (s .preserved) (omega (arith, l .uses, l .preserved)) (l .live)
+
+  pub still-ready : (blocks starts : List ℕ) → Ready s m blocks starts → Ready s m′ blocks starts
+  still-ready blocks starts r = record { coded = still-coded s (InRows s) m m′ o (past-rows s (length m) l) blocks (r .coded); long-starts = r .long-starts; rising = r .rising }
+
+  -- a visit, by the cells and sets that rounds start from
+  pub visited-then : (metadata : List ℕ) (b p : ℕ) (blocks live live′ : List ℕ) (r : Bool) → p < s .code
+      → Visited (s .width) b p (s .code) (ofWord (getD m′ p 0)) blocks (usesOf s m′) (preservedOf s m′) live live′ r
+      → Visited (s .width) b p (length (cellsBy (codeOf s m) metadata)) (cellAt (cellsBy (codeOf s m) metadata) p .instruction) blocks (usesOf s m) (preservedOf s m) live live′ r
+  visited-then metadata b p blocks live live′ r h v =
+      let ends : s .code ≤ length m = omega (arith, l .row, l .uses, l .preserved, l .live, l .end) in
+      let same = same-word s (InRows s) m m′ o (past-rows s (length m) l) p h in
+      let i : cellAt (cellsBy (codeOf s m) metadata) p .instruction ≡ ofWord (getD m′ p 0) = ap (λ (x : Cell). x .instruction) (cell-in m metadata (s .code) p (getD m′ p 0) ends h same) in
+      rw (cells-long (codeOf s m) metadata, mid-long m 0 (s .code) (omega arith), i) (rw (rows-uses, rows-preserved) at v)
 
 -- ---- the numbers of n places: leaders, blocks, starts, flags of kept places
 
