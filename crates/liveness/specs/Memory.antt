@@ -1,25 +1,32 @@
 -- The code and the sets of slots in one buffer of words, and what is known of the places in one of numbers.
 -- Assumes nothing.
 use mathlib.Core.Path.{_≡_, refl, sym, ap, _∙_}
-use mathlib.Core.Bool.{true}
+use mathlib.Core.Logic.{⊎-elim, inl, inr}
+use mathlib.Core.Bool.{Bool, true, _&&_, _||_}
 use mathlib.Core.List.{List}
 use Prim.Native.Nat.{ℕ, _+_, _*_, _-_, _≤_, _<_}
 use native.Mathlib.Omega.{arith}
 use lib.ListN.{length, getD}
 use borrow.Rule.Slice.PartMut.{midOf, putMid}
+use Rattle.words.specs.Bits.{member}
 use Rattle.words.specs.Regions.{mid-long, get-mid}
+use Rattle.instruction.specs.declared.Instruction.{Instruction}
 use Rattle.instruction.specs.Instruction.{ofWord, class}
 use Rattle.unit.specs.Size.{maxInstructions, metadataSize}
-use Rattle.effects.specs.Shape.{Tables, cellAt}
-use Rattle.effects.specs.Cells.{cellOf, cellsBy, cell-at}
+use Rattle.effects.specs.Shape.{Tables, Cell, cellAt}
+use Rattle.effects.specs.Cells.{cellOf, cellsBy, cell-at, cells-long}
 use Rattle.effects.specs.Effects.{rangeWithin}
 use Rattle.effects.specs.Form.{emptyRange}
 use Rattle.effects.specs.Sound.{writesByClass}
 use Rattle.flow.specs.Branch.{branchInside}
 use Rattle.liveness.specs.declared.Layout.{Layout}
-use Rattle.liveness.specs.Only.{At, Only, same-mid}
+use Rattle.liveness.specs.Only.{At, Either, Only, only-both, only-more, mid-mid, same-mid, put-mid}
+use Rattle.liveness.specs.Out.{OutOf}
+use Rattle.liveness.specs.Shown.{rowAt, row-before}
+use Rattle.liveness.specs.Through.{Summary}
 use Rattle.liveness.specs.Touched.{Fits}
-use Rattle.liveness.specs.Visit.{Rising}
+use Rattle.liveness.specs.Visit.{Rising, Summed, Visited, summed-turn}
+use Rattle.liveness.specs.Wordwise.{Moved}
 
 -- a cell of the code
 pub cell-in : (m metadata : List ℕ) (n p v : ℕ) → n ≤ length m → p < n → v ≡ getD m p 0 → cellAt (cellsBy (midOf 0 n m) metadata) p ≡ cellOf metadata p v
@@ -96,11 +103,112 @@ pub same-live : (s : Layout) (m m′ : List ℕ) → Laid s (length m) → Only 
 same-live s m m′ l o =
     same-mid (At (s .row) (s .width)) m m′ o (s .live) (s .width * s .count) (l .end) (λ j h i. omega (arith, h .0, i .1, l .uses, l .preserved, l .live))
 
+-- ---- what is written into the blocks' sets
+
+abbrev pub InSums : Layout → ℕ → Type 0
+InSums s = Either (At (s .uses) (s .width * s .count)) (At (s .preserved) (s .width * s .count))
+
+pub past-sums : (s : Layout) (room : ℕ) → Laid s room → (j : ℕ) → InSums s j → s .code ≤ j
+past-sums s room l j = ⊎-elim (λ i. omega (arith, i .0, l .row, l .uses)) (λ i. omega (arith, i .0, l .row, l .uses, l .preserved))
+
+-- the two sets of block b
+module _ (s : Layout) (m m′ : List ℕ) (b : ℕ) (l : Laid s (length m)) (h : b < s .count)
+    (o : Only (Either (At (s .uses + s .width * b) (s .width)) (At (s .preserved + s .width * b) (s .width))) m m′) where
+  inner : s .width * b + s .width ≤ s .width * s .count
+  inner = row-before (s .width) b (s .count) h
+
+  pub in-sums : Only (InSums s) m m′
+  in-sums =
+      only-more (Either (At (s .uses + s .width * b) (s .width)) (At (s .preserved + s .width * b) (s .width))) (InSums s) m m′
+      (λ j. ⊎-elim (λ i. inl (omega (arith, i .0), omega (arith, i .1, inner))) (λ i. inr (omega (arith, i .0), omega (arith, i .1, inner)))) o
+
+  pub sums-turn : (T : Tables) (keep : List ℕ) (cells : List Cell) (starts : List ℕ) → Summed T keep cells (s .width) starts (usesOf s m) (preservedOf s m) b
+      → Summary T keep cells (midOf (s .uses + s .width * b) (s .width) m′) (midOf (s .preserved + s .width * b) (s .width) m′) (getD starts b 0) (getD starts (b + 1) 0 - getD starts b 0)
+      → Summed T keep cells (s .width) starts (usesOf s m′) (preservedOf s m′) (b + 1)
+  sums-turn T keep cells starts =
+      summed-turn T keep cells (s .width) starts (usesOf s m) (preservedOf s m) (usesOf s m′) (preservedOf s m′) _ _ b (s .count) h (mid-long m (s .uses) (s .width * s .count) ends) (mid-long m (s .preserved) (s .width * s .count) ends′)
+      (mid-long m′ (s .uses + s .width * b) (s .width) (rw (o .long) (omega (arith, ends, inner)))) (mid-long m′ (s .preserved + s .width * b) (s .width) (rw (o .long) (omega (arith, ends′, inner))))
+      (put-mid _ m m′ (s .uses) (s .width * s .count) (s .width * b) (s .width) o ends inner (λ j i. ⊎-elim (λ k. k) (λ k. absurd (omega (arith, i .1, k .0, l .preserved)))))
+      (put-mid _ m m′ (s .preserved) (s .width * s .count) (s .width * b) (s .width) o ends′ inner (λ j i. ⊎-elim (λ k. absurd (omega (arith, i .0, k .1, inner, l .preserved))) (λ k. k)))
+    where
+      ends : s .uses + s .width * s .count ≤ length m
+      ends = omega (arith, l .preserved, l .live, l .end)
+
+      ends′ : s .preserved + s .width * s .count ≤ length m
+      ends′ = omega (arith, l .live, l .end)
+
+abbrev pub InRows : Layout → ℕ → Type 0
+InRows s = Either (At (s .row) (s .width)) (At (s .live) (s .width * s .count))
+
+pub past-rows : (s : Layout) (room : ℕ) → Laid s room → (j : ℕ) → InRows s j → s .code ≤ j
+past-rows s room l j = ⊎-elim (λ i. omega (arith, i .0, l .row)) (λ i. omega (arith, i .0, l .row, l .uses, l .preserved, l .live))
+
+-- what is live at the end of block b, in the row, and then at its start
+module _ (s : Layout) (m m₁ m₂ : List ℕ) (b : ℕ) (l : Laid s (length m)) (h : b < s .count) (o : Only (At (s .row) (s .width)) m m₁) (o₁ : Only (At (s .live + s .width * b) (s .width)) m₁ m₂) where
+  room : s .width * b + s .width ≤ s .width * s .count
+  room = row-before (s .width) b (s .count) h
+
+  pub in-rows : Only (InRows s) m m₂
+  in-rows =
+      only-both (InRows s) m m₁ m₂ (only-more (At (s .row) (s .width)) (InRows s) m m₁ (λ j i. inl i) o)
+      (only-more (At (s .live + s .width * b) (s .width)) (InRows s) m₁ m₂ (λ j i. inr (omega (arith, i .0), omega (arith, i .1, room))) o₁)
+
+  block-row : (a : ℕ) → s .row + s .width ≤ a → a + s .width * s .count ≤ length m → midOf (a + s .width * b) (s .width) m₁ ≡ rowAt (s .width) (midOf a (s .width * s .count) m) b
+  block-row a g q =
+      same-mid (At (s .row) (s .width)) m m₁ o (a + s .width * b) (s .width) (omega (arith, q, room)) (λ j i k. omega (arith, i .0, k .1, g)) ∙ sym (mid-mid m a (s .width * s .count) (s .width * b) (s .width) q room)
+
+  pub visited : (p : ℕ) (i : Instruction) (blocks : List ℕ) (r : Bool) → OutOf (s .width) (liveOf s m) blocks (s .code) p i (rowOf s m₁)
+      → ((t : ℕ) → member (midOf (s .live + s .width * b) (s .width) m₂) t ≡ (member (midOf (s .uses + s .width * b) (s .width) m₁) t || (member (rowOf s m₁) t && member (midOf (s .preserved + s .width * b) (s .width) m₁) t)))
+      → Moved r (midOf (s .live + s .width * b) (s .width) m₁) (midOf (s .live + s .width * b) (s .width) m₂)
+      → Visited (s .width) b p (s .code) i blocks (usesOf s m) (preservedOf s m) (liveOf s m) (liveOf s m₂) r
+  visited p i blocks r outs bits moved =
+      let u = block-row (s .uses) (l .uses) (omega (arith, l .preserved, l .live, l .end)) in
+      let v = block-row (s .preserved) (omega (arith, l .uses, l .preserved)) (omega (arith, l .live, l .end)) in
+      let x = block-row (s .live) (omega (arith, l .uses, l .preserved, l .live)) (l .end) in
+      let ends : s .live + s .width * s .count ≤ length m₁ = rw (o .long) (l .end) in
+      record {
+        row = midOf (s .live + s .width * b) (s .width) m₂;
+        out = rowOf s m₁;
+        outs = outs;
+        put = rw (← same-live s m m₁ l o) (put-mid (At (s .live + s .width * b) (s .width)) m₁ m₂ (s .live) (s .width * s .count) (s .width * b) (s .width) o₁ ends room (λ j i k. k));
+        long = mid-long m₂ (s .live + s .width * b) (s .width) (rw (o₁ .long) (omega (arith, ends, room)));
+        bits = rw (u, v) at bits;
+        moved = rw x at moved;
+      }
+
 -- what rounds start from
 pub record Ready (s : Layout) (memory blocks starts : List ℕ) : Type 0 where
   pub coded : Coded s memory blocks
   pub long-starts : s .count < length starts
   pub rising : Rising starts (s .count) (s .code)
+
+-- rounds leave the code and what blocks use and preserve
+module _ (s : Layout) (m m′ : List ℕ) (l : Laid s (length m)) (o : Only (InRows s) m m′) where
+  pub rows-code : codeOf s m′ ≡ codeOf s m
+  rows-code = same-code s (InRows s) m m′ o (past-rows s (length m) l) l
+
+  between : (a : ℕ) → s .row + s .width ≤ a → a + s .width * s .count ≤ s .live → midOf a (s .width * s .count) m′ ≡ midOf a (s .width * s .count) m
+  between a g q =
+      same-mid (InRows s) m m′ o a (s .width * s .count) (omega (arith, q, l .end)) (λ j i. ⊎-elim (λ k. omega (arith, i .0, k .1, g)) (λ k. omega (arith, i .1, k .0, q)))
+
+  pub rows-uses : usesOf s m′ ≡ usesOf s m
+  rows-uses = between (s .uses) (l .uses) (omega (arith, l .preserved, l .live))
+
+  pub rows-preserved : preservedOf s m′ ≡ preservedOf s m
+  rows-preserved = between (s .preserved) (omega (arith, l .uses, l .preserved)) (l .live)
+
+  pub still-ready : (blocks starts : List ℕ) → Ready s m blocks starts → Ready s m′ blocks starts
+  still-ready blocks starts r = record { coded = still-coded s (InRows s) m m′ o (past-rows s (length m) l) blocks (r .coded); long-starts = r .long-starts; rising = r .rising }
+
+  -- a visit, by the cells and sets that rounds start from
+  pub visited-then : (metadata : List ℕ) (b p : ℕ) (blocks live live′ : List ℕ) (r : Bool) → p < s .code
+      → Visited (s .width) b p (s .code) (ofWord (getD m′ p 0)) blocks (usesOf s m′) (preservedOf s m′) live live′ r
+      → Visited (s .width) b p (length (cellsBy (codeOf s m) metadata)) (cellAt (cellsBy (codeOf s m) metadata) p .instruction) blocks (usesOf s m) (preservedOf s m) live live′ r
+  visited-then metadata b p blocks live live′ r h v =
+      let ends : s .code ≤ length m = omega (arith, l .row, l .uses, l .preserved, l .live, l .end) in
+      let same = same-word s (InRows s) m m′ o (past-rows s (length m) l) p h in
+      let i : cellAt (cellsBy (codeOf s m) metadata) p .instruction ≡ ofWord (getD m′ p 0) = ap (λ (x : Cell). x .instruction) (cell-in m metadata (s .code) p (getD m′ p 0) ends h same) in
+      rw (cells-long (codeOf s m) metadata, mid-long m 0 (s .code) (omega arith), i) (rw (rows-uses, rows-preserved) at v)
 
 -- ---- the numbers of n places: leaders, blocks, starts, flags of kept places
 

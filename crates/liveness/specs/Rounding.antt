@@ -229,11 +229,3 @@ module _ (S : Sections) (leaders keep : List ℕ) (cells : List Cell) (w count :
                 absurd (g refl (λ i l h t.
                 let k : i < length rows = rw (a .each, ← a .total) h in
                 final .held i (rw next-long k) t ∙ ap (λ (r : List Row). getD (getD r i none) t false) (sym e) ∙ sym (a .shown .held i k t)))
-
--- the code's own words for a place's instruction
-pub visited-cells : (words metadata : List ℕ) (w q p : ℕ) (blocks uses preserved live live′ : List ℕ) (r : Bool) → p < length words
-    → Visited w q p (length words) (ofWord (getD words p 0)) blocks uses preserved live live′ r
-    → Visited w q p (length (cellsBy words metadata)) (cellAt (cellsBy words metadata) p .instruction) blocks uses preserved live live′ r
-visited-cells words metadata w q p blocks uses preserved live live′ r h v =
-    let i : cellAt (cellsBy words metadata) p .instruction ≡ ofWord (getD words p 0) = ap (λ (x : Cell). x .instruction) (cell-at words metadata p h) in
-    rw (cells-long words metadata, i) v

@@ -1,14 +1,14 @@
 // Rounds over the blocks, from the last to the first.
 ghost use mathlib.Core.Path.{_≡_};
 ghost use mathlib.Core.List.{List};
-ghost use Prim.Native.Nat.{ℕ, _+_, _*_, _-_, _<_};
+ghost use Prim.Native.Nat.{ℕ, _+_, _-_, _<_};
 ghost use lib.ListN.{getD};
 ghost use Rattle.instruction.specs.Instruction.{ofWord};
 ghost use Rattle.effects.specs.Shape.{Sections};
 ghost use Rattle.effects.specs.Cells.{cellsBy};
 ghost use Rattle.liveness.specs.Live.{Row};
-ghost use Rattle.liveness.specs.Memory.{Ready, codeOf, usesOf, preservedOf, liveOf};
-ghost use Rattle.liveness.specs.Only.{At, Either, Only};
+ghost use Rattle.liveness.specs.Memory.{Ready, InRows, codeOf, usesOf, preservedOf, liveOf};
+ghost use Rattle.liveness.specs.Only.{Only};
 ghost use Rattle.liveness.specs.Rounding.{Around, Rounded};
 ghost use Rattle.liveness.specs.Solving.{Solved};
 ghost use Rattle.liveness.specs.Visit.{Visited};
@@ -19,7 +19,7 @@ use crate::row;
 // Makes the row of block b anew, of the rows as they are. The answer is whether it is another one now.
 fn visit_block(memory: &mut [u64], sets: Layout, blocks: &[u32], starts: &[u32], b: usize) -> bool
     requires { ⌜ Ready sets (now memory) (now blocks) (now starts) × (b < sets .count) ⌝ }
-    ensures { λ r. ⌜ Visited (sets .width) b (getD (now (starts .entry)) (b + 1) 0 - 1) (sets .code) (ofWord (getD (now (memory .entry)) (getD (now (starts .entry)) (b + 1) 0 - 1) 0)) (now (blocks .entry)) (usesOf sets (now (memory .entry))) (preservedOf sets (now (memory .entry))) (liveOf sets (now (memory .entry))) (liveOf sets (now (memory .exit))) r × Only (Either (At (sets .row) (sets .width)) (At (sets .live) (sets .width * sets .count))) (now (memory .entry)) (now (memory .exit)) ⌝ }
+    ensures { λ r. ⌜ Visited (sets .width) b (getD (now (starts .entry)) (b + 1) 0 - 1) (sets .code) (ofWord (getD (now (memory .entry)) (getD (now (starts .entry)) (b + 1) 0 - 1) 0)) (now (blocks .entry)) (usesOf sets (now (memory .entry))) (preservedOf sets (now (memory .entry))) (liveOf sets (now (memory .entry))) (liveOf sets (now (memory .exit))) r × Only (InRows sets) (now (memory .entry)) (now (memory .exit)) ⌝ }
 {
     let w = sets.width;
     let at = w * b;
@@ -38,7 +38,7 @@ fn visit_block(memory: &mut [u64], sets: Layout, blocks: &[u32], starts: &[u32],
 // One round. The answer is whether it changed any row.
 fn round(memory: &mut [u64], sets: Layout, blocks: &[u32], starts: &[u32]) -> bool
     requires { ⌜ Ready sets (now memory) (now blocks) (now starts) ⌝ }
-    ensures { λ r. ⌜ ((S : Sections) (leaders keep metadata : List ℕ) (rows : List Row) → Around S leaders keep (cellsBy (codeOf sets (now (memory .entry))) metadata) (sets .width) (sets .count) rows (now (blocks .entry)) (now (starts .entry)) (usesOf sets (now (memory .entry))) (preservedOf sets (now (memory .entry))) (liveOf sets (now (memory .entry))) → Rounded S leaders keep (cellsBy (codeOf sets (now (memory .entry))) metadata) (sets .width) rows (liveOf sets (now (memory .exit))) r) × Only (Either (At (sets .row) (sets .width)) (At (sets .live) (sets .width * sets .count))) (now (memory .entry)) (now (memory .exit)) ⌝ }
+    ensures { λ r. ⌜ ((S : Sections) (leaders keep metadata : List ℕ) (rows : List Row) → Around S leaders keep (cellsBy (codeOf sets (now (memory .entry))) metadata) (sets .width) (sets .count) rows (now (blocks .entry)) (now (starts .entry)) (usesOf sets (now (memory .entry))) (preservedOf sets (now (memory .entry))) (liveOf sets (now (memory .entry))) → Rounded S leaders keep (cellsBy (codeOf sets (now (memory .entry))) metadata) (sets .width) rows (liveOf sets (now (memory .exit))) r) × Only (InRows sets) (now (memory .entry)) (now (memory .exit)) ⌝ }
 {
     let mut changed = false;
     let mut b = sets.count;

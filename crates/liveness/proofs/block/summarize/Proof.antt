@@ -1,82 +1,99 @@
+use mathlib.Core.Path.{_≡_, refl, _∙_}
+use mathlib.Core.Logic.{⊎-elim}
+use Prim.Native.Nat.{_+_, _*_, _-_, _≤_, _<_}
+use native.Mathlib.Omega.{arith}
+use lib.ListN.{length, getD}
+use Rattle.effects.specs.Shape.{Tables, tablesOf}
+use Rattle.effects.specs.Cells.{cellsBy}
+use Rattle.liveness.specs.Memory.{codeOf, usesOf, preservedOf, InSums, past-sums, in-sums, sums-turn, same-word, same-code}
+use Rattle.liveness.specs.Only.{Only, only-none, only-both, same-mid}
+use Rattle.liveness.specs.Shown.{row-before}
+use Rattle.liveness.specs.Visit.{Summed, summed-begin}
+use borrow.Author.Needs.{needs}
 use Rattle.liveness.proofs.block.summarize.Statement.{statement}
 use Rattle.liveness.proofs.block.summarize.Tie as tie
-use Rattle.liveness.proofs.block.summarize.Reads as reads
-use Rattle.liveness.proofs.block.summarize.Lts as lts
-use Rattle.liveness.proofs.block.summarize_block.Reads as summarize-block-reads
 
 abbrev Inv-loop : tie.InvT-loop
-Inv-loop memory₀ sets metadata keep functions externs cases starts b₀ memory b = ?
+Inv-loop memory₀ sets metadata keep functions externs cases starts b₀ memory b =
+    (b ≤ sets .count) × (length memory ≡ length memory₀) × Only (InSums sets) memory₀ memory
+    × Summed (tablesOf functions externs cases) keep (cellsBy (codeOf sets memory₀) metadata) (sets .width) starts (usesOf sets memory) (preservedOf sets memory) b
 
 abbrev μ-loop : tie.MeasureT-loop
-μ-loop memory₀ sets metadata keep functions externs cases starts b₀ memory b = ?
+μ-loop memory₀ sets metadata keep functions externs cases starts b₀ memory b = sets .count - b
 
--- src/block.rt:113:5
 loop-holds : tie.Need-loop-holds Inv-loop μ-loop
-loop-holds c = ?
+loop-holds c = (omega arith, refl, only-none _ _, summed-begin _ _ _ _ _ _ _)
 
--- src/block.rt:114:18
 mul-at : tie.Need-mul-at Inv-loop μ-loop
-mul-at c = ?
+mul-at c =
+    let s = c .before .before .before .before .before .before .before .before .before .before .before in
+    omega (arith, row-before (s .args .sets .width) (c .before .before .before .loop .b) (s .args .sets .count) (omega arith), s .pre .0 .end)
 
--- src/block.rt:115:21
-mul-start : tie.Need-mul-start Inv-loop μ-loop
-mul-start c = ?
-
--- src/block.rt:115:21
-shared-slice-read-start : tie.Need-shared-slice-read-start Inv-loop μ-loop
-shared-slice-read-start c = ?
-
--- src/block.rt:115:21
 cast-start : tie.Need-cast-start Inv-loop μ-loop
-cast-start c = ?
+cast-start c = omega (arith, c .shared-slice-known7 .given (c .before .before .before .before .loop .b))
 
--- src/block.rt:116:26
-add-end : tie.Need-add-end Inv-loop μ-loop
-add-end c = ?
-
--- src/block.rt:116:19
-mul-end : tie.Need-mul-end Inv-loop μ-loop
-mul-end c = ?
-
--- src/block.rt:116:19
-shared-slice-read-end : tie.Need-shared-slice-read-end Inv-loop μ-loop
-shared-slice-read-end c = ?
-
--- src/block.rt:116:19
 cast-end : tie.Need-cast-end Inv-loop μ-loop
-cast-end c = ?
+cast-end c = omega (arith, c .shared-slice-known8 .given (c .before .before .before .before .before .loop .b + 1))
 
--- src/block.rt:119:13
 add-summarize-block : tie.Need-add-summarize-block Inv-loop μ-loop
-add-summarize-block c = ?
+add-summarize-block c =
+    let s = c .before .before .before .before .before .before .before .before .before .before .before .before .before .before .before in
+    let l = s .pre .0 in
+    omega (arith, row-before (s .args .sets .width) (c .before .before .before .before .before .before .before .loop .b) (s .args .sets .count) (omega arith), l .preserved, l .live, l .end)
 
--- src/block.rt:120:13
 add-summarize-block-2 : tie.Need-add-summarize-block-2 Inv-loop μ-loop
-add-summarize-block-2 c = ?
+add-summarize-block-2 c =
+    let s = c .before .before .before .before .before .before .before .before .before .before .before .before .before .before .before .before in
+    let l = s .pre .0 in
+    omega (arith, row-before (s .args .sets .width) (c .before .before .before .before .before .before .before .before .loop .b) (s .args .sets .count) (omega arith), l .live, l .end)
 
--- src/block.rt:117:9
 summarize-block-requires : tie.Need-summarize-block-requires Inv-loop μ-loop
-summarize-block-requires c κs = ?
+summarize-block-requires c κs =
+    let s = c .before .before .before .before .before .before .before .before .before .before .before .before .before .before .before .before in
+    let l = c .before .before .before .before .before .before .before .before .loop in
+    let d = s .pre .0 in
+    let below : l .b < s .args .sets .count = omega arith in
+    let rise = s .pre .2 (l .b) below in
+    let room = row-before (s .args .sets .width) (l .b) (s .args .sets .count) below in (
+      omega (arith, rise .1, d .row, d .uses),
+      omega (arith, room, d .preserved),
+      rw (l .inv .1) (omega (arith, room, d .live, d .end)),
+      omega (arith, rise .0),
+      omega (arith, rise .1),
+      rw (s .pre .4) (rise .1),
+      λ p h. let q : p < s .args .sets .code = omega (arith, rise .1) in rw (same-word (s .args .sets) _ _ _ (l .inv .2) (past-sums (s .args .sets) _ d) p q) (s .pre .5 p q),
+    )
 
--- src/block.rt:130:9
-add-b : tie.Need-add-b Inv-loop μ-loop
-add-b c = ?
-
--- src/block.rt:113:5
-loop-less : tie.Need-loop-less Inv-loop μ-loop
-loop-less c = ?
-
--- src/block.rt:113:5
 loop-again : tie.Need-loop-again Inv-loop μ-loop
-loop-again c = ?
+loop-again c =
+    let s = c .before .before .before .before .before .before .before .before .before .before .before .before .before .before .before .before .before .before .before in
+    let l = c .before .before .before .before .before .before .before .before .before .before .before .loop in
+    let y = c .before .before .summarize-block in
+    let t = s .args .sets in
+    let d = s .pre .0 in
+    let T : Tables = tablesOf (s .args .functions .now) (s .args .externs .now) (s .args .cases .now) in
+    let below = c .before .before .before .before .before .before .before .before .before .if1 .taken in
+    let rise = s .pre .2 (l .b) below in
+    let laid = rw (← l .inv .1) at d in
+    let only = in-sums t (l .memory) (y .last .0) (l .b) laid below (y .ensures .1) in
+    let code = same-code t _ _ _ (l .inv .2) (past-sums t _ d) d in
+    let sum = rw code at (y .ensures .0 (t .code) (rise .1) (omega (arith, d .row, d .uses))) in
+    (omega arith, y .kept .0 ∙ l .inv .1, only-both _ _ _ _ (l .inv .2) only, sums-turn t (l .memory) (y .last .0) (l .b) laid below (y .ensures .1) T (s .args .keep .now) _ (s .args .starts .now) (l .inv .3) sum)
 
--- src/block.rt:99:1
 same-length : tie.Need-same-length Inv-loop μ-loop
-same-length c = ?
+same-length c = c .before .before .loop .inv .1
 
--- src/block.rt:99:1
 returns : tie.Need-returns Inv-loop μ-loop
-returns c = ?
+returns c =
+    let s = c .before .before .before .before .before .before .before .before .before .before in
+    let l = c .before .before .loop in
+    let t = s .args .sets in
+    let d = s .pre .0 in
+    let end : l .b ≡ t .count = omega arith in (
+      rw end at (l .inv .3),
+      same-code t _ _ _ (l .inv .2) (past-sums t _ d) d,
+      same-mid _ _ _ (l .inv .2) (t .live) (t .width * t .count) (d .end) (λ j i. ⊎-elim (λ k. omega (arith, i .0, k .1, d .preserved, d .live)) (λ k. omega (arith, i .0, k .1, d .live))),
+    )
 
 pub summarize-spec : {M : Type 1} → statement M
 summarize-spec =
@@ -86,18 +103,18 @@ summarize-spec =
     μ-loop
     loop-holds
     mul-at
-    mul-start
-    shared-slice-read-start
+    (λ c. search needs)
+    (λ c. search needs)
     cast-start
-    add-end
-    mul-end
-    shared-slice-read-end
+    (λ c. search needs)
+    (λ c. search needs)
+    (λ c. search needs)
     cast-end
     add-summarize-block
     add-summarize-block-2
     summarize-block-requires
-    add-b
-    loop-less
+    (λ c. search needs)
+    (λ c. search needs)
     loop-again
     same-length
     returns)

@@ -1,71 +1,72 @@
+use mathlib.Core.Path.{refl}
+use Prim.Native.Nat.{_+_, _*_, _-_, _<_}
+use native.Mathlib.Omega.{arith}
+use lib.ListN.{getD}
+use Rattle.liveness.specs.Memory.{in-rows, visited}
+use Rattle.liveness.specs.Shown.{row-before}
 use borrow.Author.Needs.{needs}
 use Rattle.liveness.proofs.round.visit_block.Statement.{statement}
 use Rattle.liveness.proofs.round.visit_block.Tie as tie
-use Rattle.liveness.proofs.round.visit_block.Reads as reads
-use Rattle.liveness.proofs.round.visit_block.Lts as lts
-use Rattle.liveness.proofs.out.live_out.Reads as live-out-reads
-use Rattle.liveness.proofs.row.transfer.Reads as transfer-reads
 
--- src/round.rt:25:14
 mul-at : tie.Need-mul-at
-mul-at c = ?
+mul-at c =
+    let s = c .before .before .before in
+    omega (arith, row-before (s .args .sets .width) (s .args .b) (s .args .sets .count) (s .pre .1), s .pre .0 .coded .laid .end)
 
--- src/round.rt:26:22
-add-end : tie.Need-add-end
-add-end c = search needs
-
--- src/round.rt:26:15
-mul-end : tie.Need-mul-end
-mul-end c = search needs
-
--- src/round.rt:26:15
-shared-slice-read-end : tie.Need-shared-slice-read-end
-shared-slice-read-end c = search needs
-
--- src/round.rt:26:15
 cast-end : tie.Need-cast-end
-cast-end c = ?
+cast-end c = omega (arith, c .shared-slice-known3 .given (c .before .before .before .before .args .b + 1))
 
--- src/round.rt:27:41
 sub-live-out : tie.Need-sub-live-out
-sub-live-out c = ?
+sub-live-out c = let s = c .before .before .before .before .before in omega (arith, s .pre .0 .rising (s .args .b) (s .pre .1) .0)
 
--- src/round.rt:27:5
 live-out-requires : tie.Need-live-out-requires
-live-out-requires c κs = ?
+live-out-requires c κs =
+    let s = c .before .before .before .before .before in
+    let rise = s .pre .0 .rising (s .args .b) (s .pre .1) in
+    (s .pre .0 .coded, omega (arith, rise .0, rise .1))
 
--- src/round.rt:30:9
 add-transfer : tie.Need-add-transfer
-add-transfer c = ?
+add-transfer c =
+    let s = c .before .before .before .before .before .before .before .before .before .before in
+    omega (arith, row-before (s .args .sets .width) (s .args .b) (s .args .sets .count) (s .pre .1), s .pre .0 .coded .laid .end)
 
--- src/round.rt:31:9
 add-transfer-2 : tie.Need-add-transfer-2
-add-transfer-2 c = ?
+add-transfer-2 c =
+    let s = c .before .before .before .before .before .before .before .before .before .before .before in
+    let l = s .pre .0 .coded .laid in
+    omega (arith, row-before (s .args .sets .width) (s .args .b) (s .args .sets .count) (s .pre .1), l .preserved, l .live, l .end)
 
--- src/round.rt:32:9
 add-transfer-3 : tie.Need-add-transfer-3
-add-transfer-3 c = ?
+add-transfer-3 c =
+    let s = c .before .before .before .before .before .before .before .before .before .before .before .before in
+    let l = s .pre .0 .coded .laid in
+    omega (arith, row-before (s .args .sets .width) (s .args .b) (s .args .sets .count) (s .pre .1), l .live, l .end)
 
--- src/round.rt:28:5
 transfer-requires : tie.Need-transfer-requires
-transfer-requires c κs = ?
+transfer-requires c κs =
+    let s = c .before .before .before .before .before .before .before .before .before .before .before .before in
+    let l = s .pre .0 .coded .laid in
+    let room = row-before (s .args .sets .width) (s .args .b) (s .args .sets .count) (s .pre .1) in
+    (omega (arith, room, l .preserved, l .live), omega (arith, room, l .live), omega (arith, l .uses, l .preserved, l .live), rw (c .before .before .before .before .before .before .live-out .kept .0) (omega (arith, room, l .end)))
 
--- src/round.rt:20:1
-same-length : tie.Need-same-length
-same-length c = search needs
-
--- src/round.rt:20:1
 returns : tie.Need-returns
-returns c = ?
+returns c =
+    let s = c .before .before .before .before .before .before .before .before .before .before .before .before .before .before .before in
+    let x = c .before .before .before .before .before .before .before .before .before .live-out in
+    let y = c .before .before .transfer in
+    let l = s .pre .0 .coded .laid in (
+      visited (s .args .sets) (s .args .memory .now) (x .last .0) (y .last .0) (s .args .b) l (s .pre .1) (x .ensures .1) (y .ensures .2) _ _ (s .args .blocks .now) _ (x .ensures .0) (y .ensures .0) (y .ensures .1),
+      in-rows (s .args .sets) (s .args .memory .now) (x .last .0) (y .last .0) (s .args .b) l (s .pre .1) (x .ensures .1) (y .ensures .2),
+    )
 
 pub visit-block-spec : {M : Type 1} → statement M
 visit-block-spec =
     tie.close
     (tie.spec
     mul-at
-    add-end
-    mul-end
-    shared-slice-read-end
+    (λ c. search needs)
+    (λ c. search needs)
+    (λ c. search needs)
     cast-end
     sub-live-out
     live-out-requires
@@ -73,5 +74,5 @@ visit-block-spec =
     add-transfer-2
     add-transfer-3
     transfer-requires
-    same-length
+    (λ c. search needs)
     returns)
