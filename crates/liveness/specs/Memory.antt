@@ -43,6 +43,9 @@ pub record Laid (s : Layout) (room : ℕ) : Type 0 where
   pub live : s .preserved + s .width * s .count ≤ s .live
   pub end : s .live + s .width * s .count ≤ room
 
+pub row-inside : (s : Layout) (room : ℕ) → Laid s room → s .row + s .width ≤ room
+row-inside s room l = omega (arith, l .uses, l .preserved, l .live, l .end)
+
 abbrev pub codeOf : Layout → List ℕ → List ℕ
 codeOf s m = midOf 0 (s .code) m
 
@@ -223,6 +226,14 @@ flagsAt n = 3 * n + 1
 
 abbrev pub flagsOf : ℕ → List ℕ → List ℕ
 flagsOf n t = midOf (flagsAt n) n t
+
+-- the flags written, leaders and blocks stay
+module _ (n : ℕ) (t t′ : List ℕ) (h : flagsAt n + n ≤ length t) (o : Only (At (flagsAt n) n) t t′) where
+  pub same-leaders : leadersOf n t′ ≡ leadersOf n t
+  same-leaders = same-mid (At (flagsAt n) n) t t′ o 0 n (omega arith) (λ j i k. omega (arith, i .1, k .0))
+
+  pub same-blocks : blocksOf n t′ ≡ blocksOf n t
+  same-blocks = same-mid (At (flagsAt n) n) t t′ o n n (omega arith) (λ j i k. omega (arith, i .1, k .0))
 
 -- what the sweep starts from
 pub record Sweepable (s : Layout) (T : Tables) (memory metadata types table : List ℕ) : Type 0 where

@@ -192,18 +192,18 @@ module _ (S : Sections) (leaders keep₀ : List ℕ) (cells : List Cell) (rows :
           wide true = before-long (S .tables) (cellAt cells q) (afterAt q) ∙ after-wide
           wide false = after-wide
 
--- one place, by the words of the code
+-- one place, by the word v of the code
 module _ (S : Sections) (leaders keep₀ words metadata : List ℕ) (rows : List Row) (w : ℕ) (blocks live : List ℕ) (g : Grounds S leaders keep₀ (cellsBy words metadata) rows w blocks live) where
-  pub code-turn : (keep row row₁ keep′ row′ : List ℕ) (p q : ℕ) → p ≡ suc q → q < length words → SweepFrom S leaders keep₀ (cellsBy words metadata) rows keep row p
-      → Entered (isLast (length leaders) leaders q) w live blocks (length words) q (ofWord (getD words q 0)) row row₁
-      → Swept (S .tables) (isKept keep q) (deadBy (S .types) row₁ (ofWord (getD words q 0))) (cellOf metadata q (getD words q 0)) q keep keep′ row₁ row′
+  pub code-turn : (keep row row₁ keep′ row′ : List ℕ) (n p q v : ℕ) → length words ≡ n → getD words q 0 ≡ v → p ≡ suc q → q < n → SweepFrom S leaders keep₀ (cellsBy words metadata) rows keep row p
+      → Entered (isLast (length leaders) leaders q) w live blocks n q (ofWord v) row row₁
+      → Swept (S .tables) (isKept keep q) (deadBy (S .types) row₁ (ofWord v)) (cellOf metadata q v) q keep keep′ row₁ row′
       → SweepFrom S leaders keep₀ (cellsBy words metadata) rows keep′ row′ q
-  code-turn keep row row₁ keep′ row′ p q e h s a v =
-      let x : cellAt (cellsBy words metadata) q ≡ cellOf metadata q (getD words q 0) = cell-at words metadata q h in
-      let long : length (cellsBy words metadata) ≡ length words = cells-long words metadata in
-      let both : length leaders ≡ length words = g .long ∙ long in
-      let a′ : Entered (isLast (length words) leaders q) w live blocks (length words) q (ofWord (getD words q 0)) row row₁ = rw both at a in
-      sweep-turn S leaders keep₀ (cellsBy words metadata) rows w blocks live g keep row row₁ keep′ row′ q (rw long h) (rw e at s) (rw (x, long) a′) (rw x v)
+  code-turn keep row row₁ keep′ row′ n p q v en ev e h s a b =
+      let x : cellAt (cellsBy words metadata) q ≡ cellOf metadata q v = cell-at words metadata q (rw en h) ∙ rw ev in
+      let long : length (cellsBy words metadata) ≡ n = cells-long words metadata ∙ en in
+      let both : length leaders ≡ n = g .long ∙ long in
+      let a′ : Entered (isLast n leaders q) w live blocks n q (ofWord v) row row₁ = rw both at a in
+      sweep-turn S leaders keep₀ (cellsBy words metadata) rows w blocks live g keep row row₁ keep′ row′ q (rw long h) (rw e at s) (rw (x, long) a′) (rw x b)
 
 abbrev pub sections : ℕ → List ℕ → List ℕ → Tables → Sections
 sections locals types constants T = record { locals = locals; types = types; constants = constants; tables = T }

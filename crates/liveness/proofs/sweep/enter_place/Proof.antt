@@ -1,31 +1,32 @@
+use mathlib.Core.Path.{sym, _∙_}
+use lib.ListN.{getD}
+use Rattle.instruction.specs.Instruction.{ofWord}
+use Rattle.liveness.specs.Memory.{liveOf}
+use Rattle.liveness.specs.Only.{only-none}
+use Rattle.liveness.specs.Sweeping.{entered, not-entered}
 use borrow.Author.Needs.{needs}
 use Rattle.liveness.proofs.sweep.enter_place.Statement.{statement}
 use Rattle.liveness.proofs.sweep.enter_place.Tie as tie
-use Rattle.liveness.proofs.sweep.enter_place.Reads as reads
-use Rattle.liveness.proofs.sweep.enter_place.Lts as lts
-use Rattle.liveness.proofs.out.live_out.Reads as live-out-reads
-use Rattle.liveness.proofs.sweep.is_last.Reads as is-last-reads
 
--- src/sweep.rt:44:8
-is-last-requires : tie.Need-is-last-requires
-is-last-requires c κs = search needs
-
--- src/sweep.rt:45:9
-live-out-requires : tie.Need-live-out-requires
-live-out-requires c κs = search needs
-
--- src/sweep.rt:40:1
-same-length : tie.Need-same-length
-same-length c = search needs
-
--- src/sweep.rt:40:1
 returns : tie.Need-returns
-returns c = ?
+returns c =
+    let s = c .before .before .before .before .before .before .before .before .before .args in
+    let i = ofWord (getD (s .memory .now) (s .p) 0) in
+    let x = c .before .before .live-out in
+    (entered _ (s .sets .width) (liveOf (s .sets) (s .memory .now)) (s .blocks .now) (s .sets .code) (s .p) i _ _ (sym (c .before .before .before .before .before .is-last .ensures) ∙ c .before .before .before .before .if1 .taken) (x .ensures .0), x .ensures .1)
 
--- src/sweep.rt:40:1
 returns-2 : tie.Need-returns-2
-returns-2 c = ?
+returns-2 c =
+    let s = c .before .before .before .before .before .args in
+    let i = ofWord (getD (s .memory .now) (s .p) 0) in
+    (not-entered _ (s .sets .width) (liveOf (s .sets) (s .memory .now)) (s .blocks .now) (s .sets .code) (s .p) i _ (sym (c .before .is-last .ensures) ∙ c .if1 .left), only-none _ _)
 
 pub enter-place-spec : {M : Type 1} → statement M
 enter-place-spec =
-    tie.close (tie.spec is-last-requires live-out-requires same-length returns returns-2)
+    tie.close
+    (tie.spec
+    (λ c κs. search needs)
+    (λ c κs. search needs)
+    (λ c. search needs)
+    returns
+    returns-2)

@@ -1,133 +1,85 @@
+use mathlib.Core.Path.{_≡_, sym, _∙_}
+use Prim.Native.Nat.{_+_, _*_, _-_, _≤_}
+use native.Mathlib.Omega.{arith}
+use lib.ListN.{length, getD}
+use borrow.Author.Tests.{eq-eqb, ne-eqb}
+use Rattle.unit.specs.Size.{metadataSize}
+use Rattle.effects.specs.Shape.{Tables, Cell, tablesOf}
+use Rattle.effects.specs.Cells.{cellOf}
+use Rattle.liveness.specs.Memory.{rowOf, row-inside}
+use Rattle.liveness.specs.Only.{only-none, lent, lent-long}
+use Rattle.liveness.specs.Unread.{deadBy}
+use Rattle.liveness.specs.Sweeping.{swept-off, swept-gone, swept-on}
 use borrow.Author.Needs.{needs}
 use Rattle.liveness.proofs.sweep.sweep_place.Statement.{statement}
 use Rattle.liveness.proofs.sweep.sweep_place.Tie as tie
-use Rattle.liveness.proofs.sweep.sweep_place.Reads as reads
-use Rattle.liveness.proofs.sweep.sweep_place.Lts as lts
-use Rattle.instruction.proofs.Instruction.from_word.Reads as from-word-reads
-use Rattle.liveness.proofs.dead.is_dead.Reads as is-dead-reads
-use Rattle.liveness.proofs.touch.live_before.Reads as live-before-reads
 
--- src/sweep.rt:64:8
-mul-if1 : tie.Need-mul-if1
-mul-if1 c = search needs
-
--- src/sweep.rt:64:8
-slice-read-if1 : tie.Need-slice-read-if1
-slice-read-if1 c = search needs
-
--- src/sweep.rt:65:9
 returns : tie.Need-returns
-returns c = ?
+returns c =
+    let s = c .before .before .before .before .before .before .before .before .before .args in
+    let T : Tables = tablesOf (s .functions .now) (s .externs .now) (s .cases .now) in
+    let x : Cell = cellOf (s .metadata .now) (s .p) (getD (s .memory .now) (s .p) 0) in
+    let dead = deadBy (s .types .now) (rowOf (s .sets) (s .memory .now)) (x .instruction) in
+    (swept-off T _ dead x (s .p) _ _ (ne-eqb _ _ (c .if1 .taken)), only-none _ _)
 
--- src/sweep.rt:68:15
-add-end : tie.Need-add-end
-add-end c = search needs
-
--- src/sweep.rt:69:36
-mul-from-word : tie.Need-mul-from-word
-mul-from-word c = search needs
-
--- src/sweep.rt:69:36
-slice-read-from-word : tie.Need-slice-read-from-word
-slice-read-from-word c = search needs
-
--- src/sweep.rt:69:9
-from-word-requires : tie.Need-from-word-requires
-from-word-requires c κs = search needs
-
--- src/sweep.rt:70:29
-mul-is-dead : tie.Need-mul-is-dead
-mul-is-dead c = search needs
-
--- src/sweep.rt:70:29
-sub-is-dead : tie.Need-sub-is-dead
-sub-is-dead c = search needs
-
--- src/sweep.rt:70:29
-part-is-dead-start : tie.Need-part-is-dead-start
-part-is-dead-start c = search needs
-
--- src/sweep.rt:70:29
-part-is-dead-end : tie.Need-part-is-dead-end
-part-is-dead-end c = search needs
-
--- src/sweep.rt:70:8
 is-dead-requires : tie.Need-is-dead-requires
-is-dead-requires c κs = ?
+is-dead-requires c κs =
+    let s = c .before .before .before .before .before .before .before .before .before .before .before .before .before .before in
+    let part : s .args .sets .row + s .args .sets .width - s .args .sets .row ≡ s .args .sets .width = omega arith in
+    rw (part, c .before .before .from-word .ensures) (s .pre .4)
 
--- src/sweep.rt:71:9
-mul-keep : tie.Need-mul-keep
-mul-keep c = search needs
-
--- src/sweep.rt:71:9
-slice-write-keep : tie.Need-slice-write-keep
-slice-write-keep c = search needs
-
--- src/sweep.rt:72:9
-same-length : tie.Need-same-length
-same-length c = search needs
-
--- src/sweep.rt:72:9
-same-length-2 : tie.Need-same-length-2
-same-length-2 c = search needs
-
--- src/sweep.rt:72:9
 returns-2 : tie.Need-returns-2
-returns-2 c = ?
+returns-2 c =
+    let s = c .before .before .before .before .before .before .before .before .before .before .before .before .before .before .before .before .args in
+    let T : Tables = tablesOf (s .functions .now) (s .externs .now) (s .cases .now) in
+    let x : Cell = cellOf (s .metadata .now) (s .p) (getD (s .memory .now) (s .p) 0) in
+    let dead = deadBy (s .types .now) (rowOf (s .sets) (s .memory .now)) (x .instruction) in
+    let part : s .sets .row + s .sets .width - s .sets .row ≡ s .sets .width = omega arith in
+    (swept-gone T _ dead x (s .p) _ _ (eq-eqb _ _ (c .before .before .before .before .before .before .before .if1 .left)) (sym (rw (part, c .before .before .before .before .from-word .ensures) at (c .before .is-dead .ensures)) ∙ c .if2 .taken), only-none _ _)
 
--- src/sweep.rt:75:9
-mul-live-before : tie.Need-mul-live-before
-mul-live-before c = search needs
-
--- src/sweep.rt:75:9
-sub-live-before : tie.Need-sub-live-before
-sub-live-before c = search needs
-
--- src/sweep.rt:75:9
-part-live-before-start : tie.Need-part-live-before-start
-part-live-before-start c = search needs
-
--- src/sweep.rt:75:9
-part-live-before-end : tie.Need-part-live-before-end
-part-live-before-end c = search needs
-
--- src/sweep.rt:74:5
 live-before-requires : tie.Need-live-before-requires
-live-before-requires c κs = ?
+live-before-requires c κs =
+    let s = c .before .before .before .before .before .before .before .before .before .before .before .before .before .before .before .before .before in
+    let room : metadataSize * s .args .p + metadataSize ≤ length (s .args .metadata .now) = omega arith in
+    rw (c .before .before .before .before .before .from-word .ensures, lent-long (s .args .memory .now) (s .args .sets .row) (s .args .sets .width) (row-inside _ _ (s .pre .0))) (room, s .pre .5)
 
--- src/sweep.rt:50:1
-same-length-3 : tie.Need-same-length-3
-same-length-3 c = search needs
-
--- src/sweep.rt:50:1
 returns-3 : tie.Need-returns-3
-returns-3 c = ?
+returns-3 c =
+    let s = c .before .before .before .before .before .before .before .before .before .before .before .before .before .before .before .before .before .before .before .before .args in
+    let T : Tables = tablesOf (s .functions .now) (s .externs .now) (s .cases .now) in
+    let x : Cell = cellOf (s .metadata .now) (s .p) (getD (s .memory .now) (s .p) 0) in
+    let dead = deadBy (s .types .now) (rowOf (s .sets) (s .memory .now)) (x .instruction) in
+    let i = c .before .before .before .before .before .before .before .before .from-word .ensures in
+    let b = c .before .before .live-before in
+    let part : s .sets .row + s .sets .width - s .sets .row ≡ s .sets .width = omega arith in
+    let y = lent (s .memory .now) (s .sets .row) (s .sets .width) (b .last .0) (row-inside _ _ (c .before .before .before .before .before .before .before .before .before .before .before .before .before .before .before .before .before .before .before .before .pre .0)) (b .kept .0) in
+    (rw (y .1) (swept-on T _ dead x (s .p) _ _ _ (eq-eqb _ _ (c .before .before .before .before .before .before .before .before .before .before .before .if1 .left)) (sym (rw (part, i) at (c .before .before .before .before .before .is-dead .ensures)) ∙ c .before .before .before .before .if2 .left) (rw (part, i) at (b .ensures))), y .0)
 
 pub sweep-place-spec : {M : Type 1} → statement M
 sweep-place-spec =
     tie.close
     (tie.spec
-    mul-if1
-    slice-read-if1
+    (λ c. search needs)
+    (λ c. search needs)
     returns
-    add-end
-    mul-from-word
-    slice-read-from-word
-    from-word-requires
-    mul-is-dead
-    sub-is-dead
-    part-is-dead-start
-    part-is-dead-end
+    (λ c. search needs)
+    (λ c. search needs)
+    (λ c. search needs)
+    (λ c κs. search needs)
+    (λ c. search needs)
+    (λ c. search needs)
+    (λ c. search needs)
+    (λ c. search needs)
     is-dead-requires
-    mul-keep
-    slice-write-keep
-    same-length
-    same-length-2
+    (λ c. search needs)
+    (λ c. search needs)
+    (λ c. search needs)
+    (λ c. search needs)
     returns-2
-    mul-live-before
-    sub-live-before
-    part-live-before-start
-    part-live-before-end
+    (λ c. search needs)
+    (λ c. search needs)
+    (λ c. search needs)
+    (λ c. search needs)
     live-before-requires
-    same-length-3
+    (λ c. search needs)
     returns-3)
