@@ -28,12 +28,14 @@ use Rattle.liveness.specs.Touched.{Fits}
 use Rattle.liveness.specs.Visit.{Rising, Summed, Visited, summed-turn}
 use Rattle.liveness.specs.Wordwise.{Moved}
 
--- a cell of the code
+-- a word and a cell of the code, which comes first
+pub code-word : (m : List ℕ) (n p : ℕ) → p < n → getD (midOf 0 n m) p 0 ≡ getD m p 0
+code-word m n p h = let at : 0 + p ≡ p = omega arith in get-mid m 0 n p 0 h ∙ rw at
+
 pub cell-in : (m metadata : List ℕ) (n p v : ℕ) → n ≤ length m → p < n → v ≡ getD m p 0 → cellAt (cellsBy (midOf 0 n m) metadata) p ≡ cellOf metadata p v
 cell-in m metadata n p v h l e =
     let long : length (midOf 0 n m) ≡ n = mid-long m 0 n (omega arith) in
-    let at : 0 + p ≡ p = omega arith in
-    cell-at (midOf 0 n m) metadata p (rw long l) ∙ rw (get-mid m 0 n p 0 l, at, e)
+    cell-at (midOf 0 n m) metadata p (rw long l) ∙ rw (code-word m n p l, e)
 
 -- one after another, and all within the buffer
 pub record Laid (s : Layout) (room : ℕ) : Type 0 where
