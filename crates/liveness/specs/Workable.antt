@@ -55,8 +55,8 @@ workable {n = n} {count = count} {memory = memory} d {w} ew s e some few room lo
     })
 
 -- a region written as it is
-pub put-as : (a k : ℕ) (table ys : List ℕ) → midOf a k table ≡ ys → table ≡ putMid a k table ys
-put-as a k table ys e = sym (put-same a k table) ∙ ap (putMid a k table) e
+pub put-itself : (a k : ℕ) (table ys : List ℕ) → midOf a k table ≡ ys → table ≡ putMid a k table ys
+put-itself a k table ys e = sym (put-same a k table) ∙ ap (putMid a k table) e
 
 module _ {s : Layout} {T : Tables} {memory metadata types table : List ℕ} (g : Workable s T memory metadata types table) where
   abbrev n : ℕ
@@ -209,7 +209,7 @@ module _ {s : Layout} {T : Tables} {memory metadata types table : List ℕ} (g :
     pub stores-left : r ≡ false → table ≡ putMid (flagsAt n) n table (stores constants)
     stores-left e =
         let kept : keep ≡ stores constants = dropped (g .known) (g .width) constants (g .some) (g .few) r (liveOf s m′) keep solved (λ f. refl) (λ f. absurd (false≢true (sym e ∙ f))) in
-        put-as (flagsAt n) n table (stores constants) kept
+        put-itself (flagsAt n) n table (stores constants) kept
 
     -- the dead stores by those that were found
     pub stores-swept : r ≡ true → (table′ : List ℕ) → codeOf s m′ ≡ codeOf s m → Sweeps m′ table′ → table′ ≡ putMid (flagsAt n) n table (flagsOf n table′) → table′ ≡ putMid (flagsAt n) n table (stores constants)

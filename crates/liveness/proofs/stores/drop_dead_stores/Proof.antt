@@ -4,7 +4,7 @@ use native.Mathlib.Nat.{mul-le-mul}
 use native.Mathlib.Omega.{arith}
 use Rattle.liveness.specs.Droppable.{few-words, few-blocks}
 use Rattle.liveness.specs.Stores.{no-words, too-many}
-use Rattle.liveness.specs.Workable.{workable, put-as}
+use Rattle.liveness.specs.Workable.{workable, put-itself}
 use borrow.Author.Needs.{needs}
 use Rattle.liveness.proofs.stores.drop_dead_stores.Statement.{statement}
 use Rattle.liveness.proofs.stores.drop_dead_stores.Tie as tie
@@ -12,7 +12,7 @@ use Rattle.liveness.proofs.stores.drop_dead_stores.Tie as tie
 returns : tie.Need-returns
 returns c =
     let a = c .before .before .before .before .before .before .before .before .before in
-    (λ constants. put-as (3 * a .args .n + 1) (a .args .n) (a .args .table .now) _ (no-words (a .pre .0) (c .before .set-words .ensures) constants (c .if1 .taken)), refl)
+    (λ constants. put-itself (3 * a .args .n + 1) (a .args .n) (a .args .table .now) _ (no-words (a .pre .0) (c .before .set-words .ensures) constants (c .if1 .taken)), refl)
 
 mul-if2 : tie.Need-mul-if2
 mul-if2 c =
@@ -25,7 +25,7 @@ mul-if2 c =
 returns-2 : tie.Need-returns-2
 returns-2 c =
     let a = c .before .before .before .before .before .before .before .before .before .before in
-    (λ constants. put-as (3 * a .args .n + 1) (a .args .n) (a .args .table .now) _ (too-many (a .pre .0) (c .before .before .set-words .ensures) constants (c .if2 .taken)), refl)
+    (λ constants. put-itself (3 * a .args .n + 1) (a .args .n) (a .args .table .now) _ (too-many (a .pre .0) (c .before .before .set-words .ensures) constants (c .if2 .taken)), refl)
 
 drop-stores-requires : tie.Need-drop-stores-requires
 drop-stores-requires c κs =
