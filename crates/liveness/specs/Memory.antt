@@ -1,13 +1,13 @@
 -- The code and the sets of slots in one buffer of words, and what is known of the places in one of numbers.
 -- Assumes nothing.
-use mathlib.Core.Path.{_≡_, refl, sym, ap, _∙_}
+use mathlib.Core.Path.{_≡_, sym, ap, _∙_}
 use mathlib.Core.Logic.{⊎-elim, inl, inr}
 use mathlib.Core.Bool.{Bool, true, _&&_, _||_}
 use mathlib.Core.List.{List}
 use Prim.Native.Nat.{ℕ, _+_, _*_, _-_, _≤_, _<_}
 use native.Mathlib.Omega.{arith}
 use lib.ListN.{length, getD}
-use borrow.Rule.Slice.PartMut.{midOf, putMid}
+use borrow.Rule.Slice.PartMut.{midOf}
 use Rattle.words.specs.Bits.{member}
 use Rattle.words.specs.Regions.{mid-long, get-mid}
 use Rattle.instruction.specs.declared.Instruction.{Instruction}

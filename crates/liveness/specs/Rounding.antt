@@ -3,22 +3,17 @@
 use mathlib.Core.Path.{_≡_, refl, sym, ap, _∙_}
 use mathlib.Core.Bool.{Bool, true, false, cond, not, _||_, Bool·beq, false≢true}
 use mathlib.Core.List.{List, [], _∷_}
-use Prim.Native.Nat.{ℕ, zero, suc, _+_, _*_, _-_, _≤_, _<_}
-use native.Mathlib.Numerals.{add-one}
-use native.Mathlib.Decide.{ℕ-discrete}
+use Prim.Native.Nat.{ℕ, suc, _+_, _*_, _-_, _≤_, _<_}
 use native.Mathlib.Omega.{arith}
 use lib.Dec.{eqb}
 use lib.ListN.{length, getD, set, length-set}
 use lib.Seq.{ext-getD}
-use borrow.Rule.Slice.PartMut.{putMid, put-same}
+use borrow.Rule.Slice.PartMut.{put-same}
 use Rattle.words.specs.Bits.{member}
 use Rattle.words.specs.Lists.{tabulate}
 use Rattle.words.specs.Regions.{mid-long}
-use Rattle.instruction.specs.Instruction.{ofWord}
-use Rattle.unit.specs.Size.{maxInstructions}
 use Rattle.effects.specs.Shape.{Sections, Cell, cellAt}
 use Rattle.effects.specs.Effects.{allReads}
-use Rattle.effects.specs.Cells.{cellsBy, cells-long, cell-at}
 use Rattle.flow.specs.Branch.{branchInside}
 use Rattle.flow.specs.Block.{blockOf, blockCount}
 use Rattle.flow.specs.Blocks.{blockStart, Walk, block-walk, start-end, start-first}
@@ -30,8 +25,7 @@ use Rattle.liveness.specs.Rows.{Wide}
 use Rattle.liveness.specs.Shown.{rowAt, Holds, Shown, shown-set, row-before, row-same, row-other}
 use Rattle.liveness.specs.Round.{walk, walk-end, walk-wide, block-rows, block-holds}
 use Rattle.liveness.specs.Out.{out-holds}
-use Rattle.liveness.specs.Visit.{Summed, Visited, Rising}
-use Rattle.liveness.specs.Wordwise.{Moved}
+use Rattle.liveness.specs.Visit.{Summed, Visited}
 
 -- ---- the number of rows stays
 

@@ -2,24 +2,19 @@
 -- Assumes nothing.
 use mathlib.Core.Path.{_≡_, refl, sym, ap, _∙_}
 use mathlib.Core.Logic.{inl, inr}
-use mathlib.Core.Bool.{Bool, true, false, cond, not, _&&_, _||_, false≢true}
-use mathlib.Core.List.{List, [], _∷_, _++_, append-nil}
-use Prim.Native.Nat.{ℕ, zero, suc, _+_, _*_, _-_, _≤_, _<_}
+use mathlib.Core.Bool.{Bool, true, false, cond, not, _&&_, false≢true}
+use mathlib.Core.List.{List, _∷_, _++_, append-nil}
+use Prim.Native.Nat.{ℕ, zero, suc, _+_, _<_}
 use native.Mathlib.Decide.{decLe}
 use native.Mathlib.Omega.{arith}
-use lib.Dec.{eqb}
 use lib.ListN.{length, getD, set, take, drop, List·getD-append}
 use lib.Seq.{drop-cons, drop-length, take-length, take-suc, append-snoc, set-at, getD-take, length-take-le}
-use borrow.Author.Tests.{eqb-true, eqb-false, eq-eqb, ne-eqb}
-use Rattle.words.specs.Bits.{member}
+use borrow.Author.Tests.{eqb-true, eqb-false, eq-eqb}
 use Rattle.words.specs.Lists.{tabulate}
 use Rattle.effects.specs.Shape.{Tables, Sections, Cell, cellAt, noCell}
-use Rattle.instruction.specs.Instruction.{ofWord, class}
-use Rattle.unit.specs.Size.{maxInstructions, metadataSize}
+use Rattle.instruction.specs.Instruction.{ofWord}
 use Rattle.effects.specs.Cells.{cellOf, cellsBy, cells-long, cell-at}
-use Rattle.effects.specs.Effects.{allReads, writes, rangeWithin}
-use Rattle.effects.specs.Form.{emptyRange}
-use Rattle.effects.specs.Sound.{writesByClass}
+use Rattle.effects.specs.Effects.{allReads}
 use Rattle.flow.specs.Branch.{branchInside}
 use Rattle.flow.specs.Block.{blockOf, blockCount}
 use Rattle.flow.specs.Marks.{Marked}
@@ -28,7 +23,7 @@ use Rattle.pc_map.specs.Boundary.{isKept}
 use Rattle.liveness.specs.Live.{Row, liveBefore, edges, isLast, joined, liveAfter, noRow}
 use Rattle.liveness.specs.Dead.{isDead, sweptAt, sweepFrom}
 use Rattle.liveness.specs.Dead as dead
-use Rattle.liveness.specs.Touched.{reading, writing, Within, Before, Fits}
+use Rattle.liveness.specs.Touched.{Within, Before}
 use Rattle.liveness.specs.Rows.{Wide, before-bit, before-long, after-long}
 use Rattle.liveness.specs.Shown.{Holds, Shown, bit-past}
 use Rattle.liveness.specs.Round.{not-touched}

@@ -1,7 +1,7 @@
 // What is live at a block's end.
 ghost use mathlib.Core.Path.{_≡_};
 ghost use mathlib.Core.Bool.{true};
-ghost use Prim.Native.Nat.{ℕ, _+_, _*_, _≤_, _<_};
+ghost use Prim.Native.Nat.{_+_, _*_, _≤_, _<_};
 ghost use lib.ListN.{length, getD};
 ghost use Rattle.instruction.specs.Instruction.{ofWord};
 ghost use Rattle.liveness.specs.Memory.{Laid, Coded, rowOf, liveOf};

@@ -2,7 +2,7 @@ use mathlib.Core.Path.{_≡_, refl, _∙_}
 use mathlib.Core.Logic.{⊎-elim}
 use Prim.Native.Nat.{_+_, _*_, _-_, _≤_, _<_}
 use native.Mathlib.Omega.{arith}
-use lib.ListN.{length, getD}
+use lib.ListN.{length}
 use Rattle.effects.specs.Shape.{Tables, tablesOf}
 use Rattle.effects.specs.Cells.{cellsBy}
 use Rattle.liveness.specs.Memory.{codeOf, usesOf, preservedOf, InSums, past-sums, in-sums, sums-turn, same-word, same-code}

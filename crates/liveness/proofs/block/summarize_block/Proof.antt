@@ -1,13 +1,12 @@
 use mathlib.Core.Path.{_≡_, refl, sym, _∙_}
 use mathlib.Core.Logic.{⊎-elim}
-use mathlib.Core.List.{List}
-use Prim.Native.Nat.{ℕ, suc, _+_, _-_, _≤_, _<_}
+use Prim.Native.Nat.{ℕ, suc, _+_, _-_, _≤_}
 use native.Mathlib.Omega.{arith}
 use lib.ListN.{length, getD}
 use borrow.Rule.Slice.PartMut.{midOf, putMid}
 use Rattle.words.specs.Regions.{mid-long}
 use Rattle.effects.specs.Shape.{Tables, tablesOf}
-use Rattle.effects.specs.Cells.{cellsBy}
+use Rattle.effects.specs.Cells.{cellOf, cellsBy}
 use Rattle.liveness.specs.Memory.{cell-in}
 use Rattle.liveness.specs.Only.{At, Either, Only, only-none, only-both, lent-long, both-lent, same-mid}
 use Rattle.liveness.specs.Through.{Summary, summary-begin, summary-turn}
@@ -60,6 +59,7 @@ loop-again c =
     let x = both-lent m (s .args .uses) (s .args .preserved) (s .args .w) (u .last .0) (v .last .0) _ (s .pre .1) (s .pre .2) refl (v .kept .0) (u .kept .0) in
     let m₂ = putMid (s .args .uses) (s .args .uses + s .args .w - s .args .uses) (putMid (s .args .preserved) (s .args .preserved + s .args .w - s .args .preserved) m (v .last .0)) (u .last .0) in
     let q : l .p ≡ suc (l .p - 1) = omega arith in
+    let word = getD (l .memory) (l .p - 1) 0 in
     let same = l .inv .3 .same (l .p - 1) (⊎-elim (λ i. omega (arith, i .0)) (λ i. omega (arith, i .0))) in
     let room : s .args .uses + s .args .w ≤ length (l .memory) = rw (l .inv .2, x .only .long) (omega arith) in
     let long : length (midOf (s .args .uses) (s .args .w) (y .last .0)) ≡ length (midOf (s .args .uses) (s .args .w) (l .memory)) = mid-long (y .last .0) (s .args .uses) (s .args .w) (rw (y .kept .0) room) ∙ sym (mid-long (l .memory) (s .args .uses) (s .args .w) room) in (
@@ -69,7 +69,7 @@ loop-again c =
       only-both _ _ _ _ (l .inv .3) (y .ensures .1),
       λ n h g.
           let within : n ≤ length m₂ = rw (x .only .long) (omega arith) in
-          summary-turn T (s .args .keep .now) (cellsBy (midOf 0 n m₂) (s .args .metadata .now)) _ _ _ _ _ _ _ _ q (l .inv .1) (cell-in m₂ (s .args .metadata .now) n (l .p - 1) _ within (omega arith) same) (l .inv .4 n h g) long (y .ensures .0),
+          summary-turn T (s .args .keep .now) (cellsBy (midOf 0 n m₂) (s .args .metadata .now)) (cellOf (s .args .metadata .now) (l .p - 1) word) (midOf (s .args .uses) (s .args .w) (l .memory)) (midOf (s .args .preserved) (s .args .w) (l .memory)) _ _ (l .p) (l .p - 1) _ q (l .inv .1) (cell-in m₂ (s .args .metadata .now) n (l .p - 1) word within (omega arith) same) (l .inv .4 n h g) long (y .ensures .0),
     )
 
 same-length : tie.Need-same-length Inv-loop μ-loop

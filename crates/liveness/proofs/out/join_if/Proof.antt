@@ -1,6 +1,6 @@
-use Prim.Native.Nat.{_+_, _*_, _≤_}
+use Prim.Native.Nat.{_*_}
 use native.Mathlib.Omega.{arith}
-use lib.ListN.{length, getD}
+use lib.ListN.{getD}
 use Rattle.liveness.specs.Memory.{liveOf}
 use Rattle.liveness.specs.Only.{mid-mid, only-none}
 use Rattle.liveness.specs.Out.{joined-if, not-joined}

@@ -1,7 +1,5 @@
-use mathlib.Core.Path.{refl}
-use Prim.Native.Nat.{_+_, _*_, _-_, _<_}
+use Prim.Native.Nat.{_+_}
 use native.Mathlib.Omega.{arith}
-use lib.ListN.{getD}
 use Rattle.liveness.specs.Memory.{in-rows, visited}
 use Rattle.liveness.specs.Shown.{row-before}
 use borrow.Author.Needs.{needs}

@@ -1,10 +1,9 @@
 use mathlib.Core.Path.{_≡_, refl, sym, _∙_}
 use mathlib.Core.List.{List}
-use Prim.Native.Nat.{ℕ, suc, _+_, _*_, _-_, _≤_, _<_}
+use Prim.Native.Nat.{ℕ, suc, _+_, _-_, _≤_, _<_}
 use native.Mathlib.Omega.{arith}
 use lib.ListN.{length, getD}
-use borrow.Rule.Slice.PartMut.{midOf, putMid}
-use Rattle.words.specs.Regions.{mid-long, get-mid}
+use Rattle.words.specs.Regions.{mid-long}
 use Rattle.effects.specs.Shape.{tablesOf}
 use Rattle.effects.specs.Cells.{cellsBy, cells-long}
 use Rattle.liveness.specs.Live.{Row}
