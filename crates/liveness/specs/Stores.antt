@@ -19,7 +19,7 @@ use Rattle.flow.specs.Branch.{branchInside}
 use Rattle.liveness.specs.Live.{Row, noRow, solveIn, maxLivenessWork, liveRows}
 use Rattle.liveness.specs.Dead.{sweepFrom, withoutDead, deadStores}
 use Rattle.liveness.specs.Wordwise.{none-in}
-use Rattle.liveness.specs.Rows.{start-wide}
+use Rattle.liveness.specs.Rows.{no-bit, start-wide}
 use Rattle.liveness.specs.Shown.{rowAt, Shown, row-before}
 use Rattle.liveness.specs.Visit.{Summed}
 use Rattle.liveness.specs.Rounding.{Around}
@@ -42,11 +42,6 @@ zero-row w count b h =
     let k : i < w = rw long at g in
     get-mid (zeros (w * count)) (w * b) w i 0 k ∙ getD-replicate {A = ℕ} (w * count) (w * b + i) 0 0 (omega arith) ∙ sym (getD-replicate {A = ℕ} w i 0 0 k))
 
-false-bit : (s t : ℕ) → getD (replicate s false) t false ≡ false
-false-bit zero t = refl
-false-bit (suc s) zero = refl
-false-bit (suc s) (suc t) = false-bit s t
-
 module _ {T : Tables} {n count : ℕ} {words metadata types leaders blocks starts keep : List ℕ} (d : Droppable T n count words metadata types leaders blocks starts keep)
     {w : ℕ} (ew : w ≡ setWords (length types)) (constants : List ℕ) where
   abbrev S : Sections
@@ -68,12 +63,11 @@ module _ {T : Tables} {n count : ℕ} {words metadata types leaders blocks start
   long-cells = cells-long words metadata ∙ d .long-words
 
   start-shown : Shown w nothing first (replicate (w * count) 0)
-  unfolding noRow
   start-shown = record {
     long = length-replicate {A = ℕ} (w * count) 0 ∙ ap (λ (k : ℕ). w * k) (sym (length-replicate count nothing));
     held = λ b h t.
         let k : b < count = rw (length-replicate count nothing) at h in
-        rw (zero-row w count b k, getD-replicate count b nothing nothing k) (none-in w t ∙ sym (false-bit (length types) t));
+        rw (zero-row w count b k, getD-replicate count b nothing nothing k) (none-in w t ∙ sym (no-bit S (length cells) leaders keep t));
   }
 
   inside-cells : (p : ℕ) → p < length cells → branchInside (length cells) p (cellAt cells p .instruction) ≡ true
