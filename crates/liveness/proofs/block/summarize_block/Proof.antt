@@ -69,7 +69,7 @@ loop-again c =
       only-both _ _ _ _ (l .inv .3) (y .ensures .1),
       λ n h g.
           let within : n ≤ length m₂ = rw (x .only .long) (omega arith) in
-          summary-turn T (s .args .keep .now) (cellsBy (midOf 0 n m₂) (s .args .metadata .now)) (cellOf (s .args .metadata .now) (l .p - 1) word) (midOf (s .args .uses) (s .args .w) (l .memory)) (midOf (s .args .preserved) (s .args .w) (l .memory)) _ _ (l .p) (l .p - 1) _ q (l .inv .1) (cell-in m₂ (s .args .metadata .now) n (l .p - 1) word within (omega arith) same) (l .inv .4 n h g) long (y .ensures .0),
+          summary-turn T (s .args .keep .now) (cellsBy (midOf 0 n m₂) (s .args .metadata .now)) (cellOf (s .args .metadata .now) (l .p - 1) word) (midOf (s .args .uses) (s .args .w) (l .memory)) (midOf (s .args .preserved) (s .args .w) (l .memory)) (midOf (s .args .uses) (s .args .w) (y .last .0)) (midOf (s .args .preserved) (s .args .w) (y .last .0)) (l .p) (l .p - 1) _ q (l .inv .1) (cell-in m₂ (s .args .metadata .now) n (l .p - 1) word within (omega arith) same) (l .inv .4 n h g) long (y .ensures .0),
     )
 
 same-length : tie.Need-same-length Inv-loop μ-loop
