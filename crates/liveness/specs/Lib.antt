@@ -2,6 +2,7 @@ pub mod Live
 pub mod Dead
 pub mod Sets
 pub mod Touched
+pub mod Only
 pub mod Wordwise
 pub mod Through
 pub mod Rows
@@ -9,8 +10,12 @@ pub mod Shown
 pub mod Round
 pub mod Out
 pub mod Visit
+pub mod Memory
 pub mod Rounding
 pub mod Solving
 pub mod Unread
 pub mod Sweeping
 pub mod Sweep
+pub mod Droppable
+pub mod Stores
+pub mod Workable

@@ -20,7 +20,7 @@ use Rattle.flow.specs.Blocks.{block-below}
 use Rattle.flow.specs.Marks.{Marked}
 use Rattle.flow.specs.Flags.{Flags}
 use Rattle.liveness.specs.Live.{Row, edges, joined, noRow}
-use Rattle.liveness.specs.Rows.{union-bit}
+use Rattle.liveness.specs.Rows.{union-bit, no-bit}
 use Rattle.liveness.specs.Shown.{rowAt, Holds, Shown, row-before}
 use Rattle.liveness.specs.Wordwise.{none-in}
 
@@ -58,15 +58,6 @@ out-joined w live blocks n p k q m i x f g l₀ l₁ l₂ ex ef eg eq ek e a b t
 -- ---- the same of rows
 
 module _ (S : Sections) (n : ℕ) (leaders keep : List ℕ) (long : length leaders ≡ n) (flags : Flags leaders) (one : Marked leaders 0) where
-  no-bit : (t : ℕ) → getD (noRow S n leaders keep) t false ≡ false
-  unfolding noRow
-  no-bit t = go (S .locals) t
-    where
-      go : (s t : ℕ) → getD (replicate s false) t false ≡ false
-      go zero t = refl
-      go (suc s) zero = refl
-      go (suc s) (suc t) = go s t
-
   module _ (w : ℕ) (rows : List Row) (live blocks : List ℕ) (count : length rows ≡ blockCount leaders) (numbers : blocks ≡ tabulate n (blockOf leaders)) (shown : Shown w (noRow S n leaders keep) rows live) where
     pub number-at : (q : ℕ) → q < n → getD blocks q 0 ≡ blockOf leaders q
     number-at q h = rw numbers (getD-tabulate n (blockOf leaders) q 0 h)
@@ -88,17 +79,17 @@ module _ (S : Sections) (n : ℕ) (leaders keep : List ℕ) (long : length leade
         go true true q true e =
             rw (start-bit (suc p) t (ltb-true (suc p) n q), start-bit (target p (x .instruction)) t (ltb-true (target p (x .instruction)) n e))
             (sym (union-bit (getD rows (blockOf leaders (suc p)) (noRow S n leaders keep)) (joined S n leaders keep rows (target p (x .instruction) ∷ [])) t
-            ∙ rw (union-bit (getD rows (blockOf leaders (target p (x .instruction))) (noRow S n leaders keep)) (noRow S n leaders keep) t, no-bit t, or-false)))
+            ∙ rw (union-bit (getD rows (blockOf leaders (target p (x .instruction))) (noRow S n leaders keep)) (noRow S n leaders keep) t, no-bit S n leaders keep t, or-false)))
         go true true q false e =
-            rw (start-bit (suc p) t (ltb-true (suc p) n q)) (sym (union-bit (getD rows (blockOf leaders (suc p)) (noRow S n leaders keep)) (noRow S n leaders keep) t ∙ rw (no-bit t)))
+            rw (start-bit (suc p) t (ltb-true (suc p) n q)) (sym (union-bit (getD rows (blockOf leaders (suc p)) (noRow S n leaders keep)) (noRow S n leaders keep) t ∙ rw (no-bit S n leaders keep t)))
         go true false q true e =
             rw (start-bit (target p (x .instruction)) t (ltb-true (target p (x .instruction)) n e))
-            (sym (union-bit (getD rows (blockOf leaders (target p (x .instruction))) (noRow S n leaders keep)) (noRow S n leaders keep) t ∙ rw (no-bit t, or-false)))
-        go true false q false e = sym (no-bit t)
+            (sym (union-bit (getD rows (blockOf leaders (target p (x .instruction))) (noRow S n leaders keep)) (noRow S n leaders keep) t ∙ rw (no-bit S n leaders keep t, or-false)))
+        go true false q false e = sym (no-bit S n leaders keep t)
         go false l q true e =
             rw (start-bit (target p (x .instruction)) t (ltb-true (target p (x .instruction)) n e))
-            (sym (union-bit (getD rows (blockOf leaders (target p (x .instruction))) (noRow S n leaders keep)) (noRow S n leaders keep) t ∙ rw (no-bit t, or-false)))
-        go false l q false e = sym (no-bit t)
+            (sym (union-bit (getD rows (blockOf leaders (target p (x .instruction))) (noRow S n leaders keep)) (noRow S n leaders keep) t ∙ rw (no-bit S n leaders keep t, or-false)))
+        go false l q false e = sym (no-bit S n leaders keep t)
 
     -- a block's row lies within the words
     pub row-inside : (q : ℕ) → q < n → w * getD blocks q 0 + w ≤ length live

@@ -3,22 +3,17 @@
 use mathlib.Core.Path.{_≡_, refl, sym, ap, _∙_}
 use mathlib.Core.Bool.{Bool, true, false, cond, not, _||_, Bool·beq, false≢true}
 use mathlib.Core.List.{List, [], _∷_}
-use Prim.Native.Nat.{ℕ, zero, suc, _+_, _*_, _-_, _≤_, _<_}
-use native.Mathlib.Numerals.{add-one}
-use native.Mathlib.Decide.{ℕ-discrete}
+use Prim.Native.Nat.{ℕ, suc, _+_, _*_, _-_, _≤_, _<_}
 use native.Mathlib.Omega.{arith}
 use lib.Dec.{eqb}
 use lib.ListN.{length, getD, set, length-set}
 use lib.Seq.{ext-getD}
-use borrow.Rule.Slice.PartMut.{putMid, put-same}
+use borrow.Rule.Slice.PartMut.{put-same}
 use Rattle.words.specs.Bits.{member}
 use Rattle.words.specs.Lists.{tabulate}
 use Rattle.words.specs.Regions.{mid-long}
-use Rattle.instruction.specs.Instruction.{ofWord}
-use Rattle.unit.specs.Size.{maxInstructions}
 use Rattle.effects.specs.Shape.{Sections, Cell, cellAt}
 use Rattle.effects.specs.Effects.{allReads}
-use Rattle.effects.specs.Cells.{cellsBy, cells-long, cell-at}
 use Rattle.flow.specs.Branch.{branchInside}
 use Rattle.flow.specs.Block.{blockOf, blockCount}
 use Rattle.flow.specs.Blocks.{blockStart, Walk, block-walk, start-end, start-first}
@@ -30,8 +25,7 @@ use Rattle.liveness.specs.Rows.{Wide}
 use Rattle.liveness.specs.Shown.{rowAt, Holds, Shown, shown-set, row-before, row-same, row-other}
 use Rattle.liveness.specs.Round.{walk, walk-end, walk-wide, block-rows, block-holds}
 use Rattle.liveness.specs.Out.{out-holds}
-use Rattle.liveness.specs.Visit.{Summed, Visited, Rising}
-use Rattle.liveness.specs.Wordwise.{Moved}
+use Rattle.liveness.specs.Visit.{Summed, Visited}
 
 -- ---- the number of rows stays
 
@@ -89,19 +83,6 @@ rows-refl [] = refl
 rows-refl (a ∷ x) = rw (row-refl a) (rows-refl x)
 
 -- ---- what a round starts from
-
--- the lent memory is as large as is needed, and all places named in it are inside
-pub record Ready (w count : ℕ) (words blocks starts : List ℕ) (live uses preserved : ℕ) : Type 0 where
-  pub few : w ≤ 1024
-  pub most : length words ≤ maxInstructions
-  pub long-blocks : length blocks ≡ length words
-  pub long-live : live ≡ w * count
-  pub same-uses : uses ≡ live
-  pub same-preserved : preserved ≡ live
-  pub long-starts : count < length starts
-  pub rising : Rising starts count (length words)
-  pub inside : (p : ℕ) → p < length words → branchInside (length words) p (ofWord (getD words p 0)) ≡ true
-  pub rows-inside : (q : ℕ) → q < length words → w * getD blocks q 0 + w ≤ live
 
 pub record Around (S : Sections) (leaders keep : List ℕ) (cells : List Cell) (w count : ℕ) (rows : List Row) (blocks starts uses preserved live : List ℕ) : Type 0 where
   pub long : length leaders ≡ length cells
@@ -242,11 +223,3 @@ module _ (S : Sections) (leaders keep : List ℕ) (cells : List Cell) (w count :
                 absurd (g refl (λ i l h t.
                 let k : i < length rows = rw (a .each, ← a .total) h in
                 final .held i (rw next-long k) t ∙ ap (λ (r : List Row). getD (getD r i none) t false) (sym e) ∙ sym (a .shown .held i k t)))
-
--- the code's own words for a place's instruction
-pub visited-cells : (words metadata : List ℕ) (w q p : ℕ) (blocks uses preserved live live′ : List ℕ) (r : Bool) → p < length words
-    → Visited w q p (length words) (ofWord (getD words p 0)) blocks uses preserved live live′ r
-    → Visited w q p (length (cellsBy words metadata)) (cellAt (cellsBy words metadata) p .instruction) blocks uses preserved live live′ r
-visited-cells words metadata w q p blocks uses preserved live live′ r h v =
-    let i : cellAt (cellsBy words metadata) p .instruction ≡ ofWord (getD words p 0) = ap (λ (x : Cell). x .instruction) (cell-at words metadata p h) in
-    rw (cells-long words metadata, i) v

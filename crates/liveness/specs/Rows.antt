@@ -54,6 +54,16 @@ module _ (S : Sections) (n : ℕ) (leaders keep : List ℕ) where
   unfolding noRow
   none-wide = length-replicate (S .locals) false
 
+  -- no slot is in the empty row
+  pub no-bit : (t : ℕ) → bit (noRow S n leaders keep) t ≡ false
+  unfolding noRow
+  no-bit t = go (S .locals) t
+    where
+      go : (s t : ℕ) → bit (replicate s false) t ≡ false
+      go zero t = refl
+      go (suc s) zero = refl
+      go (suc s) (suc t) = go s t
+
   pub joined-long : (rows : List Row) → Wide rows → (qs : List ℕ) → length (joined S n leaders keep rows qs) ≡ S .locals
   unfolding joined
   joined-long rows w [] = none-wide

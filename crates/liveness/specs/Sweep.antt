@@ -2,24 +2,19 @@
 -- Assumes nothing.
 use mathlib.Core.Path.{_≡_, refl, sym, ap, _∙_}
 use mathlib.Core.Logic.{inl, inr}
-use mathlib.Core.Bool.{Bool, true, false, cond, not, _&&_, _||_, false≢true}
-use mathlib.Core.List.{List, [], _∷_, _++_, append-nil}
-use Prim.Native.Nat.{ℕ, zero, suc, _+_, _*_, _-_, _≤_, _<_}
+use mathlib.Core.Bool.{Bool, true, false, cond, not, _&&_, false≢true}
+use mathlib.Core.List.{List, _∷_, _++_, append-nil}
+use Prim.Native.Nat.{ℕ, zero, suc, _+_, _<_}
 use native.Mathlib.Decide.{decLe}
 use native.Mathlib.Omega.{arith}
-use lib.Dec.{eqb}
 use lib.ListN.{length, getD, set, take, drop, List·getD-append}
 use lib.Seq.{drop-cons, drop-length, take-length, take-suc, append-snoc, set-at, getD-take, length-take-le}
-use borrow.Author.Tests.{eqb-true, eqb-false, eq-eqb, ne-eqb}
-use Rattle.words.specs.Bits.{member}
+use borrow.Author.Tests.{eqb-true, eqb-false, eq-eqb}
 use Rattle.words.specs.Lists.{tabulate}
 use Rattle.effects.specs.Shape.{Tables, Sections, Cell, cellAt, noCell}
-use Rattle.instruction.specs.Instruction.{ofWord, class}
-use Rattle.unit.specs.Size.{maxInstructions, metadataSize}
+use Rattle.instruction.specs.Instruction.{ofWord}
 use Rattle.effects.specs.Cells.{cellOf, cellsBy, cells-long, cell-at}
-use Rattle.effects.specs.Effects.{allReads, writes, rangeWithin}
-use Rattle.effects.specs.Form.{emptyRange}
-use Rattle.effects.specs.Sound.{writesByClass}
+use Rattle.effects.specs.Effects.{allReads}
 use Rattle.flow.specs.Branch.{branchInside}
 use Rattle.flow.specs.Block.{blockOf, blockCount}
 use Rattle.flow.specs.Marks.{Marked}
@@ -28,7 +23,7 @@ use Rattle.pc_map.specs.Boundary.{isKept}
 use Rattle.liveness.specs.Live.{Row, liveBefore, edges, isLast, joined, liveAfter, noRow}
 use Rattle.liveness.specs.Dead.{isDead, sweptAt, sweepFrom}
 use Rattle.liveness.specs.Dead as dead
-use Rattle.liveness.specs.Touched.{reading, writing, Within, Before, Fits}
+use Rattle.liveness.specs.Touched.{Within, Before}
 use Rattle.liveness.specs.Rows.{Wide, before-bit, before-long, after-long}
 use Rattle.liveness.specs.Shown.{Holds, Shown, bit-past}
 use Rattle.liveness.specs.Round.{not-touched}
@@ -48,10 +43,10 @@ module _ (S : Sections) (leaders keep₀ : List ℕ) (cells : List Cell) (rows :
   abbrev pub sweepAt : ℕ → dead.Swept
   sweepAt p = sweepFrom S (length cells) leaders keep₀ rows p (drop p cells)
 
-  abbrev afterAt : ℕ → Row
+  abbrev pub afterAt : ℕ → Row
   afterAt p = liveAfter S (length cells) leaders keep₀ rows p (cellAt cells p) (sweepAt (suc p) .before)
 
-  abbrev stays : ℕ → Bool
+  abbrev pub stays : ℕ → Bool
   stays p = isKept keep₀ p && not (isDead S (cellAt cells p) (afterAt p))
 
   sweep-at : (p : ℕ) → p < length cells → sweepAt p ≡ sweptAt S (length cells) leaders keep₀ rows (cellAt cells p) (isKept keep₀ p) (afterAt p) (sweepAt (suc p))
@@ -73,7 +68,7 @@ module _ (S : Sections) (leaders keep₀ : List ℕ) (cells : List Cell) (rows :
       go false = refl
   swept-before x false a r = refl
 
-  swept-keep : (x : Cell) (k : Bool) (a : Row) (r : dead.Swept) → sweptAt S (length cells) leaders keep₀ rows x k a r .keep ≡ cond (k && not (isDead S x a)) 1 0 ∷ r .keep
+  pub swept-keep : (x : Cell) (k : Bool) (a : Row) (r : dead.Swept) → sweptAt S (length cells) leaders keep₀ rows x k a r .keep ≡ cond (k && not (isDead S x a)) 1 0 ∷ r .keep
   unfolding sweptAt goes remains
   swept-keep x true a r = go (isDead S x a)
     where
@@ -82,10 +77,10 @@ module _ (S : Sections) (leaders keep₀ : List ℕ) (cells : List Cell) (rows :
       go false = refl
   swept-keep x false a r = refl
 
-  before-at : (p : ℕ) → p < length cells → sweepAt p .before ≡ cond (stays p) (liveBefore (S .tables) (cellAt cells p) (afterAt p)) (afterAt p)
+  pub before-at : (p : ℕ) → p < length cells → sweepAt p .before ≡ cond (stays p) (liveBefore (S .tables) (cellAt cells p) (afterAt p)) (afterAt p)
   before-at p h = ap (λ (r : dead.Swept). r .before) (sweep-at p h) ∙ swept-before (cellAt cells p) (isKept keep₀ p) (afterAt p) (sweepAt (suc p))
 
-  keep-at : (p : ℕ) → p < length cells → sweepAt p .keep ≡ cond (stays p) 1 0 ∷ sweepAt (suc p) .keep
+  pub keep-at : (p : ℕ) → p < length cells → sweepAt p .keep ≡ cond (stays p) 1 0 ∷ sweepAt (suc p) .keep
   keep-at p h = ap (λ (r : dead.Swept). r .keep) (sweep-at p h) ∙ swept-keep (cellAt cells p) (isKept keep₀ p) (afterAt p) (sweepAt (suc p))
 
   -- what the sweep starts from
@@ -192,32 +187,18 @@ module _ (S : Sections) (leaders keep₀ : List ℕ) (cells : List Cell) (rows :
           wide true = before-long (S .tables) (cellAt cells q) (afterAt q) ∙ after-wide
           wide false = after-wide
 
--- one place, by the words of the code
+-- one place, by the word v of the code
 module _ (S : Sections) (leaders keep₀ words metadata : List ℕ) (rows : List Row) (w : ℕ) (blocks live : List ℕ) (g : Grounds S leaders keep₀ (cellsBy words metadata) rows w blocks live) where
-  pub code-turn : (keep row row₁ keep′ row′ : List ℕ) (p q : ℕ) → p ≡ suc q → q < length words → SweepFrom S leaders keep₀ (cellsBy words metadata) rows keep row p
-      → Entered (isLast (length leaders) leaders q) w live blocks (length words) q (ofWord (getD words q 0)) row row₁
-      → Swept (S .tables) (isKept keep q) (deadBy (S .types) row₁ (ofWord (getD words q 0))) (cellOf metadata q (getD words q 0)) q keep keep′ row₁ row′
+  pub code-turn : (keep row row₁ keep′ row′ : List ℕ) (n p q v : ℕ) → length words ≡ n → getD words q 0 ≡ v → p ≡ suc q → q < n → SweepFrom S leaders keep₀ (cellsBy words metadata) rows keep row p
+      → Entered (isLast (length leaders) leaders q) w live blocks n q (ofWord v) row row₁
+      → Swept (S .tables) (isKept keep q) (deadBy (S .types) row₁ (ofWord v)) (cellOf metadata q v) q keep keep′ row₁ row′
       → SweepFrom S leaders keep₀ (cellsBy words metadata) rows keep′ row′ q
-  code-turn keep row row₁ keep′ row′ p q e h s a v =
-      let x : cellAt (cellsBy words metadata) q ≡ cellOf metadata q (getD words q 0) = cell-at words metadata q h in
-      let long : length (cellsBy words metadata) ≡ length words = cells-long words metadata in
-      let both : length leaders ≡ length words = g .long ∙ long in
-      let a′ : Entered (isLast (length words) leaders q) w live blocks (length words) q (ofWord (getD words q 0)) row row₁ = rw both at a in
-      sweep-turn S leaders keep₀ (cellsBy words metadata) rows w blocks live g keep row row₁ keep′ row′ q (rw long h) (rw e at s) (rw (x, long) a′) (rw x v)
-
--- the lent memory is as large as is needed, and all that is named in it is inside
-pub record Sweepable (T : Tables) (words metadata types leaders blocks : List ℕ) (keep w live : ℕ) : Type 0 where
-  pub few : w ≤ 1024
-  pub most : length words ≤ maxInstructions
-  pub long-blocks : length blocks ≡ length words
-  pub long-leaders : length leaders ≡ length words
-  pub long-flags : keep ≡ length words
-  pub entries : metadataSize * length words ≤ length metadata
-  pub inside : (p : ℕ) → p < length words → branchInside (length words) p (ofWord (getD words p 0)) ≡ true
-  pub rows-inside : (q : ℕ) → q < length words → w * getD blocks q 0 + w ≤ live
-  pub typed : (p : ℕ) → p < length words → rangeWithin (length types) (getD (writesByClass (class (ofWord (getD words p 0))) (ofWord (getD words p 0))) 0 emptyRange) ≡ true
-  pub held : (p : ℕ) → p < length words → rangeWithin (64 * w) (getD (writesByClass (class (ofWord (getD words p 0))) (ofWord (getD words p 0))) 0 emptyRange) ≡ true
-  pub fits : (p : ℕ) → p < length words → Fits w T (cellOf metadata p (getD words p 0))
+  code-turn keep row row₁ keep′ row′ n p q v en ev e h s a b =
+      let x : cellAt (cellsBy words metadata) q ≡ cellOf metadata q v = cell-at words metadata q (rw en h) ∙ rw ev in
+      let long : length (cellsBy words metadata) ≡ n = cells-long words metadata ∙ en in
+      let both : length leaders ≡ n = g .long ∙ long in
+      let a′ : Entered (isLast n leaders q) w live blocks n q (ofWord v) row row₁ = rw both at a in
+      sweep-turn S leaders keep₀ (cellsBy words metadata) rows w blocks live g keep row row₁ keep′ row′ q (rw long h) (rw e at s) (rw (x, long) a′) (rw x b)
 
 abbrev pub sections : ℕ → List ℕ → List ℕ → Tables → Sections
 sections locals types constants T = record { locals = locals; types = types; constants = constants; tables = T }

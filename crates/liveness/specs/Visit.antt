@@ -1,15 +1,14 @@
 -- The blocks one after another: their sets, and a visit in a round.
 -- Assumes nothing.
-use mathlib.Core.Path.{_≡_, refl, sym, ap, _∙_}
-use mathlib.Core.Bool.{Bool, true, false, _&&_, _||_}
-use mathlib.Core.List.{List, [], _∷_}
-use Prim.Native.Nat.{ℕ, zero, suc, _+_, _*_, _-_, _≤_, _<_}
+use mathlib.Core.Path.{_≡_}
+use mathlib.Core.Bool.{Bool, _&&_, _||_}
+use mathlib.Core.List.{List}
+use Prim.Native.Nat.{ℕ, _+_, _*_, _-_, _≤_, _<_}
 use native.Mathlib.Decide.{ℕ-discrete}
 use native.Mathlib.Omega.{arith}
 use lib.ListN.{length, getD}
-use borrow.Rule.Slice.PartMut.{midOf, putMid}
+use borrow.Rule.Slice.PartMut.{putMid}
 use Rattle.words.specs.Bits.{member}
-use Rattle.words.specs.Regions.{put-long}
 use Rattle.instruction.specs.declared.Instruction.{Instruction}
 use Rattle.effects.specs.Shape.{Tables, Cell}
 use Rattle.liveness.specs.Through.{Summary}
@@ -53,9 +52,3 @@ pub record Visited (w b p n : ℕ) (i : Instruction) (blocks uses preserved live
   pub long : length row ≡ w
   pub bits : (t : ℕ) → member row t ≡ (member (rowAt w uses b) t || (member out t && member (rowAt w preserved b) t))
   pub moved : Moved r (rowAt w live b) row
-
--- a row written leaves the length as it was
-pub put-still : (w k count : ℕ) (u x u′ : List ℕ) → k < count → length u ≡ w * count → length x ≡ w → u′ ≡ putMid (w * k) w u x → length u′ ≡ w * count
-put-still w k count u x u′ h lu lx e =
-    let room : w * k + w ≤ length u = rw lu (row-before w k count h) in
-    rw e (put-long u (w * k) w x lx room ∙ lu)

@@ -14,7 +14,10 @@ use lib.Pow.{shr-shr, shr-lt}
 use lib.Bits.{bitAnd, bitOr, bitXor, or-add-and, xor-add-and, and-le-l, and-le-r, xor-self, or-zero-l, and-zero-l}
 use borrow.Author.Tests.{eqb-true, eqb-false, eq-eqb}
 use Rattle.words.specs.Lists.{every, every-at}
+use borrow.Rule.Slice.PartMut.{midOf}
 use Rattle.words.specs.Bits.{bit, member, bit-or, bit-and}
+use Rattle.words.specs.Regions.{mid-long, get-mid}
+use Rattle.liveness.specs.Only.{At, Only, only-both, only-set, mid-set}
 
 -- ---- a loop that stores f k at each place k, from 0 up
 
@@ -212,6 +215,33 @@ moved f l₀ l k d s h = go (eqb d 0) refl
           let e′ : l ≡ l₀ = set-ext l l₀ w v (s .stored .long) g in
           eqb-false d 0 e (s .other (λ j a. sym (s .stored .done j a) ∙ ap (λ (m : List ℕ). getD m j 0) e′));
     }
+
+-- ---- the same in a region of a larger list
+
+module _ (m₀ m : List ℕ) (a w k : ℕ) (o : Only (At a w) m₀ m) (room : a + w ≤ length m₀) (h : k < w) where
+  within : a + w ≤ length m
+  within = rw (o .long) room
+
+  pub part-only : (v : ℕ) → Only (At a w) m₀ (set m (a + k) v)
+  part-only v = only-both (At a w) m₀ m (set m (a + k) v) o (only-set m a w within k v h)
+
+  -- another region's word is as it was
+  pub part-other : (b : ℕ) → (At a w (b + k) → ⊥) → getD m (b + k) 0 ≡ getD (midOf b w m₀) k 0
+  part-other b n = o .same (b + k) n ∙ sym (get-mid m₀ b w k 0 h)
+
+  module _ (f : ℕ → ℕ) where
+    -- so is this one's, until it is stored
+    pub part-old : Stored f (midOf a w m₀) (midOf a w m) k → getD m (a + k) 0 ≡ getD (midOf a w m₀) k 0
+    part-old s = sym (get-mid m a w k 0 h) ∙ s .rest k (omega arith)
+
+    pub part-turn : (v : ℕ) → Stored f (midOf a w m₀) (midOf a w m) k → v ≡ f k → Stored f (midOf a w m₀) (midOf a w (set m (a + k) v)) (k + 1)
+    part-turn v s e = rw (mid-set m a w within k v h) (stored-turn f (midOf a w m₀) (midOf a w m) k v s (rw (mid-long m a w within) h) e)
+
+    pub part-moves : (d v : ℕ) → Storing f (midOf a w m₀) (midOf a w m) k d → v ≡ f k → getD m (a + k) 0 < 2 ^ 64 → f k < 2 ^ 64
+        → Storing f (midOf a w m₀) (midOf a w (set m (a + k) v)) (k + 1) (bitOr d (bitXor (getD m (a + k) 0) v))
+    part-moves d v s e old new =
+        rw (mid-set m a w within k v h, ← get-mid m a w k 0 h)
+        (storing-turn f (midOf a w m₀) (midOf a w m) k d v s (rw (mid-long m a w within) h) e (rw (get-mid m a w k 0 h) old) new)
 
 -- ---- all slots or none
 

@@ -2,22 +2,27 @@
 ghost use mathlib.Core.Path.{_≡_};
 ghost use Prim.Native.Nat.{ℕ, _+_, _*_, _-_, _≤_, _<_};
 ghost use lib.ListN.{length, getD};
+ghost use borrow.Rule.Slice.PartMut.{midOf};
 ghost use Rattle.unit.specs.Size.{metadataSize};
 ghost use Rattle.effects.specs.Shape.{tablesOf};
 ghost use Rattle.effects.specs.Cells.{cellOf, cellsBy};
 ghost use Rattle.pc_map.specs.Boundary.{isKept};
+ghost use Rattle.liveness.specs.Memory.{Laid, codeOf, usesOf, preservedOf, liveOf};
+ghost use Rattle.liveness.specs.Only.{At, Either, Only};
 ghost use Rattle.liveness.specs.Touched.{Fits};
 ghost use Rattle.liveness.specs.Through.{Placed, Summary};
 ghost use Rattle.liveness.specs.Visit.{Rising, Summed};
+use crate::Layout;
 use crate::row;
 use crate::touch;
 use instruction::Instruction;
 
-// A place more, before those that the two sets are of.
+// A place more, before those that the two sets of w words are of.
 fn summarize_place(
-    uses: &mut [u64],
-    preserved: &mut [u64],
-    words: &[u64],
+    memory: &mut [u64],
+    uses: usize,
+    preserved: usize,
+    w: usize,
     metadata: &[u8],
     keep: &[u32],
     functions: &[u8],
@@ -25,22 +30,40 @@ fn summarize_place(
     cases: &[u8],
     p: usize,
 )
-    requires { ⌜ (p < length (now words)) × (metadataSize * length (now words) ≤ length (now metadata)) × (length (now keep) ≡ length (now words)) × (length (now preserved) ≡ length (now uses)) × Fits (length (now uses)) (tablesOf (now functions) (now externs) (now cases)) (cellOf (now metadata) p (getD (now words) p 0)) ⌝ }
-    ensures { λ _. ⌜ Placed (tablesOf (now (functions .entry)) (now (externs .entry)) (now (cases .entry))) (isKept (now (keep .entry)) p) (cellOf (now (metadata .entry)) p (getD (now (words .entry)) p 0)) (now (uses .entry)) (now (preserved .entry)) (now (uses .exit)) (now (preserved .exit)) ⌝ }
+    requires { ⌜ (p < uses) × (uses + w ≤ preserved) × (preserved + w ≤ length (now memory)) × (metadataSize * p + metadataSize ≤ length (now metadata)) × (p < length (now keep)) × Fits w (tablesOf (now functions) (now externs) (now cases)) (cellOf (now metadata) p (getD (now memory) p 0)) ⌝ }
+    ensures { λ _. ⌜ Placed (tablesOf (now (functions .entry)) (now (externs .entry)) (now (cases .entry))) (isKept (now (keep .entry)) p) (cellOf (now (metadata .entry)) p (getD (now (memory .entry)) p 0)) (midOf uses w (now (memory .entry))) (midOf preserved w (now (memory .entry))) (midOf uses w (now (memory .exit))) (midOf preserved w (now (memory .exit))) × Only (Either (At uses w) (At preserved w)) (now (memory .entry)) (now (memory .exit)) ⌝ }
 {
     if keep[p] != 1 {
         return;
     }
-    let i = Instruction::from_word(words[p]);
-    touch::put_writes(preserved, false, i, metadata, p, functions, externs, cases);
-    touch::live_before(uses, i, metadata, p, functions, externs, cases);
+    let i = Instruction::from_word(memory[p]);
+    touch::put_writes(
+        &mut memory[preserved..preserved + w],
+        false,
+        i,
+        metadata,
+        p,
+        functions,
+        externs,
+        cases,
+    );
+    touch::live_before(
+        &mut memory[uses..uses + w],
+        i,
+        metadata,
+        p,
+        functions,
+        externs,
+        cases,
+    );
 }
 
-// The sets of the places from start to end.
-pub fn summarize_block(
-    uses: &mut [u64],
-    preserved: &mut [u64],
-    words: &[u64],
+// The two sets of the places from start to end.
+fn summarize_block(
+    memory: &mut [u64],
+    uses: usize,
+    preserved: usize,
+    w: usize,
     metadata: &[u8],
     keep: &[u32],
     functions: &[u8],
@@ -49,18 +72,19 @@ pub fn summarize_block(
     start: usize,
     end: usize,
 )
-    requires { ⌜ (start ≤ end) × (end ≤ length (now words)) × (metadataSize * length (now words) ≤ length (now metadata)) × (length (now keep) ≡ length (now words)) × (length (now preserved) ≡ length (now uses)) × ((p : ℕ) → p < length (now words) → Fits (length (now uses)) (tablesOf (now functions) (now externs) (now cases)) (cellOf (now metadata) p (getD (now words) p 0))) ⌝ }
-    ensures { λ _. ⌜ Summary (tablesOf (now (functions .entry)) (now (externs .entry)) (now (cases .entry))) (now (keep .entry)) (cellsBy (now (words .entry)) (now (metadata .entry))) (now (uses .exit)) (now (preserved .exit)) start (end - start) ⌝ }
+    requires { ⌜ (end ≤ uses) × (uses + w ≤ preserved) × (preserved + w ≤ length (now memory)) × (start ≤ end) × (metadataSize * end ≤ length (now metadata)) × (end ≤ length (now keep)) × ((p : ℕ) → p < end → Fits w (tablesOf (now functions) (now externs) (now cases)) (cellOf (now metadata) p (getD (now memory) p 0))) ⌝ }
+    ensures { λ _. ⌜ ((n : ℕ) → end ≤ n → n ≤ uses → Summary (tablesOf (now (functions .entry)) (now (externs .entry)) (now (cases .entry))) (now (keep .entry)) (cellsBy (midOf 0 n (now (memory .entry))) (now (metadata .entry))) (midOf uses w (now (memory .exit))) (midOf preserved w (now (memory .exit))) start (end - start)) × Only (Either (At uses w) (At preserved w)) (now (memory .entry)) (now (memory .exit)) ⌝ }
 {
-    row::fill(uses, 0);
-    row::fill(preserved, u64::MAX);
+    row::fill(&mut memory[preserved..preserved + w], u64::MAX);
+    row::fill(&mut memory[uses..uses + w], 0);
     let mut p = end;
     while p > start {
         p -= 1;
         summarize_place(
+            memory,
             uses,
             preserved,
-            words,
+            w,
             metadata,
             keep,
             functions,
@@ -71,32 +95,30 @@ pub fn summarize_block(
     }
 }
 
-// The sets of all blocks, w words to each.
+// The sets of all blocks.
 pub fn summarize(
-    uses: &mut [u64],
-    preserved: &mut [u64],
-    words: &[u64],
+    memory: &mut [u64],
+    sets: Layout,
     metadata: &[u8],
     keep: &[u32],
     functions: &[u8],
     externs: &[u8],
     cases: &[u8],
     starts: &[u32],
-    count: usize,
-    w: usize,
 )
-    requires { ⌜ (count < length (now starts)) × Rising (now starts) count (length (now words)) × (metadataSize * length (now words) ≤ length (now metadata)) × (length (now keep) ≡ length (now words)) × (length (now uses) ≡ w * count) × (length (now preserved) ≡ w * count) × ((p : ℕ) → p < length (now words) → Fits w (tablesOf (now functions) (now externs) (now cases)) (cellOf (now metadata) p (getD (now words) p 0))) ⌝ }
-    ensures { λ _. ⌜ Summed (tablesOf (now (functions .entry)) (now (externs .entry)) (now (cases .entry))) (now (keep .entry)) (cellsBy (now (words .entry)) (now (metadata .entry))) w (now (starts .entry)) (now (uses .exit)) (now (preserved .exit)) count ⌝ }
+    requires { ⌜ Laid sets (length (now memory)) × (sets .count < length (now starts)) × Rising (now starts) (sets .count) (sets .code) × (metadataSize * sets .code ≤ length (now metadata)) × (length (now keep) ≡ sets .code) × ((p : ℕ) → p < sets .code → Fits (sets .width) (tablesOf (now functions) (now externs) (now cases)) (cellOf (now metadata) p (getD (now memory) p 0))) ⌝ }
+    ensures { λ _. ⌜ Summed (tablesOf (now (functions .entry)) (now (externs .entry)) (now (cases .entry))) (now (keep .entry)) (cellsBy (codeOf sets (now (memory .entry))) (now (metadata .entry))) (sets .width) (now (starts .entry)) (usesOf sets (now (memory .exit))) (preservedOf sets (now (memory .exit))) (sets .count) × (codeOf sets (now (memory .exit)) ≡ codeOf sets (now (memory .entry))) × (liveOf sets (now (memory .exit)) ≡ liveOf sets (now (memory .entry))) ⌝ }
 {
     let mut b: usize = 0;
-    while b < count {
-        let at = w * b;
+    while b < sets.count {
+        let at = sets.width * b;
         let start = starts[b] as usize;
         let end = starts[b + 1] as usize;
         summarize_block(
-            &mut uses[at..at + w],
-            &mut preserved[at..at + w],
-            words,
+            memory,
+            sets.uses + at,
+            sets.preserved + at,
+            sets.width,
             metadata,
             keep,
             functions,

@@ -4,5 +4,18 @@ mod dead;
 mod out;
 mod round;
 mod row;
+pub mod stores;
 mod sweep;
 mod touch;
+
+// Where sets of slots lie in one buffer of words: behind the code's words one set, and then, for each of the blocks, the set that
+// it uses, the set that it preserves, and the set that is live at its start.
+pub struct Layout {
+    pub code: usize,
+    pub width: usize,
+    pub count: usize,
+    pub row: usize,
+    pub uses: usize,
+    pub preserved: usize,
+    pub live: usize,
+}

@@ -1,13 +1,15 @@
 // Sets of slots: slot t is bit t % 64 of word t / 64.
 ghost use mathlib.Core.Path.{_≡_};
-ghost use Prim.Native.Nat.{ℕ, _*_, _≤_, _<_};
+ghost use Prim.Native.Nat.{ℕ, _+_, _*_, _≤_, _<_};
 ghost use mathlib.Core.Bool.{true, _&&_, _||_};
 ghost use lib.Dec.{eqb};
 ghost use lib.ListN.{length, replicate};
+ghost use borrow.Rule.Slice.PartMut.{midOf};
 ghost use Rattle.words.specs.Bits.{member};
 ghost use Rattle.effects.specs.Effects.{rangeHas, rangeWithin};
 ghost use Rattle.liveness.specs.Sets.{Put, range};
 ghost use Rattle.liveness.specs.Wordwise.{Moved};
+ghost use Rattle.liveness.specs.Only.{At, Only};
 use effects::Range;
 use words::bits;
 
@@ -60,31 +62,38 @@ pub fn fill(row: &mut [u64], v: u64)
     }
 }
 
-// Puts in all slots of another set.
-pub fn join(row: &mut [u64], other: &[u64])
-    requires { ⌜ length (now other) ≡ length (now row) ⌝ }
-    ensures { λ _. ⌜ ((t : ℕ) → member (now (row .exit)) t ≡ (member (now (row .entry)) t || member (now (other .entry)) t)) ⌝ }
+// Puts all slots of the set at b into the set at a, both of w words.
+pub fn join(memory: &mut [u64], a: usize, b: usize, w: usize)
+    requires { ⌜ (a + w ≤ b) × (b + w ≤ length (now memory)) ⌝ }
+    ensures { λ _. ⌜ ((t : ℕ) → member (midOf a w (now (memory .exit))) t ≡ (member (midOf a w (now (memory .entry))) t || member (midOf b w (now (memory .entry))) t)) × Only (At a w) (now (memory .entry)) (now (memory .exit)) ⌝ }
 {
     let mut k: usize = 0;
-    while k < row.len() {
-        let x = row[k];
-        row[k] = x | other[k];
+    while k < w {
+        let x = memory[a + k];
+        memory[a + k] = x | memory[b + k];
         k += 1;
     }
 }
 
 // What is live at a block's start, of what is live at its end: the slots that the block uses, and those that it preserves.
-// The answer is whether the set is another one now.
-pub fn transfer(live: &mut [u64], uses: &[u64], preserved: &[u64], out: &[u64]) -> bool
-    requires { ⌜ (length (now uses) ≡ length (now live)) × (length (now preserved) ≡ length (now live)) × (length (now out) ≡ length (now live)) ⌝ }
-    ensures { λ r. ⌜ ((t : ℕ) → member (now (live .exit)) t ≡ (member (now (uses .entry)) t || (member (now (out .entry)) t && member (now (preserved .entry)) t))) × Moved r (now (live .entry)) (now (live .exit)) ⌝ }
+// Each set is given by where it starts. The answer is whether the set is another one now.
+pub fn transfer(
+    memory: &mut [u64],
+    live: usize,
+    uses: usize,
+    preserved: usize,
+    out: usize,
+    w: usize,
+) -> bool
+    requires { ⌜ (uses + w ≤ live) × (preserved + w ≤ live) × (out + w ≤ live) × (live + w ≤ length (now memory)) ⌝ }
+    ensures { λ r. ⌜ ((t : ℕ) → member (midOf live w (now (memory .exit))) t ≡ (member (midOf uses w (now (memory .entry))) t || (member (midOf out w (now (memory .entry))) t && member (midOf preserved w (now (memory .entry))) t))) × Moved r (midOf live w (now (memory .entry))) (midOf live w (now (memory .exit))) × Only (At live w) (now (memory .entry)) (now (memory .exit)) ⌝ }
 {
     let mut changes: u64 = 0;
     let mut k: usize = 0;
-    while k < live.len() {
-        let x = live[k];
-        let y = uses[k] | (out[k] & preserved[k]);
-        live[k] = y;
+    while k < w {
+        let x = memory[live + k];
+        let y = memory[uses + k] | (memory[out + k] & memory[preserved + k]);
+        memory[live + k] = y;
         changes = changes | (x ^ y);
         k += 1;
     }

@@ -1,23 +1,25 @@
 // The sweep that drops dead stores, from the last place to the first.
 ghost use mathlib.Core.Path.{_≡_};
-ghost use mathlib.Core.Bool.{true};
 ghost use mathlib.Core.List.{List};
 ghost use Prim.Native.Nat.{ℕ, _+_, _*_, _≤_, _<_};
 ghost use lib.ListN.{length, getD};
+ghost use borrow.Rule.Slice.PartMut.{putMid};
 ghost use Rattle.instruction.specs.Instruction.{ofWord, class};
-ghost use Rattle.unit.specs.Size.{maxInstructions, metadataSize};
+ghost use Rattle.unit.specs.Size.{metadataSize};
 ghost use Rattle.effects.specs.Shape.{tablesOf};
 ghost use Rattle.effects.specs.Cells.{cellOf, cellsBy};
 ghost use Rattle.effects.specs.Form.{emptyRange};
 ghost use Rattle.effects.specs.Sound.{writesByClass};
-ghost use Rattle.flow.specs.Branch.{branchInside};
 ghost use Rattle.pc_map.specs.Boundary.{isKept};
 ghost use Rattle.liveness.specs.Live.{Row, isLast};
 ghost use Rattle.liveness.specs.Dead.{sweepFrom};
+ghost use Rattle.liveness.specs.Memory.{Laid, Coded, Sweepable, codeOf, rowOf, liveOf, leadersOf, blocksOf, flagsAt, flagsOf};
+ghost use Rattle.liveness.specs.Only.{At, Only};
 ghost use Rattle.liveness.specs.Touched.{Fits};
 ghost use Rattle.liveness.specs.Unread.{Spans, deadBy};
 ghost use Rattle.liveness.specs.Sweeping.{Entered, Swept};
-ghost use Rattle.liveness.specs.Sweep.{Grounds, Sweepable, sections};
+ghost use Rattle.liveness.specs.Sweep.{Grounds, sections};
+use crate::Layout;
 use crate::dead;
 use crate::out;
 use crate::touch;
@@ -35,27 +37,20 @@ fn is_last(leaders: &[u32], p: usize) -> bool
 }
 
 // What is live after place p, of what is live before the next one.
-pub fn enter_place(
-    row: &mut [u64],
-    live: &[u64],
-    words: &[u64],
-    blocks: &[u32],
-    leaders: &[u32],
-    p: usize,
-)
-    requires { ⌜ (length (now row) ≤ 1024) × (p < length (now words)) × (length (now words) ≤ maxInstructions) × (length (now blocks) ≡ length (now words)) × (length (now leaders) ≡ length (now words)) × (branchInside (length (now words)) p (ofWord (getD (now words) p 0)) ≡ true) × ((q : ℕ) → q < length (now words) → length (now row) * getD (now blocks) q 0 + length (now row) ≤ length (now live)) ⌝ }
-    ensures { λ _. ⌜ Entered (isLast (length (now (leaders .entry))) (now (leaders .entry)) p) (length (now (row .entry))) (now (live .entry)) (now (blocks .entry)) (length (now (words .entry))) p (ofWord (getD (now (words .entry)) p 0)) (now (row .entry)) (now (row .exit)) ⌝ }
+fn enter_place(memory: &mut [u64], sets: Layout, blocks: &[u32], leaders: &[u32], p: usize)
+    requires { ⌜ Coded sets (now memory) (now blocks) × (p < sets .code) × (length (now leaders) ≡ sets .code) ⌝ }
+    ensures { λ _. ⌜ Entered (isLast (length (now (leaders .entry))) (now (leaders .entry)) p) (sets .width) (liveOf sets (now (memory .entry))) (now (blocks .entry)) (sets .code) p (ofWord (getD (now (memory .entry)) p 0)) (rowOf sets (now (memory .entry))) (rowOf sets (now (memory .exit))) × Only (At (sets .row) (sets .width)) (now (memory .entry)) (now (memory .exit)) ⌝ }
 {
     if is_last(leaders, p) {
-        out::live_out(row, live, words, blocks, p);
+        out::live_out(memory, blocks, sets, p);
     }
 }
 
 // Drops the store at place p if it is dead; else the row becomes what is live before it.
-pub fn sweep_place(
+fn sweep_place(
+    memory: &mut [u64],
     keep: &mut [u32],
-    row: &mut [u64],
-    words: &[u64],
+    sets: Layout,
     metadata: &[u8],
     types: &[u8],
     functions: &[u8],
@@ -63,45 +58,55 @@ pub fn sweep_place(
     cases: &[u8],
     p: usize,
 )
-    requires { ⌜ (p < length (now words)) × (metadataSize * length (now words) ≤ length (now metadata)) × (length (now keep) ≡ length (now words)) × Spans (now types) (now row) (getD (writesByClass (class (ofWord (getD (now words) p 0))) (ofWord (getD (now words) p 0))) 0 emptyRange) × Fits (length (now row)) (tablesOf (now functions) (now externs) (now cases)) (cellOf (now metadata) p (getD (now words) p 0)) ⌝ }
-    ensures { λ _. ⌜ Swept (tablesOf (now (functions .entry)) (now (externs .entry)) (now (cases .entry))) (isKept (now (keep .entry)) p) (deadBy (now (types .entry)) (now (row .entry)) (ofWord (getD (now (words .entry)) p 0))) (cellOf (now (metadata .entry)) p (getD (now (words .entry)) p 0)) p (now (keep .entry)) (now (keep .exit)) (now (row .entry)) (now (row .exit)) ⌝ }
+    requires { ⌜ Laid sets (length (now memory)) × (p < sets .code) × (metadataSize * sets .code ≤ length (now metadata)) × (length (now keep) ≡ sets .code) × Spans (now types) (rowOf sets (now memory)) (getD (writesByClass (class (ofWord (getD (now memory) p 0))) (ofWord (getD (now memory) p 0))) 0 emptyRange) × Fits (sets .width) (tablesOf (now functions) (now externs) (now cases)) (cellOf (now metadata) p (getD (now memory) p 0)) ⌝ }
+    ensures { λ _. ⌜ Swept (tablesOf (now (functions .entry)) (now (externs .entry)) (now (cases .entry))) (isKept (now (keep .entry)) p) (deadBy (now (types .entry)) (rowOf sets (now (memory .entry))) (ofWord (getD (now (memory .entry)) p 0))) (cellOf (now (metadata .entry)) p (getD (now (memory .entry)) p 0)) p (now (keep .entry)) (now (keep .exit)) (rowOf sets (now (memory .entry))) (rowOf sets (now (memory .exit))) × Only (At (sets .row) (sets .width)) (now (memory .entry)) (now (memory .exit)) ⌝ }
 {
     if keep[p] != 1 {
         return;
     }
-    let i = Instruction::from_word(words[p]);
-    if dead::is_dead(types, &row[..], i) {
+    let start = sets.row;
+    let end = start + sets.width;
+    let i = Instruction::from_word(memory[p]);
+    if dead::is_dead(types, &memory[start..end], i) {
         keep[p] = 0;
         return;
     }
-    touch::live_before(row, i, metadata, p, functions, externs, cases);
+    touch::live_before(
+        &mut memory[start..end],
+        i,
+        metadata,
+        p,
+        functions,
+        externs,
+        cases,
+    );
 }
 
-// Drops the dead stores, given what is live at the start of each block.
+// Drops the dead stores, given what is live at the start of each block. The table holds, for n places, leaders, blocks (at n) and
+// the flags of kept places (at 3 * n + 1).
 pub fn sweep(
-    keep: &mut [u32],
-    row: &mut [u64],
-    live: &[u64],
-    words: &[u64],
+    memory: &mut [u64],
+    table: &mut [u32],
+    sets: Layout,
     metadata: &[u8],
     types: &[u8],
-    leaders: &[u32],
-    blocks: &[u32],
     functions: &[u8],
     externs: &[u8],
     cases: &[u8],
 )
-    requires { ⌜ Sweepable (tablesOf (now functions) (now externs) (now cases)) (now words) (now metadata) (now types) (now leaders) (now blocks) (length (now keep)) (length (now row)) (length (now live)) ⌝ }
-    ensures { λ _. ⌜ ((locals : ℕ) (constants : List ℕ) (rows : List Row) → Grounds (sections locals (now (types .entry)) constants (tablesOf (now (functions .entry)) (now (externs .entry)) (now (cases .entry)))) (now (leaders .entry)) (now (keep .entry)) (cellsBy (now (words .entry)) (now (metadata .entry))) rows (length (now (row .entry))) (now (blocks .entry)) (now (live .entry)) → now (keep .exit) ≡ sweepFrom (sections locals (now (types .entry)) constants (tablesOf (now (functions .entry)) (now (externs .entry)) (now (cases .entry)))) (length (cellsBy (now (words .entry)) (now (metadata .entry)))) (now (leaders .entry)) (now (keep .entry)) rows 0 (cellsBy (now (words .entry)) (now (metadata .entry))) .keep) ⌝ }
+    requires { ⌜ Sweepable sets (tablesOf (now functions) (now externs) (now cases)) (now memory) (now metadata) (now types) (now table) ⌝ }
+    ensures { λ _. ⌜ ((locals : ℕ) (constants : List ℕ) (rows : List Row) → Grounds (sections locals (now (types .entry)) constants (tablesOf (now (functions .entry)) (now (externs .entry)) (now (cases .entry)))) (leadersOf (sets .code) (now (table .entry))) (flagsOf (sets .code) (now (table .entry))) (cellsBy (codeOf sets (now (memory .entry))) (now (metadata .entry))) rows (sets .width) (blocksOf (sets .code) (now (table .entry))) (liveOf sets (now (memory .entry))) → flagsOf (sets .code) (now (table .exit)) ≡ sweepFrom (sections locals (now (types .entry)) constants (tablesOf (now (functions .entry)) (now (externs .entry)) (now (cases .entry)))) (length (cellsBy (codeOf sets (now (memory .entry))) (now (metadata .entry)))) (leadersOf (sets .code) (now (table .entry))) (flagsOf (sets .code) (now (table .entry))) rows 0 (cellsBy (codeOf sets (now (memory .entry))) (now (metadata .entry))) .keep) × (now (table .exit) ≡ putMid (flagsAt (sets .code)) (sets .code) (now (table .entry)) (flagsOf (sets .code) (now (table .exit)))) × (codeOf sets (now (memory .exit)) ≡ codeOf sets (now (memory .entry))) ⌝ }
 {
-    let mut p = words.len();
+    let n = sets.code;
+    let flags = 3 * n + 1;
+    let mut p = n;
     while p > 0 {
         p -= 1;
-        enter_place(row, live, words, blocks, leaders, p);
+        enter_place(memory, sets, &table[n..n + n], &table[0..n], p);
         sweep_place(
-            keep,
-            row,
-            words,
+            memory,
+            &mut table[flags..flags + n],
+            sets,
             metadata,
             types,
             functions,

@@ -11,12 +11,12 @@ use native.Mathlib.Decide.{decLe}
 use native.Mathlib.Omega.{arith}
 use lib.Dec.{eqb, ltb}
 use lib.ListN.{length, getD, drop, drop-of-length-le}
-use lib.Seq.{drop-cons, drop-drop, getD-drop}
+use lib.Seq.{drop-drop, getD-drop}
 use borrow.Author.Tests.{eqb-true, eqb-false, eq-eqb, lt-ltb}
 use Rattle.instruction.specs.declared.Instruction.{Instruction}
 use Rattle.instruction.specs.declared.Class.{Class}
 use Rattle.instruction.specs.Instruction.{class}
-use Rattle.effects.specs.Shape.{Tables, Sections, Cell, cellAt, noCell}
+use Rattle.effects.specs.Shape.{Tables, Sections, Cell, cellAt}
 use Rattle.effects.specs.Effects.{allReads, writes, rangeHas, anyOf}
 use Rattle.flow.specs.Branch.{falls, branches, target}
 use Rattle.flow.specs.Block.{blockOf, blockCount}
@@ -24,11 +24,13 @@ use Rattle.flow.specs.Marks.{Marked}
 use Rattle.flow.specs.Flags.{Flags}
 use Rattle.pc_map.specs.Boundary.{isKept}
 use Rattle.liveness.specs.Live.{Row, liveBefore, edges, isLast, noRow, joined, liveAfter, roundFrom}
+use Rattle.liveness.specs.Rows.{bit, before-bit, before-long, Wide, after-long, walk-wide}
 use Rattle.liveness.specs.Dead.{Swept, isDead, sweptAt, sweepFrom}
+use Rattle.liveness.specs.Sweep.{swept-keep, before-at, keep-at}
 use Rattle.run.specs.Step.{Succ, next, branch}
 use Rattle.run.specs.Frame.{In, here, there, in-left, in-right}
 use Rattle.run.specs.Solved.{whole-at, row-at}
-use Rattle.run.specs.Rows.{bit, or-left, or-right, before-bit, before-long, Wide, joined-bit, after-long, walk-wide}
+use Rattle.run.specs.Rows.{or-left, or-right, joined-bit}
 
 -- a slot is live before an instruction, by whether it is after it
 unfoldable pub flow : Bool → Bool → Bool → Bool → Bool
@@ -103,54 +105,19 @@ module _ (S : Sections) (leaders keep : List ℕ) (cells : List Cell) (rows : Li
   abbrev pub stays : ℕ → Bool
   stays p = isKept keep p && not (dead p)
 
-  -- one place of the sweep
-  sweep-at : (p : ℕ) → p < n → sweep p ≡ sweptAt S n leaders keep rows (cell p) (isKept keep p) (after p) (sweep (suc p))
-  unfolding sweepFrom
-  sweep-at p h = rw (drop-cons cells p noCell h)
-
-  goes : Row → Swept → Swept
-  goes a r = record { keep = 0 ∷ r .keep; before = a }
-
-  remains : Cell → Row → Swept → Swept
-  remains x a r = record { keep = 1 ∷ r .keep; before = liveBefore T x a }
-
-  swept-before : (x : Cell) (k : Bool) (a : Row) (r : Swept) → sweptAt S n leaders keep rows x k a r .before ≡ cond (k && not (isDead S x a)) (liveBefore T x a) a
-  unfolding sweptAt goes remains
-  swept-before x true a r = go (isDead S x a)
-    where
-      go : (d : Bool) → cond {A = Swept} d (goes a r) (remains x a r) .before ≡ cond (not d) (liveBefore T x a) a
-      go true = refl
-      go false = refl
-  swept-before x false a r = refl
-
-  swept-keep : (x : Cell) (k : Bool) (a : Row) (r : Swept) → sweptAt S n leaders keep rows x k a r .keep ≡ cond (k && not (isDead S x a)) 1 0 ∷ r .keep
-  unfolding sweptAt goes remains
-  swept-keep x true a r = go (isDead S x a)
-    where
-      go : (d : Bool) → cond {A = Swept} d (goes a r) (remains x a r) .keep ≡ cond (not d) 1 0 ∷ r .keep
-      go true = refl
-      go false = refl
-  swept-keep x false a r = refl
-
-  before-at : (p : ℕ) → p < n → before p ≡ cond (stays p) (liveBefore T (cell p) (after p)) (after p)
-  before-at p h = ap (λ (r : Swept). r .before) (sweep-at p h) ∙ swept-before (cell p) (isKept keep p) (after p) (sweep (suc p))
-
-  keep-at : (p : ℕ) → p < n → sweep p .keep ≡ cond (stays p) 1 0 ∷ sweep (suc p) .keep
-  keep-at p h = ap (λ (r : Swept). r .keep) (sweep-at p h) ∙ swept-keep (cell p) (isKept keep p) (after p) (sweep (suc p))
-
   -- the places that stay
   kept-from : (p : ℕ) → p ≤ n → drop p (sweep 0 .keep) ≡ sweep p .keep
   kept-from zero h = refl
   kept-from (suc p) h =
       ap (λ (q : ℕ). drop q (sweep 0 .keep)) (sym (add-one p))
       ∙ sym (drop-drop 1 p (sweep 0 .keep))
-      ∙ ap (drop 1) (kept-from p (omega arith) ∙ keep-at p h)
+      ∙ ap (drop 1) (kept-from p (omega arith) ∙ keep-at S leaders keep cells rows p h)
 
   pub stays-at : (p : ℕ) → p < n → getD (sweep 0 .keep) p 0 ≡ cond (stays p) 1 0
   stays-at p h =
       ap (λ (q : ℕ). getD (sweep 0 .keep) q 0) (sym (add-zero p))
       ∙ sym (getD-drop p (sweep 0 .keep) 0 0)
-      ∙ ap (λ (l : List ℕ). getD l 0 0) (kept-from p (omega arith) ∙ keep-at p h)
+      ∙ ap (λ (l : List ℕ). getD l 0 0) (kept-from p (omega arith) ∙ keep-at S leaders keep cells rows p h)
 
   pub sweep-long : length (sweep 0 .keep) ≡ n
   unfolding sweepFrom sweptAt
@@ -159,7 +126,7 @@ module _ (S : Sections) (leaders keep : List ℕ) (cells : List Cell) (rows : Li
       from : (p : ℕ) (xs : List Cell) → length (sweepFrom S n leaders keep rows p xs .keep) ≡ length xs
       from p [] = refl
       from p (x ∷ xs) =
-          ap length (swept-keep x (isKept keep p) (liveAfter S n leaders keep rows p x (sweepFrom S n leaders keep rows (suc p) xs .before)) (sweepFrom S n leaders keep rows (suc p) xs))
+          ap length (swept-keep S leaders keep cells rows x (isKept keep p) (liveAfter S n leaders keep rows p x (sweepFrom S n leaders keep rows (suc p) xs .before)) (sweepFrom S n leaders keep rows (suc p) xs))
           ∙ ap suc (from (suc p) xs)
 
   -- What is asked of blocks, rows and code.
@@ -192,7 +159,7 @@ module _ (S : Sections) (leaders keep : List ℕ) (cells : List Cell) (rows : Li
 
     -- every row of the sweep has a bit for each slot
     wide-here : (p : ℕ) → p < n → (isLast n leaders p ≡ false → length (before (suc p)) ≡ S .locals) → length (before p) ≡ S .locals
-    wide-here p h f = rw (before-at p h) (go (stays p) (after-long S n leaders keep rows (A .wide) p (cell p) (before (suc p)) f))
+    wide-here p h f = rw (before-at S leaders keep cells rows p h) (go (stays p) (after-long S n leaders keep rows (A .wide) p (cell p) (before (suc p)) f))
       where
         go : (t : Bool) → length (after p) ≡ S .locals → length (cond t (liveBefore T (cell p) (after p)) (after p)) ≡ S .locals
         go true l = before-long T (cell p) (after p) ∙ l
@@ -220,7 +187,7 @@ module _ (S : Sections) (leaders keep : List ℕ) (cells : List Cell) (rows : Li
     flow-bit false x row s h = refl
 
     pub before-flow : (p s : ℕ) → p < n → s < S .locals → bit (before p) s ≡ flow (stays p) (reads p s) (bit (after p) s) (written p s)
-    before-flow p s h l = ap (λ (r : Row). bit r s) (before-at p h) ∙ flow-bit (stays p) (cell p) (after p) s (rw (after-wide p h) l)
+    before-flow p s h l = ap (λ (r : Row). bit r s) (before-at S leaders keep cells rows p h) ∙ flow-bit (stays p) (cell p) (after p) s (rw (after-wide p h) l)
 
     whole-flow : (p s : ℕ) → p < n → s < S .locals → bit (whole p) s ≡ flow (isKept keep p) (reads p s) (bit (wholeAfter p) s) (written p s)
     whole-flow p s h l =

@@ -30,6 +30,7 @@ use Rattle.pc_map.specs.Boundary.{isKept}
 use Rattle.pc_map.specs.Relocate.{retainFrom}
 use Rattle.liveness.specs.Live.{Row, noRow, solveIn, liveRows, maxLivenessWork}
 use Rattle.liveness.specs.Dead.{unread, isDead, sweepFrom, withoutDead, deadStores}
+use Rattle.liveness.specs.Rows.{bit, Wide, start-wide}
 use Rattle.answer.specs.Jump.{jumpRounds}
 use Rattle.answer.specs.Pass.{usefulPlaces, keptPlaces}
 use Rattle.run.specs.Machine.{SameRuns}
@@ -43,7 +44,7 @@ use Rattle.run.specs.Retained.{Bits}
 use Rattle.run.specs.Jumps.{rounds-fewer}
 use Rattle.run.specs.Removed.{passes, passing-falls, Dropped, store, skip, Removable, removed}
 use Rattle.run.specs.Solved.{solved, solve-long}
-use Rattle.run.specs.Rows.{bit, Wide, start-wide, solve-wide}
+use Rattle.run.specs.Rows.{solve-wide}
 use Rattle.run.specs.Alive.{flow-gone, flow-kept, flow-reads, before, after, dead, stays, Analysed, before-flow, out, stays-at, sweep-long}
 use Rattle.run.specs.Optimized.{Removing, useful-bits, useful-long, not-useful, hint-class, hint-gives, inner, skipped, removable, plain-removable}
 

@@ -1,26 +1,17 @@
--- Rows bit by bit, and that every row has a bit for each slot.
+-- Bits of joined rows, and that every row that is found has a bit for each slot.
 -- Assumes nothing.
-use mathlib.Core.Path.{_≡_, refl, sym, ap, _∙_}
-use mathlib.Core.Bool.{Bool, true, false, cond, not, _&&_, _||_, or-false, false≢true}
-use mathlib.Core.List.{List, [], _∷_, _++_}
-use mathlib.Core.Option.{Option, none, some}
-use Prim.Native.Nat.{ℕ, zero, suc, _+_, _≤_, _<_}
-use native.Mathlib.Nat.{zero-add}
-use native.Mathlib.Decide.{ℕ-discrete, decLe}
+use mathlib.Core.Path.{_≡_, refl, _∙_}
+use mathlib.Core.Bool.{Bool, true, false, cond, _||_, false≢true}
+use mathlib.Core.List.{List}
+use mathlib.Core.Option.{some}
+use Prim.Native.Nat.{ℕ, zero, suc}
 use native.Mathlib.Omega.{arith}
-use lib.Dec.{eqb}
-use lib.ListN.{length, getD, set, replicate, length-replicate}
-use lib.Seq.{getD-set-same, getD-set-other, set-out}
-use Rattle.words.specs.Lists.{mapFrom, length-mapFrom, getD-mapFrom}
-use Rattle.effects.specs.Shape.{Tables, Sections, Cell}
-use Rattle.effects.specs.Effects.{allReads, writes, rangeHas, anyOf}
+use lib.ListN.{getD}
+use Rattle.effects.specs.Shape.{Sections, Cell}
 use Rattle.flow.specs.Block.{blockOf}
-use Rattle.pc_map.specs.Boundary.{isKept}
-use Rattle.liveness.specs.Live.{Row, liveBefore, union, edges, isLast, noRow, joined, liveAfter, Walked, roundFrom, solveIn, sameRows}
+use Rattle.liveness.specs.Live.{Row, noRow, joined, roundFrom, solveIn, sameRows}
+use Rattle.liveness.specs.Rows.{bit, union-bit, Wide, round-wide}
 use Rattle.run.specs.Frame.{In, here, there}
-
-abbrev pub bit : Row → ℕ → Bool
-bit row s = getD row s false
 
 pub or-left : (a b : Bool) → a ≡ true → (a || b) ≡ true
 or-left true b e = refl
@@ -30,40 +21,7 @@ pub or-right : (a b : Bool) → b ≡ true → (a || b) ≡ true
 or-right true b e = refl
 or-right false b e = e
 
-pub before-bit : (T : Tables) (x : Cell) (row : Row) (s : ℕ) → s < length row
-    → bit (liveBefore T x row) s ≡ (anyOf (rangeHas s) (allReads T x) || (bit row s && not (anyOf (rangeHas s) (writes T x))))
-unfolding liveBefore
-before-bit T x row s h =
-    getD-mapFrom (λ t live. anyOf (rangeHas t) (allReads T x) || (live && not (anyOf (rangeHas t) (writes T x)))) 0 row s false false h ∙ rw zero-add
-
-pub before-long : (T : Tables) (x : Cell) (row : Row) → length (liveBefore T x row) ≡ length row
-unfolding liveBefore
-before-long T x row = length-mapFrom _ 0 row
-
-union-bit : (x y : Row) (s : ℕ) → bit (union x y) s ≡ (bit x s || bit y s)
-unfolding union
-union-bit [] y s = refl
-union-bit (a ∷ x) [] zero = sym (or-false a)
-union-bit (a ∷ x) [] (suc s) = sym (or-false (bit x s))
-union-bit (a ∷ x) (b ∷ y) zero = refl
-union-bit (a ∷ x) (b ∷ y) (suc s) = union-bit x y s
-
-union-long : (x y : Row) → length x ≡ length y → length (union x y) ≡ length x
-unfolding union
-union-long [] [] e = refl
-union-long [] (b ∷ y) e = absurd (omega arith)
-union-long (a ∷ x) [] e = absurd (omega arith)
-union-long (a ∷ x) (b ∷ y) e = let f : length x ≡ length y = omega arith in ap suc (union-long x y f)
-
 module _ (S : Sections) (n : ℕ) (leaders keep : List ℕ) where
-  -- every row has a bit for each slot
-  abbrev pub Wide : List Row → Type 0
-  Wide rows = (b : ℕ) → length (getD rows b (noRow S n leaders keep)) ≡ S .locals
-
-  none-wide : length (noRow S n leaders keep) ≡ S .locals
-  unfolding noRow
-  none-wide = length-replicate (S .locals) false
-
   pub joined-bit : (rows : List Row) {q : ℕ} {qs : List ℕ} (s : ℕ) → In q qs → bit (getD rows (blockOf leaders q) (noRow S n leaders keep)) s ≡ true
       → bit (joined S n leaders keep rows qs) s ≡ true
   unfolding joined
@@ -72,65 +30,14 @@ module _ (S : Sections) (n : ℕ) (leaders keep : List ℕ) where
       union-bit (getD rows (blockOf leaders t) (noRow S n leaders keep)) (joined S n leaders keep rows l) s
       ∙ or-right (bit (getD rows (blockOf leaders t) (noRow S n leaders keep)) s) (bit (joined S n leaders keep rows l) s) (joined-bit rows s i e)
 
-  joined-long : (rows : List Row) → Wide rows → (qs : List ℕ) → length (joined S n leaders keep rows qs) ≡ S .locals
-  unfolding joined
-  joined-long rows w [] = none-wide
-  joined-long rows w (q ∷ qs) = union-long _ (joined S n leaders keep rows qs) (w (blockOf leaders q) ∙ sym (joined-long rows w qs)) ∙ w (blockOf leaders q)
-
-  pub after-long : (rows : List Row) → Wide rows → (p : ℕ) (x : Cell) (next : Row) → (isLast n leaders p ≡ false → length next ≡ S .locals)
-      → length (liveAfter S n leaders keep rows p x next) ≡ S .locals
-  unfolding liveAfter
-  after-long rows w p x next f = go (isLast n leaders p) refl
-    where
-      go : (t : Bool) → isLast n leaders p ≡ t → length (cond t (joined S n leaders keep rows (edges n p x)) next) ≡ S .locals
-      go true e = joined-long rows w (edges n p x)
-      go false e = f e
-
-  set-wide : (rows : List Row) (b : ℕ) (r : Row) → Wide rows → length r ≡ S .locals → Wide (set rows b r)
-  set-wide rows b r w e i = elim (ℕ-discrete i b) [ yes d ↦ rw d same | no d ↦ rw (getD-set-other rows b i r (noRow S n leaders keep) d) (w i) ]
-    where
-      same : length (getD (set rows b r) b (noRow S n leaders keep)) ≡ S .locals
-      same = elim (decLe (length rows) b) [
-        | yes h ↦ rw (set-out rows b r h) (w b)
-        | no h ↦ rw (getD-set-same rows b r (noRow S n leaders keep) (omega arith)) e
-      ]
-
-  -- a round keeps rows wide
-  round-wide : (p : ℕ) (xs : List Cell) (rows : List Row) → Wide rows
-      → Wide (roundFrom S n leaders keep p xs rows .rows) × (length (roundFrom S n leaders keep p xs rows .before) ≡ S .locals)
-  unfolding roundFrom
-  round-wide p [] rows w = (w, none-wide)
-  round-wide p (x ∷ xs) rows w =
-      let r = round-wide (suc p) xs rows w in
-      let after : Row = liveAfter S n leaders keep (roundFrom S n leaders keep (suc p) xs rows .rows) p x (roundFrom S n leaders keep (suc p) xs rows .before) in
-      let l : length after ≡ S .locals = after-long _ (r .0) p x _ (λ e. r .1) in
-      let m : length (cond (isKept keep p) (liveBefore (S .tables) x after) after) ≡ S .locals = kept-long (isKept keep p) x after l in
-      (perhaps-wide (eqb (getD leaders p 0) 1) (roundFrom S n leaders keep (suc p) xs rows .rows) (blockOf leaders p) (cond (isKept keep p) (liveBefore (S .tables) x after) after) (r .0) m, m)
-    where
-      kept-long : (t : Bool) (x : Cell) (row : Row) → length row ≡ S .locals → length (cond t (liveBefore (S .tables) x row) row) ≡ S .locals
-      kept-long true x row e = before-long (S .tables) x row ∙ e
-      kept-long false x row e = e
-
-      perhaps-wide : (t : Bool) (rs : List Row) (b : ℕ) (r : Row) → Wide rs → length r ≡ S .locals → Wide (cond t (set rs b r) rs)
-      perhaps-wide true rs b r w e = set-wide rs b r w e
-      perhaps-wide false rs b r w e = w
-
-  pub walk-wide : (p : ℕ) (xs : List Cell) (rows : List Row) → Wide rows → length (roundFrom S n leaders keep p xs rows .before) ≡ S .locals
-  walk-wide p xs rows w = round-wide p xs rows w .1
-
-  -- so do all rounds
-  pub solve-wide : (k : ℕ) (cells : List Cell) (rows found : List Row) → Wide rows → solveIn S n leaders keep k cells rows ≡ some found → Wide found
+  -- all rounds keep rows wide
+  pub solve-wide : (k : ℕ) (cells : List Cell) (rows found : List Row) → Wide S n leaders keep rows → solveIn S n leaders keep k cells rows ≡ some found → Wide S n leaders keep found
   unfolding solveIn
   solve-wide zero cells rows found w e = let z : _≡_ {A = ℕ} 0 1 = cc in absurd (omega arith)
   solve-wide (suc k) cells rows found w e =
-      go (sameRows rows (roundFrom S n leaders keep 0 cells rows .rows)) e (solve-wide k cells (roundFrom S n leaders keep 0 cells rows .rows) found (round-wide 0 cells rows w .0))
+      go (sameRows rows (roundFrom S n leaders keep 0 cells rows .rows)) e (solve-wide k cells (roundFrom S n leaders keep 0 cells rows .rows) found (round-wide S n leaders keep 0 cells rows w .0))
     where
       go : (t : Bool) → cond t (some (roundFrom S n leaders keep 0 cells rows .rows)) (solveIn S n leaders keep k cells (roundFrom S n leaders keep 0 cells rows .rows)) ≡ some found
-          → (solveIn S n leaders keep k cells (roundFrom S n leaders keep 0 cells rows .rows) ≡ some found → Wide found) → Wide found
-      go true e ih = let f : roundFrom S n leaders keep 0 cells rows .rows ≡ found = cc in rw (← f) (round-wide 0 cells rows w .0)
+          → (solveIn S n leaders keep k cells (roundFrom S n leaders keep 0 cells rows .rows) ≡ some found → Wide S n leaders keep found) → Wide S n leaders keep found
+      go true e ih = let f : roundFrom S n leaders keep 0 cells rows .rows ≡ found = cc in rw (← f) (round-wide S n leaders keep 0 cells rows w .0)
       go false e ih = ih e
-
-  pub start-wide : (k : ℕ) → Wide (replicate k (noRow S n leaders keep))
-  start-wide zero b = none-wide
-  start-wide (suc k) zero = none-wide
-  start-wide (suc k) (suc b) = start-wide k b

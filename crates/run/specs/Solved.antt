@@ -2,7 +2,7 @@
 -- Assumes nothing.
 use mathlib.Core.Path.{_≡_, refl, sym, ap, _∙_}
 use mathlib.Core.Logic.{_⊎_, inl, inr}
-use mathlib.Core.Bool.{Bool, true, false, cond, not, _&&_, Bool·beq, false≢true}
+use mathlib.Core.Bool.{Bool, true, false, cond}
 use mathlib.Core.List.{List, [], _∷_}
 use mathlib.Core.Option.{Option, none, some}
 use Prim.Native.Nat.{ℕ, zero, suc, _+_, _-_, _≤_, _<_}
@@ -10,7 +10,7 @@ use native.Mathlib.Nat.{add-zero, zero-add}
 use native.Mathlib.Decide.{ℕ-discrete}
 use native.Mathlib.Omega.{arith}
 use lib.Dec.{eqb}
-use lib.ListN.{length, getD, set, drop, length-drop, length-set}
+use lib.ListN.{length, getD, set, drop, length-drop}
 use lib.Seq.{drop-cons, getD-set-same, getD-set-other, ext-getD}
 use borrow.Author.Tests.{eqb-true, eq-eqb}
 use Rattle.words.specs.Lists.{sum}
@@ -20,42 +20,8 @@ use Rattle.flow.specs.Marks.{Marked}
 use Rattle.flow.specs.Flags.{Flags, sum-mono, sum-next, sum-first}
 use Rattle.flow.specs.Blocks.{block-below}
 use Rattle.pc_map.specs.Boundary.{isKept}
-use Rattle.liveness.specs.Live.{Row, liveBefore, liveAfter, noRow, Walked, roundFrom, solveIn, sameRow, sameRows}
-
--- ---- the tests on rows
-
-same-bit : (a b : Bool) → Bool·beq a b ≡ true → a ≡ b
-same-bit true true e = refl
-same-bit true false e = absurd (false≢true e)
-same-bit false true e = absurd (false≢true e)
-same-bit false false e = refl
-
-same-row : (x y : Row) → sameRow x y ≡ true → x ≡ y
-unfolding sameRow
-same-row [] [] e = refl
-same-row [] (b ∷ y) e = absurd (false≢true e)
-same-row (a ∷ x) [] e = absurd (false≢true e)
-same-row (a ∷ x) (b ∷ y) e = go (Bool·beq a b) refl e (same-row x y)
-  where
-    go : (t : Bool) → Bool·beq a b ≡ t → cond t (sameRow x y) false ≡ true → (sameRow x y ≡ true → x ≡ y) → a ∷ x ≡ b ∷ y
-    go true q r ih = let h : a ≡ b = same-bit a b q in let t : x ≡ y = ih r in cc
-    go false q r ih = absurd (false≢true r)
-
-same-rows : (x y : List Row) → sameRows x y ≡ true → x ≡ y
-unfolding sameRows
-same-rows [] [] e = refl
-same-rows [] (b ∷ y) e = absurd (false≢true e)
-same-rows (a ∷ x) [] e = absurd (false≢true e)
-same-rows (a ∷ x) (b ∷ y) e = go (sameRow a b) refl e (same-rows x y)
-  where
-    go : (t : Bool) → sameRow a b ≡ t → cond t (sameRows x y) false ≡ true → (sameRows x y ≡ true → x ≡ y) → a ∷ x ≡ b ∷ y
-    go true q r ih = let h : a ≡ b = same-row a b q in let t : x ≡ y = ih r in cc
-    go false q r ih = absurd (false≢true r)
-
--- a row that is set, or none
-perhaps-long : (t : Bool) (rows : List Row) (b : ℕ) (r : Row) → length (cond t (set rows b r) rows) ≡ length rows
-perhaps-long true rows b r = length-set rows b r
-perhaps-long false rows b r = refl
+use Rattle.liveness.specs.Live.{Row, liveBefore, liveAfter, noRow, Walked, roundFrom, solveIn, sameRows}
+use Rattle.liveness.specs.Rounding.{rows-long, same-rows}
 
 perhaps-other : (t : Bool) (rows : List Row) (b i : ℕ) (r d : Row) → (t ≡ true → i ≡ b → ⊥) → getD (cond t (set rows b r) rows) i d ≡ getD rows i d
 perhaps-other true rows b i r d f = getD-set-other rows b i r d (f refl)
@@ -82,13 +48,7 @@ module _ (S : Sections) (leaders keep : List ℕ) (cells : List Cell) where
           rw (← g) (sym same)
       go false q r ih = ih r
 
-  -- the number of rows stays
-  rows-long : (p : ℕ) (xs : List Cell) (rows : List Row) → length (roundFrom S n leaders keep p xs rows .rows) ≡ length rows
-  unfolding roundFrom
-  rows-long p [] rows = refl
-  rows-long p (x ∷ xs) rows = perhaps-long (eqb (getD leaders p 0) 1) (roundFrom S n leaders keep (suc p) xs rows .rows) (blockOf leaders p) _ ∙ rows-long (suc p) xs rows
-
-  -- so it does over all rounds
+  -- the number of rows stays over all rounds
   pub solve-long : (k : ℕ) (rows found : List Row) → solveIn S n leaders keep k cells rows ≡ some found → length found ≡ length rows
   unfolding solveIn
   solve-long zero rows found e = let z : _≡_ {A = ℕ} 0 1 = cc in absurd (omega arith)
@@ -97,8 +57,8 @@ module _ (S : Sections) (leaders keep : List ℕ) (cells : List Cell) where
       go : (t : Bool) → cond t (some (roundFrom S n leaders keep 0 cells rows .rows)) (solveIn S n leaders keep k cells (roundFrom S n leaders keep 0 cells rows .rows)) ≡ some found
           → (solveIn S n leaders keep k cells (roundFrom S n leaders keep 0 cells rows .rows) ≡ some found → length found ≡ length (roundFrom S n leaders keep 0 cells rows .rows))
           → length found ≡ length rows
-      go true e ih = let f : roundFrom S n leaders keep 0 cells rows .rows ≡ found = cc in rw (← f) (rows-long 0 cells rows)
-      go false e ih = ih e ∙ rows-long 0 cells rows
+      go true e ih = let f : roundFrom S n leaders keep 0 cells rows .rows ≡ found = cc in rw (← f) (rows-long S n leaders keep 0 cells rows)
+      go false e ih = ih e ∙ rows-long S n leaders keep 0 cells rows
 
   -- a row that no later leader has is not touched
   untouched : (i : ℕ) (q : ℕ) (xs : List Cell) (rows : List Row) → ((p : ℕ) → q ≤ p → p < q + length xs → Marked leaders p → blockOf leaders p ≡ i → ⊥)
@@ -145,7 +105,7 @@ module _ (S : Sections) (leaders keep : List ℕ) (cells : List Cell) where
         go : (t : Bool) → eqb (getD leaders p 0) 1 ≡ t → walk p .rows ≡ cond t (set (walk (suc p) .rows) (blockOf leaders p) (made p)) (walk (suc p) .rows) → walk p .rows ≡ rows
             → walk (suc p) .rows ≡ rows
         go false e w r = sym w ∙ r
-        go true e w r = ext-getD (noRow S n leaders keep) (walk (suc p) .rows) rows (rows-long (suc p) (drop (suc p) cells) rows) each
+        go true e w r = ext-getD (noRow S n leaders keep) (walk (suc p) .rows) rows (rows-long S n leaders keep (suc p) (drop (suc p) cells) rows) each
           where
             inside : (q : ℕ) → q < suc p + length (drop (suc p) cells) → q < n
             inside q l = let e = length-drop (suc p) cells in omega arith

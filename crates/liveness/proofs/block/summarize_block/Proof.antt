@@ -1,65 +1,98 @@
 use mathlib.Core.Path.{_≡_, refl, sym, _∙_}
-use Prim.Native.Nat.{suc, _-_, _≤_}
+use mathlib.Core.Logic.{⊎-elim}
+use Prim.Native.Nat.{ℕ, suc, _+_, _-_, _≤_}
 use native.Mathlib.Omega.{arith}
-use lib.ListN.{length}
+use lib.ListN.{length, getD}
+use borrow.Rule.Slice.PartMut.{midOf, putMid}
+use Rattle.words.specs.Regions.{mid-long}
+use Rattle.effects.specs.Shape.{Tables, tablesOf}
+use Rattle.effects.specs.Cells.{cellOf, cellsBy}
+use Rattle.liveness.specs.Memory.{cell-in}
+use Rattle.liveness.specs.Only.{At, Either, Only, only-none, only-both, lent-long, both-lent, same-mid}
 use Rattle.liveness.specs.Through.{Summary, summary-begin, summary-turn}
-use Rattle.effects.specs.Shape.{Tables, Cell, tablesOf}
-use Rattle.effects.specs.Cells.{cellOf, cellsBy, cell-at}
 use borrow.Author.Needs.{needs}
 use Rattle.liveness.proofs.block.summarize_block.Statement.{statement}
 use Rattle.liveness.proofs.block.summarize_block.Tie as tie
 
 abbrev Inv-loop : tie.InvT-loop
-Inv-loop uses₀ preserved₀ words metadata keep functions externs cases start end p₀ uses preserved p =
-    (start ≤ p) × (p ≤ end) × (length uses ≡ length uses₀) × (length preserved ≡ length uses) × Summary (tablesOf functions externs cases) keep (cellsBy words metadata) uses preserved p (end - p)
+Inv-loop memory₀ uses preserved w metadata keep functions externs cases start end p₀ memory p =
+    (start ≤ p) × (p ≤ end) × (length memory ≡ length memory₀) × Only (Either (At uses w) (At preserved w)) memory₀ memory
+    × ((n : ℕ) → end ≤ n → n ≤ uses → Summary (tablesOf functions externs cases) keep (cellsBy (midOf 0 n memory₀) metadata) (midOf uses w memory) (midOf preserved w memory) p (end - p))
 
 abbrev μ-loop : tie.MeasureT-loop
-μ-loop uses₀ preserved₀ words metadata keep functions externs cases start end p₀ uses preserved p =
-    p - start
+μ-loop memory₀ uses preserved w metadata keep functions externs cases start end p₀ memory p = p - start
 
 loop-holds : tie.Need-loop-holds Inv-loop μ-loop
 loop-holds c =
-    let s = c .before .before .before .before .before .before .before .before .before .before .before .before .before .before .before .before in
+    let s = c .before .before .before .before .before .before .before .before .before .before .before .before .before .before in
+    let v = c .before .before .before .before .before .before .fill in
+    let u = c .before .before .fill2 in
     let T : Tables = tablesOf (s .args .functions .now) (s .args .externs .now) (s .args .cases .now) in
-    let u = c .before .before .before .before .before .before .fill in
-    let v = c .before .before .fill2 in
-    (s .pre .0, omega arith, refl, v .kept .0 ∙ s .pre .4 ∙ sym (u .kept .0), summary-begin T (s .args .keep .now) (cellsBy (s .args .words .now) (s .args .metadata .now)) (length (s .args .uses .now)) _ _ _ _ _ refl (omega arith) (u .ensures) (rw (← s .pre .4) (v .ensures)) (u .kept .0))
+    let m = s .args .memory .now in
+    let x = both-lent m (s .args .uses) (s .args .preserved) (s .args .w) (u .last .0) (v .last .0) _ (s .pre .1) (s .pre .2) refl (v .kept .0) (u .kept .0) in
+    let long : length (midOf (s .args .uses) (s .args .w) m) ≡ s .args .w = mid-long m (s .args .uses) (s .args .w) (omega arith) in
+    let none = rw (x .was, long) at (u .ensures) in
+    let all = rw (lent-long m (s .args .preserved) (s .args .w) (s .pre .2)) at (v .ensures) in
+    (s .pre .3, omega arith, refl, only-none _ _, λ n h g. summary-begin T (s .args .keep .now) _ (s .args .w) _ _ _ _ _ refl (omega arith) (x .low ∙ none) (x .high ∙ all) (rw (x .low) (rw (x .was, long) at (u .kept .0))))
 
 summarize-place-requires : tie.Need-summarize-place-requires Inv-loop μ-loop
 summarize-place-requires c κs =
-    let s = c .before .before .before .before .before .before .before .before .before .before .before .before .before .before .before .before .before .before .before .before in
-    let T : Tables = tablesOf (s .args .functions .now) (s .args .externs .now) (s .args .cases .now) in
-    let l = c .before .before .before .loop in
-    let long : length (l .uses) ≡ length (s .args .uses .now) = l .inv .2 ∙ c .before .before .before .before .before .before .before .before .before .before .fill .kept .0 in
-    (omega arith, s .pre .2, s .pre .3, l .inv .3, rw long (s .pre .5 (l .p - 1) (omega arith)))
+    let s = c .before .before .before .before .before .before .before .before .before .before .before .before .before .before .before .before .before in
+    let v = c .before .before .before .before .before .before .before .before .before .fill in
+    let u = c .before .before .before .before .before .fill2 in
+    let l = c .before .before .loop in
+    let m = s .args .memory .now in
+    let x = both-lent m (s .args .uses) (s .args .preserved) (s .args .w) (u .last .0) (v .last .0) _ (s .pre .1) (s .pre .2) refl (v .kept .0) (u .kept .0) in
+    let o = only-both _ _ _ _ (x .only) (l .inv .3) in
+    let same = o .same (l .p - 1) (⊎-elim (λ i. omega (arith, i .0)) (λ i. omega (arith, i .0))) in
+    (omega arith, s .pre .1, rw (o .long) (s .pre .2), omega arith, omega arith, rw same (s .pre .6 (l .p - 1) (omega arith)))
 
 loop-again : tie.Need-loop-again Inv-loop μ-loop
 loop-again c =
-    let s = c .before .before .before .before .before .before .before .before .before .before .before .before .before .before .before .before .before .before .before .before .before .before .before .before .before in
+    let s = c .before .before .before .before .before .before .before .before .before .before .before .before .before .before .before .before .before .before .before .before in
+    let v = c .before .before .before .before .before .before .before .before .before .before .before .before .fill in
+    let u = c .before .before .before .before .before .before .before .before .fill2 in
+    let l = c .before .before .before .before .before .loop in
+    let y = c .before .before .summarize-place in
     let T : Tables = tablesOf (s .args .functions .now) (s .args .externs .now) (s .args .cases .now) in
-    let l = c .before .before .before .before .before .before .before .before .loop in
-    let x = c .before .before .before .before .summarize-place in
-    let q : l .p ≡ suc (l .p - 1) = omega arith in (
+    let m = s .args .memory .now in
+    let x = both-lent m (s .args .uses) (s .args .preserved) (s .args .w) (u .last .0) (v .last .0) _ (s .pre .1) (s .pre .2) refl (v .kept .0) (u .kept .0) in
+    let m₂ = putMid (s .args .uses) (s .args .uses + s .args .w - s .args .uses) (putMid (s .args .preserved) (s .args .preserved + s .args .w - s .args .preserved) m (v .last .0)) (u .last .0) in
+    let q : l .p ≡ suc (l .p - 1) = omega arith in
+    let word = getD (l .memory) (l .p - 1) 0 in
+    let same = l .inv .3 .same (l .p - 1) (⊎-elim (λ i. omega (arith, i .0)) (λ i. omega (arith, i .0))) in
+    let room : s .args .uses + s .args .w ≤ length (l .memory) = rw (l .inv .2, x .only .long) (omega arith) in
+    let long : length (midOf (s .args .uses) (s .args .w) (y .last .0)) ≡ length (midOf (s .args .uses) (s .args .w) (l .memory)) = mid-long (y .last .0) (s .args .uses) (s .args .w) (rw (y .kept .0) room) ∙ sym (mid-long (l .memory) (s .args .uses) (s .args .w) room) in (
       omega arith,
       omega arith,
-      x .kept .0 ∙ l .inv .2,
-      omega (arith, x .kept .0, x .kept .1),
-      summary-turn T (s .args .keep .now) (cellsBy (s .args .words .now) (s .args .metadata .now)) _ _ _ _ _ _ _ _ q (l .inv .1) (cell-at (s .args .words .now) (s .args .metadata .now) (l .p - 1) (omega arith)) (l .inv .4) (x .kept .0) (x .ensures),
+      y .kept .0 ∙ l .inv .2,
+      only-both _ _ _ _ (l .inv .3) (y .ensures .1),
+      λ n h g.
+          let within : n ≤ length m₂ = rw (x .only .long) (omega arith) in
+          summary-turn T (s .args .keep .now) (cellsBy (midOf 0 n m₂) (s .args .metadata .now)) (cellOf (s .args .metadata .now) (l .p - 1) word) (midOf (s .args .uses) (s .args .w) (l .memory)) (midOf (s .args .preserved) (s .args .w) (l .memory)) (midOf (s .args .uses) (s .args .w) (y .last .0)) (midOf (s .args .preserved) (s .args .w) (y .last .0)) (l .p) (l .p - 1) _ q (l .inv .1) (cell-in m₂ (s .args .metadata .now) n (l .p - 1) word within (omega arith) same) (l .inv .4 n h g) long (y .ensures .0),
     )
 
 same-length : tie.Need-same-length Inv-loop μ-loop
-same-length c = c .before .loop .inv .2 ∙ c .before .before .before .before .before .before .before .before .fill .kept .0
-
-same-length-2 : tie.Need-same-length-2 Inv-loop μ-loop
-same-length-2 c = c .before .loop .inv .3 ∙ c .before .loop .inv .2 ∙ c .before .before .before .before .before .before .before .before .fill .kept .0 ∙ sym (c .before .before .before .before .before .before .before .before .before .before .before .before .before .before .before .before .before .before .pre .4)
+same-length c =
+    let s = c .before .before .before .before .before .before .before .before .before .before .before .before .before .before .before .before in
+    let v = c .before .before .before .before .before .before .before .before .fill in
+    let u = c .before .before .before .before .fill2 in
+    c .before .loop .inv .2 ∙ both-lent (s .args .memory .now) (s .args .uses) (s .args .preserved) (s .args .w) (u .last .0) (v .last .0) _ (s .pre .1) (s .pre .2) refl (v .kept .0) (u .kept .0) .only .long
 
 returns : tie.Need-returns Inv-loop μ-loop
 returns c =
-    let s = c .before .before .before .before .before .before .before .before .before .before .before .before .before .before .before .before .before .before in
-    let T : Tables = tablesOf (s .args .functions .now) (s .args .externs .now) (s .args .cases .now) in
+    let s = c .before .before .before .before .before .before .before .before .before .before .before .before .before .before .before .before in
+    let v = c .before .before .before .before .before .before .before .before .fill in
+    let u = c .before .before .before .before .fill2 in
     let l = c .before .loop in
-    let e : l .p ≡ s .args .start = omega arith in
-    rw (← e) (l .inv .4)
+    let m = s .args .memory .now in
+    let x = both-lent m (s .args .uses) (s .args .preserved) (s .args .w) (u .last .0) (v .last .0) _ (s .pre .1) (s .pre .2) refl (v .kept .0) (u .kept .0) in
+    let end : l .p ≡ s .args .start = omega arith in (
+      λ n h g.
+          let code = same-mid _ m _ (x .only) 0 n (omega arith) (λ j i. ⊎-elim (λ k. omega (arith, i .1, k .0)) (λ k. omega (arith, i .1, k .0))) in
+          rw (code, end) at (l .inv .4 n h g),
+      only-both _ _ _ _ (x .only) (l .inv .3),
+    )
 
 pub summarize-block-spec : {M : Type 1} → statement M
 summarize-block-spec =
@@ -67,7 +100,17 @@ summarize-block-spec =
     (tie.spec
     Inv-loop
     μ-loop
+    (λ c. search needs)
+    (λ c. search needs)
+    (λ c. search needs)
+    (λ c. search needs)
+    (λ c. search needs)
     (λ c κs. search needs)
+    (λ c. search needs)
+    (λ c. search needs)
+    (λ c. search needs)
+    (λ c. search needs)
+    (λ c. search needs)
     (λ c κs. search needs)
     loop-holds
     (λ c. search needs)
@@ -75,5 +118,4 @@ summarize-block-spec =
     (λ c. search needs)
     loop-again
     same-length
-    same-length-2
     returns)
