@@ -1,3 +1,4 @@
+mod Anchored
 pub mod Classes
 mod Numbering
 mod Pushing

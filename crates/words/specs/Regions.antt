@@ -106,6 +106,9 @@ module _ {X : Type 0} where
     pub outside-same : (xs : List X) → Outside a k xs xs
     outside-same xs = record { before = refl; after = refl }
 
+    pub outside-then : {xs w u : List X} → Outside a k xs w → Outside a k w u → Outside a k xs u
+    outside-then o p = record { before = p .before ∙ o .before; after = p .after ∙ o .after }
+
     module _ {xs w : List X} (o : Outside a k xs w) where
       pub outside-put : w ≡ putMid a k xs (midOf a k w)
       outside-put = sym (put-same a k w) ∙ rw (o .before, drop-drop k a w, drop-drop k a xs, o .after)
