@@ -2,3 +2,4 @@ mod Anchored
 pub mod Classes
 mod Numbering
 mod Pushing
+mod Walked
