@@ -33,7 +33,7 @@ use Rattle.values.specs.declared.State.{State}
 use Rattle.values.specs.declared.Step.{Step}
 use Rattle.values.specs.declared.Turn.{Turn}
 
--- the slots that numbering an instruction looks at are below S
+-- the slots that an instruction names one by one, which are those that numbering it looks at, are below s
 unfoldable pub Named : Class → ℕ → Instruction → Type 0
 Named Hint s i = Unit {0}
 Named LoadInt s i = i .a < s
