@@ -11,7 +11,7 @@ use lib.ListN.{length, getD}
 use borrow.Author.Tests.{eqb-true, leb-true, ltb-true, ltb-false}
 use Rattle.words.specs.Lists.{every, tabulate, tabulateFrom, getD-tabulate}
 use Rattle.instruction.specs.Opcode as op
-use Rattle.instruction.specs.Class.{classOf, single, past-table}
+use Rattle.instruction.specs.Class.{classOf, single, class-past}
 use Rattle.instruction.specs.Instruction.{class}
 use Rattle.instruction.specs.declared.Instruction.{Instruction}
 use Rattle.instruction.specs.declared.Class.{Class}
@@ -201,7 +201,7 @@ agree {A} f g none e o inside = go (ltb o 136) refl
         let same : left o ≡ right o = sym (getD-tabulate 136 left o none h) ∙ ap (λ (l : List A). getD l o none) e ∙ getD-tabulate 136 right o none h in
         rw inside at same
     go false q =
-        let past : classOf o ≡ Invalid = past-table o (ltb-false o 136 q) in
+        let past : classOf o ≡ Invalid = class-past o (ltb-false o 136 q) in
         let z : _≡_ {A = Bool} true false = rw past at inside in
         let y : _≡_ {A = ℕ} 0 1 = cc in
         absurd (omega arith)

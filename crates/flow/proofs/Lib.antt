@@ -1,3 +1,5 @@
+mod Anchored
 pub mod Classes
 mod Numbering
 mod Pushing
+mod Walked

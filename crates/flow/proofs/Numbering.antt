@@ -3,13 +3,15 @@
 use mathlib.Core.Path.{_≡_, refl, sym, ap, _∙_}
 use mathlib.Core.Logic.{inl, inr}
 use mathlib.Core.List.{List, append-nil}
-use Prim.Native.Nat.{ℕ, suc, _+_, _-_, _≤_, _<_}
-use native.Mathlib.Nat.{add-zero}
+use Prim.Native.Nat.{ℕ, suc, _+_, _*_, _-_, _≤_, _<_}
+use native.Mathlib.Nat.{add-zero, zero-add}
 use native.Mathlib.Numerals.{add-one}
 use native.Mathlib.Omega.{arith}
 use lib.ListN.{length, getD, take, drop, set, length-set}
 use lib.Seq.{take-length, drop-drop, take-suc-set, take-set-le, drop-set-lt, set-split, append-snoc}
 use Rattle.words.specs.Lists.{sum, sum-take, tabulate}
+use borrow.Rule.Slice.PartMut.{midOf, putMid}
+use Rattle.words.specs.Regions.{mid-long, get-mid, mid-set, mid-set-before, mid-set-after, Outside, outside-same, outside-set, outside-front, outside-put}
 use Rattle.words.specs.Tabulate.{tabulated-turn, tabulated-end}
 use Rattle.flow.specs.Block.{blockOf}
 use Rattle.flow.specs.Blocks.{placesFrom, places-more, Numbered}
@@ -92,3 +94,73 @@ module _ (l : List ℕ) (f : Flags l) where
               let all : placesFrom 0 (take p l) ≡ placesFrom 0 l = ap (placesFrom 0) (ap (λ (k : ℕ). take k l) e ∙ take-length l) in
               rw (add-one count, set-split starts count (length l) fits, n .places, n .rest, all) (sym (append-snoc (placesFrom 0 l) (length l) (drop (suc count) starts₀)));
         }
+
+-- ---- the three regions of one buffer: n leaders, n numbers of blocks, n + 1 starts
+
+pub record Buffered (xs : List ℕ) (n : ℕ) (w : List ℕ) (p count : ℕ) : Type 0 where
+  pub long : length w ≡ length xs
+  pub outside : Outside n (2 * n + 1) xs w
+  pub numbering : Numbering (midOf 0 n xs) (midOf n n w) (midOf (2 * n) (n + 1) xs) (midOf (2 * n) (n + 1) w) p count
+
+module _ (xs : List ℕ) (n : ℕ) (f : Flags (midOf 0 n xs)) (room : 3 * n + 1 ≤ length xs) where
+  leaders-long : length (midOf 0 n xs) ≡ n
+  leaders-long = mid-long xs 0 n (omega arith)
+
+  starts-room : length (midOf 0 n xs) + 1 ≤ length (midOf (2 * n) (n + 1) xs)
+  starts-room = omega (arith, leaders-long, mid-long xs (2 * n) (n + 1) (omega arith))
+
+  pub buffered-begin : Buffered xs n xs 0 0
+  buffered-begin = record {
+    long = refl;
+    outside = outside-same n (2 * n + 1) xs;
+    numbering = numbering-begin (midOf 0 n xs) f (midOf n n xs) (midOf (2 * n) (n + 1) xs) (mid-long xs n n (omega arith) ∙ sym leaders-long);
+  }
+
+  module _ (w : List ℕ) (p count : ℕ) (b : Buffered xs n w p count) where
+    pub buffered-few : (count ≤ p) × (p ≤ n)
+    buffered-few = (few _ f _ _ _ _ _ (b .numbering), rw (← leaders-long) (b .numbering .within))
+
+    started : (v : ℕ) → Outside n (2 * n + 1) xs (set w (2 * n + count) v)
+    started v = outside-set n (2 * n + 1) (b .outside) (2 * n + count) v (omega arith) (omega (arith, buffered-few))
+
+    starts-set : (v : ℕ) → midOf (2 * n) (n + 1) (set w (2 * n + count) v) ≡ set (midOf (2 * n) (n + 1) w) count v
+    starts-set v = mid-set w (2 * n) (n + 1) count v (omega (arith, buffered-few))
+
+    blocks-same : (v : ℕ) → midOf n n (set w (2 * n + count) v) ≡ midOf n n w
+    blocks-same v =
+        let at : 2 * n + count ≡ n + (n + count) = omega arith in
+        rw at (mid-set-after w n n (n + count) v (omega arith))
+
+    module _ (h : p < n) where
+      inside : p < length (midOf 0 n xs)
+      inside = rw leaders-long h
+
+      -- the leaders are still there
+      pub buffered-flag : getD (set w (2 * n + count) p) p 0 ≡ getD (midOf 0 n xs) p 0
+      buffered-flag =
+          rw (zero-add p) at (sym (get-mid (set w (2 * n + count) p) 0 n p 0 h))
+          ∙ ap (λ (l : List ℕ). getD l p 0) (outside-front n (2 * n + 1) (started p) n (omega arith))
+
+      pub buffered-some : Marked (midOf 0 n xs) 0 → 1 ≤ count + getD (set w (2 * n + count) p) p 0
+      buffered-some one = rw buffered-flag (some _ f _ _ _ _ _ (b .numbering) inside one)
+
+      pub buffered-turn : Buffered xs n (set (set w (2 * n + count) p) (n + p) (count + getD (set w (2 * n + count) p) p 0 - 1)) (p + 1) (count + getD (set w (2 * n + count) p) p 0)
+      buffered-turn =
+          let w₁ = set w (2 * n + count) p in
+          let v = count + getD (midOf 0 n xs) p 0 - 1 in
+          let blocks : midOf n n (set w₁ (n + p) v) ≡ set (midOf n n w) p v = mid-set w₁ n n p v h ∙ ap (λ (l : List ℕ). set l p v) (blocks-same p) in
+          let starts : midOf (2 * n) (n + 1) (set w₁ (n + p) v) ≡ set (midOf (2 * n) (n + 1) w) count p = mid-set-before w₁ (2 * n) (n + 1) (n + p) v (omega arith) ∙ starts-set p in
+          rw buffered-flag
+          (record {
+            long = length-set w₁ (n + p) v ∙ length-set w (2 * n + count) p ∙ b .long;
+            outside = outside-set n (2 * n + 1) (started p) (n + p) v (omega arith) (omega arith);
+            numbering = rw (blocks, starts) (numbering-turn _ f _ _ _ _ _ (b .numbering) inside starts-room);
+          })
+
+    pub buffered-end : n ≤ p → Numbered (midOf 0 n xs) (midOf n n (set w (2 * n + count) n)) (midOf (2 * n) (n + 1) xs) (midOf (2 * n) (n + 1) (set w (2 * n + count) n)) count
+        × (set w (2 * n + count) n ≡ putMid n (2 * n + 1) xs (midOf n (2 * n + 1) (set w (2 * n + count) n)))
+    buffered-end h =
+        let end : p ≡ length (midOf 0 n xs) = omega (arith, buffered-few, leaders-long) in
+        let done : Numbered (midOf 0 n xs) (midOf n n w) (midOf (2 * n) (n + 1) xs) (set (midOf (2 * n) (n + 1) w) count n) count
+        = rw leaders-long at (numbering-end _ f _ _ _ _ _ (b .numbering) end starts-room) in
+        (rw (blocks-same n, starts-set n) done, outside-put n (2 * n + 1) (started n))

@@ -1,19 +1,18 @@
 -- A loop that looks for the lowest refused place of the cells in lent memory: none below p is refused.
 -- Assumes nothing.
 use mathlib.Core.Path.{_≡_, refl, sym, ap, _∙_}
-use mathlib.Core.Bool.{Bool, true, false}
 use mathlib.Core.List.{List, [], _∷_}
-use Prim.Native.Nat.{ℕ, zero, suc, _+_, _<_}
+use Prim.Native.Nat.{ℕ, suc, _+_, _<_}
 use native.Mathlib.Nat.{add-zero, zero-add, add-suc, suc-add}
 use native.Mathlib.Omega.{arith}
-use lib.Dec.{eqb}
 use lib.ListN.{length, getD, drop}
-use borrow.Author.Tests.{eq-eqb, eqb-true}
+use borrow.Author.Tests.{eq-eqb}
 use Rattle.effects.specs.declared.Check.the-variants.{Passed, Refused}
 use Rattle.effects.specs.Shape.{Cell, cellAt}
 use Rattle.effects.specs.Cells.{cellOf, cellsBy, cells-long, cell-at}
 use Rattle.effects.specs.Check.{lowest}
 use Rattle.effects.specs.Laws.{lowest-on, lowest-here, lowest-none}
+use Rattle.effects.specs.Sound.{lowest-passed}
 
 abbrev pub Unrefused : (ℕ → Cell → ℕ) → List ℕ → List ℕ → ℕ → Type 0
 Unrefused test words metadata p = lowest test p (drop p (cellsBy words metadata)) ≡ lowest test 0 (cellsBy words metadata)
@@ -36,22 +35,6 @@ module _ (test : ℕ → Cell → ℕ) (words metadata : List ℕ) (p : ℕ) (u 
     refused-here z = ap (λ (k : ℕ). Refused k p) (sym here) ∙ sym (lowest-here test (cellsBy words metadata) p inside (λ q. z (sym here ∙ q))) ∙ u
 
 -- ---- a check passes exactly if no place is refused
-
-lowest-passed : (test : ℕ → Cell → ℕ) (p : ℕ) (cells : List Cell) → lowest test p cells ≡ Passed → (k : ℕ) → k < length cells → test (p + k) (cellAt cells k) ≡ 0
-unfolding lowest
-lowest-passed test p [] e k h = absurd (omega arith)
-lowest-passed test p (x ∷ xs) e k h = go (eqb (test p x) 0) refl k h (lowest-passed test (suc p) xs)
-  where
-    go : (t : Bool) → eqb (test p x) 0 ≡ t → (k : ℕ) → k < length (x ∷ xs) → (lowest test (suc p) xs ≡ Passed → (j : ℕ) → j < length xs → test (suc p + j) (cellAt xs j) ≡ 0) → test (p + k) (cellAt (x ∷ xs) k) ≡ 0
-    go true q zero h later = rw add-zero (eqb-true (test p x) 0 q)
-    go true q (suc j) h later = rw (add-suc p j, ← suc-add p j) (later (sym (rest q) ∙ e) j (omega arith))
-      where
-        rest : eqb (test p x) 0 ≡ true → lowest test p (x ∷ xs) ≡ lowest test (suc p) xs
-        rest q = rw q
-    go false q k h later = absurd (differ (sym (rw q) ∙ e))
-      where
-        differ : Refused (test p x) p ≡ Passed → ⊥
-        differ d = let z : _≡_ {A = ℕ} 0 1 = cc in omega arith
 
 lowest-all : (test : ℕ → Cell → ℕ) (p : ℕ) (cells : List Cell) → ((k : ℕ) → k < length cells → test (p + k) (cellAt cells k) ≡ 0) → lowest test p cells ≡ Passed
 unfolding lowest

@@ -1,8 +1,9 @@
 // Blocks: where they start, and the block of each place.
 ghost use mathlib.Core.Path.{_≡_};
 ghost use mathlib.Core.List.{List};
-ghost use Prim.Native.Nat.{ℕ, _+_, _≤_, _<_};
+ghost use Prim.Native.Nat.{ℕ, _+_, _*_, _≤_, _<_};
 ghost use lib.ListN.{length};
+ghost use borrow.Rule.Slice.PartMut.{midOf, putMid};
 ghost use Rattle.unit.specs.Size.{maxInstructions};
 ghost use Rattle.effects.specs.Cells.{cellsBy};
 ghost use Rattle.flow.specs.Block.{endsBlock, leaders};
@@ -57,21 +58,21 @@ pub fn mark_leaders(words: &[u64], marks: &mut [u32])
     }
 }
 
-// Numbers the blocks: for each place its block, for each block its start and, past the last, the number of places.
-pub fn number_blocks(leaders: &[u32], blocks: &mut [u32], starts: &mut [u32]) -> usize
-    requires { ⌜ Flags (now leaders) × Marked (now leaders) 0 × (length (now leaders) ≤ maxInstructions) × (length (now blocks) ≡ length (now leaders)) × (length (now leaders) + 1 ≤ length (now starts)) ⌝ }
-    ensures { λ r. ⌜ Numbered (now (leaders .entry)) (now (blocks .exit)) (now (starts .entry)) (now (starts .exit)) r ⌝ }
+// Numbers the blocks by the n leaders: after them, for each place its block, and then for each block its start and, past the last,
+// the number of places.
+pub fn number_blocks(work: &mut [u32], n: usize) -> usize
+    requires { ⌜ Flags (midOf 0 n (now work)) × Marked (midOf 0 n (now work)) 0 × (n ≤ maxInstructions) × (3 * n + 1 ≤ length (now work)) ⌝ }
+    ensures { λ r. ⌜ Numbered (midOf 0 n (now (work .entry))) (midOf n n (now (work .exit))) (midOf (2 * n) (n + 1) (now (work .entry))) (midOf (2 * n) (n + 1) (now (work .exit))) r × (now (work .exit) ≡ putMid n (2 * n + 1) (now (work .entry)) (midOf n (2 * n + 1) (now (work .exit)))) ⌝ }
 {
-    let n = leaders.len();
     let mut count: usize = 0;
     let mut p: usize = 0;
     while p < n {
         // Stored over again, unless p is a leader.
-        starts[count] = p as u32;
-        count += leaders[p] as usize;
-        blocks[p] = (count - 1) as u32;
+        work[2 * n + count] = p as u32;
+        count += work[p] as usize;
+        work[n + p] = (count - 1) as u32;
         p += 1;
     }
-    starts[count] = n as u32;
+    work[2 * n + count] = n as u32;
     count
 }

@@ -5,6 +5,7 @@ ghost use mathlib.Core.List.{[], _∷_};
 ghost use Prim.Native.Nat.{_+_, _*_, _≤_, _<_};
 ghost use lib.Dec.{eqb, ltb};
 ghost use lib.ListN.{length, getD};
+ghost use borrow.Rule.Slice.PartMut.{midOf, putMid};
 ghost use Rattle.unit.specs.Entry.{kindLoopEnd, metadataAt};
 ghost use Rattle.unit.specs.Size.{maxInstructions, metadataSize};
 ghost use Rattle.effects.specs.Cells.{cellOf, cellsBy};
@@ -73,22 +74,19 @@ fn mark_end(metadata: &[u8], ends: &mut [u32], reached: u32, p: usize, i: Instru
     }
 }
 
-// Marks the ends of the reached loop hints.
-pub fn mark_anchors(words: &[u64], metadata: &[u8], marks: &[u32], ends: &mut [u32])
-    requires { ⌜ (length (now words) ≤ maxInstructions) × (metadataSize * length (now words) ≤ length (now metadata)) × (length (now marks) ≡ length (now words)) × (length (now ends) ≡ length (now words)) ⌝ }
-    ensures { λ _. ⌜ now (ends .exit) ≡ anchors (now (marks .entry)) (cellsBy (now (words .entry)) (now (metadata .entry))) ⌝ }
+// Marks the ends of the reached loop hints. The marks of the reached places stand first, the ends from `at` on.
+pub fn mark_anchors(words: &[u64], metadata: &[u8], work: &mut [u32], at: usize)
+    requires { ⌜ (length (now words) ≤ maxInstructions) × (metadataSize * length (now words) ≤ length (now metadata)) × (length (now words) ≤ at) × (at + length (now words) ≤ length (now work)) ⌝ }
+    ensures { λ _. ⌜ now (work .exit) ≡ putMid at (length (now (words .entry))) (now (work .entry)) (anchors (midOf 0 (length (now (words .entry))) (now (work .entry))) (cellsBy (now (words .entry)) (now (metadata .entry)))) ⌝ }
 {
-    fill::zero_u32(ends);
     let n = words.len();
+    let end = at + n;
+    fill::zero_u32(&mut work[at..end]);
     let mut p: usize = 0;
     while p < n {
-        mark_end(
-            metadata,
-            ends,
-            marks[p],
-            p,
-            Instruction::from_word(words[p]),
-        );
+        let reached = work[p];
+        let i = Instruction::from_word(words[p]);
+        mark_end(metadata, &mut work[at..end], reached, p, i);
         p += 1;
     }
 }

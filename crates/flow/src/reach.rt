@@ -4,6 +4,7 @@ ghost use mathlib.Core.Bool.{cond};
 ghost use mathlib.Core.List.{[], _∷_};
 ghost use Prim.Native.Nat.{_+_, _*_, _≤_, _<_};
 ghost use lib.ListN.{length, getD};
+ghost use borrow.Rule.Slice.PartMut.{midOf, putMid};
 ghost use Rattle.unit.specs.Size.{maxInstructions, metadataSize};
 ghost use Rattle.effects.specs.Cells.{cellOf, cellsBy};
 ghost use Rattle.flow.specs.Loop.{successors, reachedPlaces};
@@ -72,20 +73,23 @@ fn push_successors(words: &[u64], metadata: &[u8], stack: &mut [u32], sp: usize,
     push_loop(metadata, stack, n, near, p, i)
 }
 
-// Marks the places that are reached from place 0. Each is visited once, and has at most four successors.
-pub fn mark_reached(words: &[u64], metadata: &[u8], marks: &mut [u32], stack: &mut [u32])
-    requires { ⌜ (1 ≤ length (now words)) × (length (now words) ≤ maxInstructions) × (metadataSize * length (now words) ≤ length (now metadata)) × (length (now marks) ≡ length (now words)) × (4 * length (now words) + 4 ≤ length (now stack)) ⌝ }
-    ensures { λ _. ⌜ now (marks .exit) ≡ reachedPlaces (cellsBy (now (words .entry)) (now (metadata .entry))) ⌝ }
+// Marks the places that are reached from place 0. Each is visited once, and has at most four successors. The marks stand first, and
+// the stack after them.
+pub fn mark_reached(words: &[u64], metadata: &[u8], work: &mut [u32])
+    requires { ⌜ (1 ≤ length (now words)) × (length (now words) ≤ maxInstructions) × (metadataSize * length (now words) ≤ length (now metadata)) × (5 * length (now words) + 4 ≤ length (now work)) ⌝ }
+    ensures { λ _. ⌜ (midOf 0 (length (now (words .entry))) (now (work .exit)) ≡ reachedPlaces (cellsBy (now (words .entry)) (now (metadata .entry)))) × (now (work .exit) ≡ putMid 0 (5 * length (now (words .entry)) + 4) (now (work .entry)) (midOf 0 (5 * length (now (words .entry)) + 4) (now (work .exit)))) ⌝ }
 {
-    fill::zero_u32(marks);
-    stack[0] = 0;
+    let n = words.len();
+    let end = 5 * n + 4;
+    fill::zero_u32(&mut work[0..n]);
+    work[n] = 0;
     let mut sp: usize = 1;
     while sp > 0 {
         sp -= 1;
-        let p = stack[sp] as usize;
-        if marks[p] == 0 {
-            marks[p] = 1;
-            sp = push_successors(words, metadata, stack, sp, p);
+        let p = work[n + sp] as usize;
+        if work[p] == 0 {
+            work[p] = 1;
+            sp = push_successors(words, metadata, &mut work[n..end], sp, p);
         }
     }
 }

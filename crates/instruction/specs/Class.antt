@@ -5,9 +5,8 @@ use mathlib.Core.Bool.{Bool, true, false, cond}
 use mathlib.Core.List.{List, [], _∷_}
 use Prim.Native.Nat.{ℕ, _≤_, _<_}
 use lib.Dec.{eqb, ltb}
-use lib.ListN.{getD}
-use borrow.Author.Tests.{eqb-true, lt-ltb}
-use Rattle.words.specs.Lists.{isIn, count, every, every-at}
+use borrow.Author.Tests.{lt-ltb}
+use Rattle.words.specs.Lists.{isIn, count}
 use Rattle.instruction.specs.Opcode as op
 use Rattle.instruction.specs.declared.Class.{Class}
 use Rattle.instruction.specs.declared.Class.the-variants.{Hint, LoadInt, LoadConst, Copy, CopyN, Unary, Binary, Jump, JumpIf, JumpIfNot, ForLoop, Return, Panic, Outside, Invalid}
@@ -111,13 +110,7 @@ pub pure-opcodes : count 256 (λ o. isPure (classOf o)) ≡ 51
 unfolding isPure classOf single
 pure-opcodes = refl
 
--- a table of class numbers that passes this test at each valid opcode is right, and past it all are Invalid
-pub by-table : (numbers : List ℕ) → every 136 (λ o. eqb (getD numbers o 0) (numberOf (classOf o))) ≡ true → (o : ℕ) → o < 136
-    → namedClass (getD numbers o 0) ≡ classOf o
-by-table numbers e o h =
-    rw (eqb-true (getD numbers o 0) (numberOf (classOf o)) (every-at 136 (λ o. eqb (getD numbers o 0) (numberOf (classOf o))) e o h))
-    (named-number (classOf o))
-
-pub past-table : (o : ℕ) → 136 ≤ o → classOf o ≡ Invalid
+-- past the last valid opcode all are Invalid
+pub class-past : (o : ℕ) → 136 ≤ o → classOf o ≡ Invalid
 unfolding classOf
-past-table o h = rw (lt-ltb op.maxValid o h)
+class-past o h = rw (lt-ltb op.maxValid o h)

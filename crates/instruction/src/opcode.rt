@@ -1,179 +1,150 @@
-// The opcodes' classes, by one table.
+// The opcodes' classes, by one match.
 ghost use mathlib.Core.Path.{_≡_};
-ghost use Rattle.instruction.specs.Class.{classOf, namedClass};
+ghost use Rattle.instruction.specs.Class.{classOf};
 use crate::Class;
 
-// The number of each valid opcode's class, in the order of `Class`.
-const CLASSES: [u8; 136] = [
-    0, // Hint
-    1, // LoadInt
-    2, // LoadConst
-    3, // Copy
-    4, // CopyN
-    13, // SlotGet
-    13, // SlotSet
-    13, // SlotGetN
-    13, // SlotSetN
-    13, // GlobalGet
-    13, // GlobalGetN
-    13, // GlobalSet
-    13, // GlobalSetN
-    13, // PtrNew
-    13, // PtrGet
-    13, // PtrSet
-    13, // PtrGetN
-    13, // PtrSetN
-    13, // PtrAdd
-    6, // AddI
-    6, // SubI
-    6, // MulI
-    13, // DivI
-    13, // DivU
-    13, // ModI
-    13, // ModU
-    5, // NegI
-    6, // AddF
-    6, // SubF
-    6, // MulF
-    6, // DivF
-    5, // NegF
-    6, // EqI
-    6, // NeI
-    6, // LtI
-    6, // LtU
-    6, // LeI
-    6, // LeU
-    6, // GtI
-    6, // GtU
-    6, // GeI
-    6, // GeU
-    6, // EqF
-    6, // NeF
-    6, // LtF
-    6, // LeF
-    6, // GtF
-    6, // GeF
-    6, // And
-    6, // Or
-    6, // Xor
-    6, // AndNot
-    5, // Not
-    13, // Shl
-    13, // ShrS
-    13, // ShrU
-    5, // BoolNot
-    7, // Jump
-    8, // JumpIf
-    9, // JumpIfNot
-    13, // Call
-    13, // CallExtern
-    13, // CallClosure
-    13, // CallIface
-    11, // Return
-    13, // StrNew
-    13, // StrLen
-    13, // StrIndex
-    13, // StrConcat
-    13, // StrSlice
-    13, // StrEq
-    13, // StrNe
-    13, // StrLt
-    13, // StrLe
-    13, // StrGt
-    13, // StrGe
-    13, // StrDecodeRune
-    13, // ArrayNew
-    13, // ArrayGet
-    13, // ArraySet
-    13, // ArrayAddr
-    13, // SliceNew
-    13, // SliceGet
-    13, // SliceSet
-    13, // SliceLen
-    13, // SliceCap
-    13, // SliceSlice
-    13, // SliceAppend
-    13, // SliceAddr
-    13, // MapNew
-    13, // MapGet
-    13, // MapSet
-    13, // MapDelete
-    13, // MapLen
-    13, // MapIterInit
-    13, // MapIterNext
-    13, // QueueNew
-    13, // QueueSend
-    13, // QueueRecv
-    13, // QueueClose
-    13, // QueueLen
-    13, // QueueCap
-    13, // SelectBegin
-    13, // SelectSend
-    13, // SelectRecv
-    13, // SelectExec
-    13, // ClosureNew
-    13, // ClosureGet
-    13, // GoStart
-    13, // DeferPush
-    13, // ErrDeferPush
-    12, // Panic
-    13, // Recover
-    13, // IfaceAssign
-    13, // IfaceAssert
-    13, // IfaceEq
-    5, // ConvI2F
-    5, // ConvF2I
-    5, // ConvF64F32
-    5, // ConvF32F64
-    5, // Trunc
-    13, // IndexCheck
-    13, // IslandNew
-    13, // GoIsland
-    10, // ForLoop
-    6, // AddF32
-    6, // SubF32
-    6, // MulF32
-    6, // DivF32
-    5, // NegF32
-    6, // EqF32
-    6, // NeF32
-    6, // LtF32
-    6, // LeF32
-    6, // GtF32
-    6, // GeF32
-];
-
-// The class with that number.
-fn named(k: u8) -> Class
-    ensures { λ r. ⌜ r ≡ namedClass k ⌝ }
-{
-    match k {
-        0 => Class::Hint,
-        1 => Class::LoadInt,
-        2 => Class::LoadConst,
-        3 => Class::Copy,
-        4 => Class::CopyN,
-        5 => Class::Unary,
-        6 => Class::Binary,
-        7 => Class::Jump,
-        8 => Class::JumpIf,
-        9 => Class::JumpIfNot,
-        10 => Class::ForLoop,
-        11 => Class::Return,
-        12 => Class::Panic,
-        13 => Class::Outside,
-        _ => Class::Invalid,
-    }
-}
-
-// The class of an opcode. It stands for `Opcode::from_u8`: a table and a match in place of `transmute`.
+// The class of an opcode. It stands for `Opcode::from_u8`, a match in place of `transmute`: one arm for each opcode becomes a table of
+// the program's constant data.
 pub fn class_of(op: u8) -> Class
     ensures { λ r. ⌜ r ≡ classOf op ⌝ }
 {
-    let at = op as usize;
-    if at < 136 {
-        named(CLASSES[at])
-    } else {
-        Class::Invalid
+    match op {
+        0 => Class::Hint, // Hint
+        1 => Class::LoadInt, // LoadInt
+        2 => Class::LoadConst, // LoadConst
+        3 => Class::Copy, // Copy
+        4 => Class::CopyN, // CopyN
+        5 => Class::Outside, // SlotGet
+        6 => Class::Outside, // SlotSet
+        7 => Class::Outside, // SlotGetN
+        8 => Class::Outside, // SlotSetN
+        9 => Class::Outside, // GlobalGet
+        10 => Class::Outside, // GlobalGetN
+        11 => Class::Outside, // GlobalSet
+        12 => Class::Outside, // GlobalSetN
+        13 => Class::Outside, // PtrNew
+        14 => Class::Outside, // PtrGet
+        15 => Class::Outside, // PtrSet
+        16 => Class::Outside, // PtrGetN
+        17 => Class::Outside, // PtrSetN
+        18 => Class::Outside, // PtrAdd
+        19 => Class::Binary, // AddI
+        20 => Class::Binary, // SubI
+        21 => Class::Binary, // MulI
+        22 => Class::Outside, // DivI
+        23 => Class::Outside, // DivU
+        24 => Class::Outside, // ModI
+        25 => Class::Outside, // ModU
+        26 => Class::Unary, // NegI
+        27 => Class::Binary, // AddF
+        28 => Class::Binary, // SubF
+        29 => Class::Binary, // MulF
+        30 => Class::Binary, // DivF
+        31 => Class::Unary, // NegF
+        32 => Class::Binary, // EqI
+        33 => Class::Binary, // NeI
+        34 => Class::Binary, // LtI
+        35 => Class::Binary, // LtU
+        36 => Class::Binary, // LeI
+        37 => Class::Binary, // LeU
+        38 => Class::Binary, // GtI
+        39 => Class::Binary, // GtU
+        40 => Class::Binary, // GeI
+        41 => Class::Binary, // GeU
+        42 => Class::Binary, // EqF
+        43 => Class::Binary, // NeF
+        44 => Class::Binary, // LtF
+        45 => Class::Binary, // LeF
+        46 => Class::Binary, // GtF
+        47 => Class::Binary, // GeF
+        48 => Class::Binary, // And
+        49 => Class::Binary, // Or
+        50 => Class::Binary, // Xor
+        51 => Class::Binary, // AndNot
+        52 => Class::Unary, // Not
+        53 => Class::Outside, // Shl
+        54 => Class::Outside, // ShrS
+        55 => Class::Outside, // ShrU
+        56 => Class::Unary, // BoolNot
+        57 => Class::Jump, // Jump
+        58 => Class::JumpIf, // JumpIf
+        59 => Class::JumpIfNot, // JumpIfNot
+        60 => Class::Outside, // Call
+        61 => Class::Outside, // CallExtern
+        62 => Class::Outside, // CallClosure
+        63 => Class::Outside, // CallIface
+        64 => Class::Return, // Return
+        65 => Class::Outside, // StrNew
+        66 => Class::Outside, // StrLen
+        67 => Class::Outside, // StrIndex
+        68 => Class::Outside, // StrConcat
+        69 => Class::Outside, // StrSlice
+        70 => Class::Outside, // StrEq
+        71 => Class::Outside, // StrNe
+        72 => Class::Outside, // StrLt
+        73 => Class::Outside, // StrLe
+        74 => Class::Outside, // StrGt
+        75 => Class::Outside, // StrGe
+        76 => Class::Outside, // StrDecodeRune
+        77 => Class::Outside, // ArrayNew
+        78 => Class::Outside, // ArrayGet
+        79 => Class::Outside, // ArraySet
+        80 => Class::Outside, // ArrayAddr
+        81 => Class::Outside, // SliceNew
+        82 => Class::Outside, // SliceGet
+        83 => Class::Outside, // SliceSet
+        84 => Class::Outside, // SliceLen
+        85 => Class::Outside, // SliceCap
+        86 => Class::Outside, // SliceSlice
+        87 => Class::Outside, // SliceAppend
+        88 => Class::Outside, // SliceAddr
+        89 => Class::Outside, // MapNew
+        90 => Class::Outside, // MapGet
+        91 => Class::Outside, // MapSet
+        92 => Class::Outside, // MapDelete
+        93 => Class::Outside, // MapLen
+        94 => Class::Outside, // MapIterInit
+        95 => Class::Outside, // MapIterNext
+        96 => Class::Outside, // QueueNew
+        97 => Class::Outside, // QueueSend
+        98 => Class::Outside, // QueueRecv
+        99 => Class::Outside, // QueueClose
+        100 => Class::Outside, // QueueLen
+        101 => Class::Outside, // QueueCap
+        102 => Class::Outside, // SelectBegin
+        103 => Class::Outside, // SelectSend
+        104 => Class::Outside, // SelectRecv
+        105 => Class::Outside, // SelectExec
+        106 => Class::Outside, // ClosureNew
+        107 => Class::Outside, // ClosureGet
+        108 => Class::Outside, // GoStart
+        109 => Class::Outside, // DeferPush
+        110 => Class::Outside, // ErrDeferPush
+        111 => Class::Panic, // Panic
+        112 => Class::Outside, // Recover
+        113 => Class::Outside, // IfaceAssign
+        114 => Class::Outside, // IfaceAssert
+        115 => Class::Outside, // IfaceEq
+        116 => Class::Unary, // ConvI2F
+        117 => Class::Unary, // ConvF2I
+        118 => Class::Unary, // ConvF64F32
+        119 => Class::Unary, // ConvF32F64
+        120 => Class::Unary, // Trunc
+        121 => Class::Outside, // IndexCheck
+        122 => Class::Outside, // IslandNew
+        123 => Class::Outside, // GoIsland
+        124 => Class::ForLoop, // ForLoop
+        125 => Class::Binary, // AddF32
+        126 => Class::Binary, // SubF32
+        127 => Class::Binary, // MulF32
+        128 => Class::Binary, // DivF32
+        129 => Class::Unary, // NegF32
+        130 => Class::Binary, // EqF32
+        131 => Class::Binary, // NeF32
+        132 => Class::Binary, // LtF32
+        133 => Class::Binary, // LeF32
+        134 => Class::Binary, // GtF32
+        135 => Class::Binary, // GeF32
+        _ => Class::Invalid,
     }
 }

@@ -1,2 +1,3 @@
+mod Bounding
 mod Relocating
 mod Writing

@@ -24,9 +24,10 @@ use Rattle.values.specs.declared.Atom.the-variants.{Integer, Float, Definition}
 use Rattle.values.specs.Fold.{foldWord, foldingUnary, foldingBinary, fitsImm32}
 use Rattle.values.specs.Table.{sameAtom, Values, Expression, Represented, empty, atStart, valueIn, valueOf, slotIn, expressionIn, usable, recordedSlot, orItself, representative, store, learn}
 use Rattle.values.specs.Number.{Numbered, setA, setB, setBC, constantAtom, foldUnary, foldBinary, loadOrStay, isScalar, stored, copyOrStay, byExpression, byValue, numberUnary, numberBinary, numberCopy, numberConstant, numberRead, decided, numberJump, numberBy, cleared, number}
+use Rattle.values.specs.Walk.{Named}
 use Rattle.run.specs.Machine.{Words, Event, World, put}
 use Rattle.run.specs.Program.{Function}
-use Rattle.run.specs.Operands.{Named, and-left, and-right}
+use Rattle.run.specs.Operands.{and-left, and-right}
 use Rattle.run.specs.Small.{sign-small, fold-small}
 use Rattle.run.specs.Valuation.{Valuation, wordOf, wordOfExpression, Below, integer, float, initially, before, BelowBoth, below-suc, same-atom, Static, static-empty, static-suc, static-hold, static-record, static-learn, Valid, hold, recorded, valid-hold, valid-record, valid-learn, define, word-new}
 use Rattle.run.specs.Justified.{isSingle, unaryExpression, binaryExpression, Stores, loads, constant, copies, foldsOne, foldsTwo, equalsOne, equalsTwo, Justified, stays, operand, operands, tested, returned, loaded, copied, takenIf, takenIfNot, passedIf, passedIfNot, oneSlot, one-slot, doAt, Sets, Meant, gave, do-single, stores-word, word-one, word-two, named, single-slot}

@@ -16,6 +16,7 @@ use Rattle.effects.specs.declared.Range.{Range}
 use Rattle.effects.specs.Shape.{Tables, Cell, rangeOf, value, applies}
 use Rattle.effects.specs.Effects.{writes, allReads, demandsMet, rangeFits, rangeWithin, allOf}
 use Rattle.effects.specs.Check.{operandRefusal, effectsSound}
+use Rattle.values.specs.Walk.{Named}
 use Rattle.run.specs.Shapes.{readParts, writeParts, byFields, valid-opcode, reads-by, writes-by, demands-by}
 
 pub and-left : (a b : Bool) → (a && b) ≡ true → a ≡ true
@@ -45,25 +46,7 @@ refusal-none s T x f fit within =
     let h = valid-opcode (x .instruction .op) f in
     rw (le-ltb op.maxValid (x .instruction .op) (omega arith), demands-by T x f, fit, within)
 
--- the slots that an instruction names one by one, all below s
-unfoldable pub Named : Class → ℕ → Instruction → Type 0
-Named Hint s i = Unit {0}
-Named LoadInt s i = i .a < s
-Named LoadConst s i = i .a < s
-Named Copy s i = (i .b < s) × (i .a < s)
-Named CopyN s i = Unit {0}
-Named Unary s i = (i .b < s) × (i .a < s)
-Named Binary s i = (i .b < s) × (i .c < s) × (i .a < s)
-Named Jump s i = Unit {0}
-Named JumpIf s i = i .a < s
-Named JumpIfNot s i = i .a < s
-Named ForLoop s i = Unit {0}
-Named Return s i = i .b ≡ 1 → i .a < s
-Named Panic s i = Unit {0}
-Named Outside s i = Unit {0}
-Named Invalid s i = Unit {0}
-
--- the classes that do so; Return where it returns one slot
+-- the classes that name their slots one by one; Return where it returns one slot
 unfoldable pub oneByOne : Class → Bool
 oneByOne Hint = true
 oneByOne LoadInt = true

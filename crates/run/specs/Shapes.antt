@@ -14,7 +14,7 @@ use Rattle.instruction.specs.Opcode as op
 use Rattle.instruction.specs.declared.Instruction.{Instruction}
 use Rattle.instruction.specs.declared.Class.{Class}
 use Rattle.instruction.specs.declared.Class.the-variants.{Hint, LoadInt, LoadConst, Copy, CopyN, Unary, Binary, Jump, JumpIf, JumpIfNot, ForLoop, Return, Panic, Outside, Invalid}
-use Rattle.instruction.specs.Class.{classOf, single, past-table}
+use Rattle.instruction.specs.Class.{classOf, single, class-past}
 use Rattle.instruction.specs.Instruction.{class}
 use Rattle.effects.specs.declared.Range.{Range}
 use Rattle.effects.specs.Shape.{Tables, Cell, nothing, fixed, fieldA, fieldB, fieldC, Term, Part, part, Shape, met, rangeOf}
@@ -109,7 +109,7 @@ valid-opcode o f = go (ltb o 136) refl
   where
     go : (t : Bool) → ltb o 136 ≡ t → o < 136
     go true e = ltb-true o 136 e
-    go false e = let z : false ≡ true = rw (past-table o (ltb-false o 136 e)) at f in absurd (false≢true z)
+    go false e = let z : false ≡ true = rw (class-past o (ltb-false o 136 e)) at f in absurd (false≢true z)
 
 -- an opcode of class Outside is no such one
 not-outside : (o q : ℕ) → byFields (classOf q) ≡ false → byFields (classOf o) ≡ true → eqb o q ≡ false

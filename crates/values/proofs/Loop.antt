@@ -4,11 +4,14 @@ use mathlib.Core.Path.{_≡_, refl, sym, ap, _∙_}
 use mathlib.Core.Bool.{Bool, true, false, cond}
 use mathlib.Core.List.{List, [], _∷_, _++_, append-assoc, append-nil, map}
 use Prim.Native.Nat.{ℕ, _+_, _*_, _-_, _^_, _≤_, _<_}
+use native.Mathlib.Nat.{zero-add}
 use native.Mathlib.Numerals.{add-one}
 use native.Mathlib.Omega.{arith}
 use lib.Dec.{eqb}
 use lib.ListN.{length, getD, set, take, drop, length-set}
 use lib.Seq.{take-suc-set, drop-cons, take-all, getD-set-other, drop-length}
+use borrow.Rule.Slice.PartMut.{midOf, putMid}
+use Rattle.words.specs.Regions.{mid-long, get-mid, mid-set, mid-set-before, mid-put, put-long, outside-same, outside-part, outside-front}
 use Rattle.instruction.specs.Instruction.{ofWord, toWord}
 use Rattle.effects.specs.Shape.{Tables, Cell}
 use Rattle.effects.specs.Cells.{cellsBy}
@@ -90,11 +93,10 @@ turns {n} {types} {st} {t} {constants} {leader} {w} {p} {x} {y} {t′} g more b 
     }
 
 -- the invariant at place p
-pub record Progress (code₀ leaders types constants : List ℕ) (n : ℕ) (long : ℕ) (code memory : List ℕ) (st : State) (p : ℕ) : Type 0 where
+pub record Progress (code₀ leaders types constants : List ℕ) (n : ℕ) (code memory : List ℕ) (st : State) (p : ℕ) : Type 0 where
   pub here : p ≤ n
   pub size : length code ≡ n
   pub size₀ : length code₀ ≡ n
-  pub room : length memory ≡ long
   pub ready : Ready n (length types) st memory
   pub constants-few : st .rcount ≤ 3 * p
   pub expressions-few : st .ecount ≤ p
@@ -103,15 +105,14 @@ pub record Progress (code₀ leaders types constants : List ℕ) (n : ℕ) (long
   pub walk : (locals : ℕ) (tables : Tables) → (v : Values) × Holds n (length types) (destOf code₀) v st (memoryOf n (length types) memory)
       × (take p code ++ numberWords (sectionsOf types constants locals tables) leaders p v (drop p code₀) ≡ numberWords (sectionsOf types constants locals tables) leaders 0 empty code₀)
 
-module _ {code₀ leaders types constants : List ℕ} {n long : ℕ} where
-  pub progress-start : {memory : List ℕ} → length code₀ ≡ n → length memory ≡ long → (memory₀ : List ℕ) → Begins n (length types) memory₀ memory
-      → Progress code₀ leaders types constants n long code₀ memory started 0
-  progress-start e l memory₀ b =
+module _ {code₀ leaders types constants : List ℕ} {n : ℕ} where
+  pub progress-start : {memory : List ℕ} → length code₀ ≡ n → (memory₀ : List ℕ) → Begins n (length types) memory₀ memory
+      → Progress code₀ leaders types constants n code₀ memory started 0
+  progress-start e memory₀ b =
       record {
         here = omega arith;
         size = e;
         size₀ = e;
-        room = l;
         ready = b .ready;
         constants-few = omega arith;
         expressions-few = omega arith;
@@ -121,7 +122,7 @@ module _ {code₀ leaders types constants : List ℕ} {n long : ℕ} where
       }
 
   -- room for a turn
-  module _ {code memory : List ℕ} {st : State} {p : ℕ} (g : Progress code₀ leaders types constants n long code memory st p) (l : p < n) where
+  module _ {code memory : List ℕ} {st : State} {p : ℕ} (g : Progress code₀ leaders types constants n code memory st p) (l : p < n) where
     pub turn-room : n ≤ 65536 → Room n (length types) st memory
     turn-room few =
         record {
@@ -132,7 +133,7 @@ module _ {code₀ leaders types constants : List ℕ} {n long : ℕ} where
         }
 
     pub progress-turn : {leader w : ℕ} {x : Turn} {memory′ : List ℕ} → leader ≡ getD leaders p 0 → w ≡ getD code p 0 → Turns n types constants leader w p st memory x memory′
-        → Progress code₀ leaders types constants n long (set code p (x .word)) memory′ (x .state) (p + 1)
+        → Progress code₀ leaders types constants n (set code p (x .word)) memory′ (x .state) (p + 1)
     unfolding numberWords
     progress-turn {leader} {w} {x} {memory′} q r b =
         let same : w ≡ getD code₀ p 0 = r ∙ g .later p (omega arith) in
@@ -142,7 +143,6 @@ module _ {code₀ leaders types constants : List ℕ} {n long : ℕ} where
           here = omega arith;
           size = length-set code p (x .word) ∙ g .size;
           size₀ = g .size₀;
-          room = b .kept .long ∙ g .room;
           ready = b .kept .ready;
           constants-few = omega (arith, b .kept .constants, g .constants-few);
           expressions-few = omega (arith, b .kept .expressions, g .expressions-few);
@@ -160,7 +160,7 @@ module _ {code₀ leaders types constants : List ℕ} {n long : ℕ} where
               );
         }
 
-  pub progress-end : {code memory : List ℕ} {st : State} {p : ℕ} → Progress code₀ leaders types constants n long code memory st p → n ≤ p → (metadata : List ℕ) (locals : ℕ) (tables : Tables)
+  pub progress-end : {code memory : List ℕ} {st : State} {p : ℕ} → Progress code₀ leaders types constants n code memory st p → n ≤ p → (metadata : List ℕ) (locals : ℕ) (tables : Tables)
       → code ≡ map (λ (x : Cell). toWord (x .instruction)) (numberCode (sectionsOf types constants locals tables) leaders (cellsBy code₀ metadata))
   unfolding numberWords
   progress-end {code} {memory} {st} {p} g h metadata locals tables =
@@ -171,6 +171,54 @@ module _ {code₀ leaders types constants : List ℕ} {n long : ℕ} where
       let whole = k .2 in
       let done : code ++ numberWords (sectionsOf types constants locals tables) leaders p (k .0) [] ≡ numberWords (sectionsOf types constants locals tables) leaders 0 empty code₀ = rw (all, none) at whole in
       sym (append-nil code) ∙ done ∙ sym (code-words (sectionsOf types constants locals tables) leaders code₀ metadata)
+
+-- ---- the code and, after it, the table in one memory
+
+-- a table written after n words
+module _ (n : ℕ) (w t : List ℕ) (room : n ≤ length w) (l : length t ≡ length (midOf n (length w - n) w)) where
+  table-long : length t ≡ length w - n
+  table-long = l ∙ mid-long w n (length w - n) (omega arith)
+
+  pub whole-long : length (putMid n (length w - n) w t) ≡ length w
+  whole-long = put-long w n (length w - n) t table-long (omega arith)
+
+  table-back : midOf n (length w - n) (putMid n (length w - n) w t) ≡ t
+  table-back = mid-put w n (length w - n) t table-long (omega arith)
+
+  pub code-before : midOf 0 n (putMid n (length w - n) w t) ≡ midOf 0 n w
+  code-before =
+      outside-front n (length w - n)
+      (outside-part n (length w - n) (outside-same n (length w - n) w) n (length w - n) 0 t (omega arith) (omega arith) table-long (omega arith))
+      n (omega arith)
+
+pub record Numbering (leaders types constants : List ℕ) (xs w : List ℕ) (st : State) (p : ℕ) : Type 0 where
+  pub long : length w ≡ length xs
+  pub progress : Progress (midOf 0 (length leaders) xs) leaders types constants (length leaders) (midOf 0 (length leaders) w) (midOf (length leaders) (length w - length leaders) w) st p
+
+module _ {leaders types constants : List ℕ} where
+  pub numbering-start : (xs t : List ℕ) → length leaders ≤ length xs → length t ≡ length (midOf (length leaders) (length xs - length leaders) xs)
+      → Begins (length leaders) (length types) (midOf (length leaders) (length xs - length leaders) xs) t
+      → Numbering leaders types constants (putMid (length leaders) (length xs - length leaders) xs t) (putMid (length leaders) (length xs - length leaders) xs t) started 0
+  numbering-start xs t room l b =
+      let n = length leaders in
+      let ys = putMid n (length xs - n) xs t in
+      let table : midOf n (length ys - n) ys ≡ t = ap (λ (k : ℕ). midOf n (k - n) ys) (whole-long n xs t room l) ∙ table-back n xs t room l in
+      let code : length (midOf 0 n ys) ≡ n = ap length (code-before n xs t room l) ∙ mid-long xs 0 n (omega arith) in
+      record { long = refl; progress = rw table (progress-start code (midOf n (length xs - n) xs) b) }
+
+  pub numbering-turn : {xs w t : List ℕ} {st : State} {p leader : ℕ} {x : Turn} → Numbering leaders types constants xs w st p → p < length leaders → length leaders ≤ length w
+      → leader ≡ getD leaders p 0 → length t ≡ length (midOf (length leaders) (length w - length leaders) w)
+      → Turns (length leaders) types constants leader (getD w p 0) p st (midOf (length leaders) (length w - length leaders) w) x t
+      → Numbering leaders types constants xs (set (putMid (length leaders) (length w - length leaders) w t) p (x .word)) (x .state) (p + 1)
+  numbering-turn {xs} {w} {t} {st} {p} {leader} {x} g h room q l b =
+      let n = length leaders in
+      let ys = putMid n (length w - n) w t in
+      let same : length (set ys p (x .word)) ≡ length w = length-set ys p (x .word) ∙ whole-long n w t room l in
+      let word : getD w p 0 ≡ getD (midOf 0 n w) p 0 = sym (get-mid w 0 n p 0 h ∙ rw (zero-add p)) in
+      let code : midOf 0 n (set ys p (x .word)) ≡ set (midOf 0 n w) p (x .word) = (rw (zero-add p) at (mid-set ys 0 n p (x .word) h)) ∙ ap (λ (c : List ℕ). set c p (x .word)) (code-before n w t room l) in
+      let table : midOf n (length (set ys p (x .word)) - n) (set ys p (x .word)) ≡ t
+      = ap (λ (k : ℕ). midOf n (k - n) (set ys p (x .word))) same ∙ mid-set-before ys n (length w - n) p (x .word) h ∙ table-back n w t room l in
+      record { long = same ∙ g .long; progress = rw (code, table) (progress-turn (g .progress) h q word b) }
 
 -- no code
 pub no-code : (code leaders types constants : List ℕ) → length code ≡ 0 → (metadata : List ℕ) (locals : ℕ) (tables : Tables)

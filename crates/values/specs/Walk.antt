@@ -33,7 +33,7 @@ use Rattle.values.specs.declared.State.{State}
 use Rattle.values.specs.declared.Step.{Step}
 use Rattle.values.specs.declared.Turn.{Turn}
 
--- the slots that numbering an instruction looks at are below S
+-- the slots that an instruction names one by one, which are those that numbering it looks at, are below s
 unfoldable pub Named : Class → ℕ → Instruction → Type 0
 Named Hint s i = Unit {0}
 Named LoadInt s i = i .a < s
@@ -245,9 +245,8 @@ pub record Turns (n : ℕ) (types constants : List ℕ) (leader w p : ℕ) (st :
       × Holds n (length types) dest (number (sectionsOf types constants locals tables) p (ofWord w) (cond (eqb leader 1) empty v) .table) (x .state) (memoryOf n (length types) t′)
 
 -- what the walk asks: "slots below s" is what the check of all operands shows
-pub record Numberable (words leaders types table : List ℕ) : Type 0 where
-  pub few : length words ≤ 65536
-  pub marks : length leaders ≡ length words
+pub record Numberable (words leaders types memory : List ℕ) : Type 0 where
+  pub few : length leaders ≤ 65536
   pub locals : length types ≤ 65536
-  pub long : 23 * length words + 4 * length types ≤ length table
-  pub named : (p : ℕ) → p < length words → Named (class (ofWord (getD words p 0))) (length types) (ofWord (getD words p 0))
+  pub long : 24 * length leaders + 4 * length types ≤ length memory
+  pub named : (p : ℕ) → p < length leaders → Named (class (ofWord (getD words p 0))) (length types) (ofWord (getD words p 0))

@@ -4,6 +4,7 @@ ghost use mathlib.Core.Bool.{true, cond};
 ghost use mathlib.Core.List.{List, map};
 ghost use Prim.Native.Nat.{ℕ, _+_, _*_, _≤_, _<_};
 ghost use lib.ListN.{length, getD};
+ghost use borrow.Rule.Slice.PartMut.{midOf};
 ghost use Rattle.instruction.specs.Instruction.{class, ofWord, toWord};
 ghost use Rattle.effects.specs.Shape.{Cell, Tables};
 ghost use Rattle.effects.specs.Cells.{cellsBy};
@@ -544,29 +545,33 @@ fn turn(
     }
 }
 
-// Value numbering of a whole function: its code, one word an instruction, is rewritten. `leaders` has 1 where a block starts. The
-// table of values takes 23 numbers of the lent memory for each instruction and 4 for each slot; what the memory holds is free.
-pub fn number_code(
-    code: &mut [u64],
-    leaders: &[u32],
-    types: &[u8],
-    constants: &[u8],
-    memory: &mut [u64],
-)
-    requires { ⌜ Numberable (now code) (now leaders) (now types) (now memory) ⌝ }
-    ensures { λ _. ⌜ ((metadata : List ℕ) (locals : ℕ) (tables : Tables) → now (code .exit) ≡ map (λ (x : Cell). toWord (x .instruction)) (numberCode (sectionsOf (now (types .entry)) (now (constants .entry)) locals tables) (now (leaders .entry)) (cellsBy (now (code .entry)) metadata))) ⌝ }
+// Value numbering of a whole function: its code, one word an instruction at the memory's start, is rewritten. `leaders` has 1 where
+// a block starts. The table of values takes 23 numbers of the memory after the code for each instruction and 4 for each slot; what
+// they hold is free.
+pub fn number_code(memory: &mut [u64], leaders: &[u32], types: &[u8], constants: &[u8])
+    requires { ⌜ Numberable (midOf 0 (length (now leaders)) (now memory)) (now leaders) (now types) (now memory) ⌝ }
+    ensures { λ _. ⌜ ((metadata : List ℕ) (locals : ℕ) (tables : Tables) → midOf 0 (length (now (leaders .entry))) (now (memory .exit)) ≡ map (λ (x : Cell). toWord (x .instruction)) (numberCode (sectionsOf (now (types .entry)) (now (constants .entry)) locals tables) (now (leaders .entry)) (cellsBy (midOf 0 (length (now (leaders .entry))) (now (memory .entry))) metadata))) ⌝ }
 {
-    let n = code.len();
+    let n = leaders.len();
     if n == 0 {
         return;
     }
-    let mut st = begin(memory, n, types.len());
+    let mut st = begin(&mut memory[n..], n, types.len());
     let mut p = 0;
     while p < n {
-        let w = code[p];
+        let w = memory[p];
         let leader = leaders[p];
-        let r = turn(memory, types, constants, n, st, leader, w, p as u32);
-        code[p] = r.word;
+        let r = turn(
+            &mut memory[n..],
+            types,
+            constants,
+            n,
+            st,
+            leader,
+            w,
+            p as u32,
+        );
+        memory[p] = r.word;
         st = r.state;
         p += 1;
     }

@@ -6,3 +6,4 @@ pub mod Word
 pub mod Bits
 pub mod Lists
 pub mod Tabulate
+pub mod Keys

@@ -9,8 +9,10 @@ use native.Mathlib.Nat.{add-assoc}
 use native.Mathlib.Numerals.{add-one}
 use native.Mathlib.Omega.{arith}
 use lib.ListN.{length, take, drop, getD, set, length-append, length-drop, length-map, List·getD-append}
-use lib.Seq.{drop-cons, set-at, set-split, take-suc, take-add, drop-drop, take-at, drop-at, getD-take, getD-drop, length-take-le, getD-append-add}
-use borrow.Rule.Slice.PartMut.{putMid, midOf, postOf, same-len-mid}
+use lib.Seq.{drop-cons, set-at, set-split, take-suc, take-add, take-take, drop-drop, take-at, drop-at, getD-take, getD-drop, length-take-le, getD-append-add, take-append-le, take-set-le, take-set-lt, drop-set-lt, drop-set-add}
+use borrow.Rule.Slice.PartMut.{putMid, midOf, postOf, same-len-mid, put-same}
+use Rattle.words.specs.Lists.{tabulate, length-tabulate}
+use Rattle.words.specs.Tabulate.{tabulate-more}
 
 module _ {X : Type 0} (xs : List X) where
   -- a region has as many elements as it says
@@ -33,6 +35,16 @@ module _ {X : Type 0} (xs : List X) where
   put-one a v h =
       let room : a < length xs = omega arith in
       rw (set-split xs a v room, drop-drop 1 a xs, add-one a)
+
+  -- an element written in a region, before it and after it
+  pub mid-set : (b k i : ℕ) (v : X) → i < k → midOf b k (set xs (b + i) v) ≡ set (midOf b k xs) i v
+  mid-set b k i v h = ap (take k) (drop-set-add b xs i v) ∙ take-set-lt k (drop b xs) i v h
+
+  pub mid-set-before : (b k j : ℕ) (v : X) → j < b → midOf b k (set xs j v) ≡ midOf b k xs
+  mid-set-before b k j v h = ap (take k) (drop-set-lt b xs j v h)
+
+  pub mid-set-after : (b k i : ℕ) (v : X) → k ≤ i → midOf b k (set xs (b + i) v) ≡ midOf b k xs
+  mid-set-after b k i v h = ap (take k) (drop-set-add b xs i v) ∙ take-set-le k (drop b xs) i v h
 
   -- an element of a region
   pub get-mid : (b k i : ℕ) (d : X) → i < k → getD (midOf b k xs) i d ≡ getD xs (b + i) d
@@ -82,6 +94,56 @@ module _ {X : Type 0} (xs : List X) where
         let split : putMid a k xs ys ≡ (take a xs ++ ys) ++ postOf a k xs = sym (append-assoc (take a xs) ys (postOf a k xs)) in
         rw (split, take-at (take a xs ++ ys) (postOf a k xs) (a + k) long, drop-at (take a xs ++ ys) (postOf a k xs) (a + k) long, drop-drop j k (drop a xs))
         (simp append-assoc)
+
+-- ---- what lies outside a region is as it was
+
+module _ {X : Type 0} where
+  pub record Outside (a k : ℕ) (xs w : List X) : Type 0 where
+    pub before : take a w ≡ take a xs
+    pub after : drop (a + k) w ≡ drop (a + k) xs
+
+  module _ (a k : ℕ) where
+    pub outside-same : (xs : List X) → Outside a k xs xs
+    outside-same xs = record { before = refl; after = refl }
+
+    pub outside-then : {xs w u : List X} → Outside a k xs w → Outside a k w u → Outside a k xs u
+    outside-then o p = record { before = p .before ∙ o .before; after = p .after ∙ o .after }
+
+    module _ {xs w : List X} (o : Outside a k xs w) where
+      pub outside-put : w ≡ putMid a k xs (midOf a k w)
+      outside-put = sym (put-same a k w) ∙ rw (o .before, drop-drop k a w, drop-drop k a xs, o .after)
+
+      -- an element written in the region, and a region in it
+      pub outside-set : (i : ℕ) (v : X) → a ≤ i → i < a + k → Outside a k xs (set w i v)
+      outside-set i v h g = record { before = take-set-le a w i v h ∙ o .before; after = drop-set-lt (a + k) w i v g ∙ o .after }
+
+      pub outside-part : (b j c : ℕ) (ys : List X) → a ≤ b → b + j + c ≡ a + k → length ys ≡ j → b + j ≤ length w → Outside a k xs (putMid b j w ys)
+      outside-part b j c ys h g e l =
+          let head : length (take b w) ≡ b = length-take-le b w (omega arith) in
+          let long : length (take b w ++ ys) ≡ b + j = simp (length-append, head, e) in
+          let split : putMid b j w ys ≡ (take b w ++ ys) ++ postOf b j w = sym (append-assoc (take b w) ys (postOf b j w)) in
+          let past : drop (b + j) (putMid b j w ys) ≡ drop (b + j) w = ap (drop (b + j)) split ∙ drop-at (take b w ++ ys) (postOf b j w) (b + j) long ∙ drop-drop j b w in
+          let fits : a ≤ length (take b w) = rw head h in
+          record {
+            before = take-append-le a (take b w) (ys ++ postOf b j w) fits ∙ take-take a b w h ∙ o .before;
+            after =
+                rw (← g)
+                (sym (drop-drop c (b + j) (putMid b j w ys)) ∙ ap (drop c) past ∙ drop-drop c (b + j) w ∙ (rw (← g) at (o .after)));
+          }
+
+      -- the regions before and after it
+      pub outside-front : (j : ℕ) → j ≤ a → midOf 0 j w ≡ midOf 0 j xs
+      outside-front j h = sym (take-take j a w h) ∙ ap (take j) (o .before) ∙ take-take j a xs h
+
+      pub outside-back : (c j : ℕ) → midOf (a + k + c) j w ≡ midOf (a + k + c) j xs
+      outside-back c j = ap (take j) (sym (drop-drop c (a + k) w) ∙ ap (drop c) (o .after) ∙ drop-drop c (a + k) xs)
+
+-- a turn of a loop that stores the values of f from a on
+pub tabulate-turn : (f : ℕ → ℕ) (xs w : List ℕ) (a k v : ℕ) → w ≡ putMid a k xs (tabulate k f) → v ≡ f k → a + k < length xs
+    → set w (a + k) v ≡ putMid a (k + 1) xs (tabulate (k + 1) f)
+tabulate-turn f xs w a k v e r room =
+    let fits : a + k ≤ length xs = omega arith in
+    rw (e, r, tabulate-more f k) (put-more xs a k (tabulate k f) (length-tabulate k f) fits (f k) room)
 
 -- a turn of a loop that maps the region at b, which lies before it, to the region at a
 pub map-turn : (f : ℕ → ℕ) (xs w : List ℕ) (a b k v : ℕ) → w ≡ putMid a k xs (map f (midOf b k xs)) → v ≡ f (getD w (b + k) 0)

@@ -4,7 +4,7 @@ use native.Mathlib.Omega.{arith}
 use Rattle.words.specs.Word.{halves}
 use Rattle.effects.specs.Shape.{rangeOf, applies, value}
 use Rattle.effects.specs.Form.{formAt, forms}
-use Rattle.effects.proofs.Keys.{past, only}
+use Rattle.words.specs.Keys.{past, only}
 use borrow.Author.Needs.{needs}
 use Rattle.effects.proofs.form.layout_range.Statement.{statement}
 use Rattle.effects.proofs.form.layout_range.Tie as tie

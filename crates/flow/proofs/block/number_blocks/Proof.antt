@@ -1,68 +1,74 @@
-use mathlib.Core.Path.{sym, _∙_}
-use Prim.Native.Nat.{_+_, _-_, _≤_}
+use mathlib.Core.Path.{_∙_}
+use Prim.Native.Nat.{_+_, _*_, _-_, _≤_}
 use native.Mathlib.Omega.{arith}
-use lib.ListN.{length, getD, length-set}
-use Rattle.flow.proofs.Numbering.{Numbering, numbering-begin, few, some, numbering-turn, numbering-end}
+use lib.ListN.{getD, set, length-set}
+use Rattle.flow.proofs.Numbering.{Buffered, buffered-begin, buffered-few, buffered-flag, buffered-some, buffered-turn, buffered-end}
 use borrow.Author.Needs.{needs}
 use Rattle.flow.proofs.block.number_blocks.Statement.{statement}
 use Rattle.flow.proofs.block.number_blocks.Tie as tie
 
 abbrev Inv-loop : tie.InvT-loop
-Inv-loop leaders blocks₀ starts₀ n count₀ p₀ blocks starts count p = Numbering leaders blocks starts₀ starts p count
+Inv-loop work₀ n count₀ p₀ work count p = Buffered work₀ n work p count
 
 abbrev μ-loop : tie.MeasureT-loop
-μ-loop leaders blocks₀ starts₀ n count₀ p₀ blocks starts count p = length leaders - p
+μ-loop work₀ n count₀ p₀ work count p = n - p
 
-small : (h : tie.At-loop Inv-loop μ-loop) → h .loop .count ≤ h .loop .p
-small h = few _ (h .before .pre .0) _ _ _ _ _ (h .loop .inv)
+small : (h : tie.At-loop Inv-loop μ-loop) → (h .loop .count ≤ h .loop .p) × (h .loop .p ≤ h .before .args .n)
+small h = buffered-few _ _ (h .before .pre .0) (h .before .pre .3) _ _ _ (h .loop .inv)
 
-more : (c : tie.In-loop Inv-loop μ-loop) → 1 ≤ c .before .loop .count + getD (c .before .before .args .leaders .now) (c .before .loop .p) 0
-more c = some _ (c .before .before .pre .0) _ _ _ _ _ (c .before .loop .inv) (c .loop-test .taken) (c .before .before .pre .1)
+-- the flag that is read, after a store beyond it
+flag : (c : tie.In-loop Inv-loop μ-loop) → getD (set (c .before .loop .work) (2 * c .before .before .args .n + c .before .loop .count) (c .before .loop .p)) (c .before .loop .p) 0 ≤ 1
+flag c =
+    let h = c .before in
+    rw (buffered-flag _ _ (h .before .pre .0) (h .before .pre .3) _ _ _ (h .loop .inv) (c .loop-test .taken)) (h .before .pre .0 (h .loop .p))
 
 loop-holds : tie.Need-loop-holds Inv-loop μ-loop
-loop-holds c = numbering-begin (c .args .leaders .now) (c .pre .0) (c .args .blocks .now) (c .args .starts .now) (omega arith)
+loop-holds c = buffered-begin _ _ (c .pre .0) (c .pre .3)
 
-mul-starts : tie.Need-mul-starts Inv-loop μ-loop
-mul-starts c = omega (arith, small (c .before))
+add-work : tie.Need-add-work Inv-loop μ-loop
+add-work c = omega (arith, small (c .before))
 
-slice-write-starts : tie.Need-slice-write-starts Inv-loop μ-loop
-slice-write-starts c = omega (arith, small (c .before))
+mul-work-2 : tie.Need-mul-work-2 Inv-loop μ-loop
+mul-work-2 c = omega (arith, small (c .before))
+
+slice-write-work : tie.Need-slice-write-work Inv-loop μ-loop
+slice-write-work c = omega (arith, small (c .before), c .before .loop .inv .long)
+
+slice-read-count : tie.Need-slice-read-count Inv-loop μ-loop
+slice-read-count c = let h = c .before .before in omega (arith, h .loop .inv .long, length-set (h .loop .work) (2 * h .before .args .n + h .loop .count) (h .loop .p))
 
 cast-count : tie.Need-cast-count Inv-loop μ-loop
-cast-count c = omega (arith, c .before .before .before .pre .0 (c .before .before .loop .p))
+cast-count c = omega (arith, flag (c .before))
 
 add-count : tie.Need-add-count Inv-loop μ-loop
-add-count c = omega (arith, small (c .before .before), c .before .before .before .pre .0 (c .before .before .loop .p))
+add-count c = omega (arith, flag (c .before), small (c .before .before))
 
-sub-blocks : tie.Need-sub-blocks Inv-loop μ-loop
-sub-blocks c = more (c .before)
+sub-work : tie.Need-sub-work Inv-loop μ-loop
+sub-work c = let h = c .before .before in buffered-some _ _ (h .before .pre .0) (h .before .pre .3) _ _ _ (h .loop .inv) (c .before .loop-test .taken) (h .before .pre .1)
 
-cast-blocks : tie.Need-cast-blocks Inv-loop μ-loop
-cast-blocks c = omega (arith, small (c .before .before), c .before .before .before .pre .0 (c .before .before .loop .p))
+cast-work-2 : tie.Need-cast-work-2 Inv-loop μ-loop
+cast-work-2 c = omega (arith, flag (c .before), small (c .before .before))
 
-slice-write-blocks : tie.Need-slice-write-blocks Inv-loop μ-loop
-slice-write-blocks c = omega arith
+slice-write-work-2 : tie.Need-slice-write-work-2 Inv-loop μ-loop
+slice-write-work-2 c = let h = c .before .before in omega (arith, h .loop .inv .long, length-set (h .loop .work) (2 * h .before .args .n + h .loop .count) (h .loop .p))
 
 loop-again : tie.Need-loop-again Inv-loop μ-loop
-loop-again c = numbering-turn _ (c .before .before .before .pre .0) _ _ _ _ _ (c .before .before .loop .inv) (omega arith) (omega arith)
+loop-again c = let h = c .before .before in buffered-turn _ _ (h .before .pre .0) (h .before .pre .3) _ _ _ (h .loop .inv) (c .before .loop-test .taken)
 
-cast-starts-2 : tie.Need-cast-starts-2 Inv-loop μ-loop
-cast-starts-2 c = omega arith
+add-work-3 : tie.Need-add-work-3 Inv-loop μ-loop
+add-work-3 c = omega (arith, small (c .before))
 
-mul-starts-2 : tie.Need-mul-starts-2 Inv-loop μ-loop
-mul-starts-2 c = omega (arith, small (c .before))
+mul-work-5 : tie.Need-mul-work-5 Inv-loop μ-loop
+mul-work-5 c = omega (arith, small (c .before))
 
-slice-write-starts-2 : tie.Need-slice-write-starts-2 Inv-loop μ-loop
-slice-write-starts-2 c = omega (arith, small (c .before))
+slice-write-work-3 : tie.Need-slice-write-work-3 Inv-loop μ-loop
+slice-write-work-3 c = omega (arith, small (c .before), c .before .loop .inv .long)
 
 same-length : tie.Need-same-length Inv-loop μ-loop
-same-length c = c .before .loop .inv .blocks-long ∙ sym (c .before .before .pre .3)
-
-same-length-2 : tie.Need-same-length-2 Inv-loop μ-loop
-same-length-2 c = length-set (c .before .loop .starts) (c .before .loop .count) _ ∙ c .before .loop .inv .starts-long
+same-length c = length-set (c .before .loop .work) _ _ ∙ c .before .loop .inv .long
 
 returns : tie.Need-returns Inv-loop μ-loop
-returns c = numbering-end _ (c .before .before .pre .0) _ _ _ _ _ (c .before .loop .inv) (omega arith) (omega arith)
+returns c = let h = c .before in buffered-end _ _ (h .before .pre .0) (h .before .pre .3) _ _ _ (h .loop .inv) (c .loop-test .left)
 
 pub number-blocks-spec : {M : Type 1} → statement M
 number-blocks-spec =
@@ -72,22 +78,26 @@ number-blocks-spec =
     μ-loop
     loop-holds
     (λ c. search needs)
-    mul-starts
-    slice-write-starts
     (λ c. search needs)
+    add-work
+    mul-work-2
+    slice-write-work
     (λ c. search needs)
+    slice-read-count
     cast-count
     add-count
-    sub-blocks
-    cast-blocks
+    sub-work
+    cast-work-2
     (λ c. search needs)
-    slice-write-blocks
+    (λ c. search needs)
+    slice-write-work-2
     (λ c. search needs)
     (λ c. search needs)
     loop-again
-    cast-starts-2
-    mul-starts-2
-    slice-write-starts-2
+    (λ c. search needs)
+    (λ c. search needs)
+    add-work-3
+    mul-work-5
+    slice-write-work-3
     same-length
-    same-length-2
     returns)
