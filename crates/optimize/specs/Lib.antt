@@ -1,9 +1,7 @@
-pub mod Only
 pub mod Parts
 pub mod Jumping
 pub mod Kept
 pub mod Whole
-pub mod Droppable
 pub mod Steps
 pub mod Numbered
 pub mod Chain

@@ -19,12 +19,13 @@ use Rattle.values.specs.Number.{numberCode}
 use Rattle.flow.specs.Block.{leaders}
 use Rattle.flow.specs.BranchLaws.{BranchesInside}
 use Rattle.flow.specs.Loop.{reachedPlaces, loopCheck}
+use Rattle.values.specs.Walk as walk
 use Rattle.values.specs.Walk.{Named, sectionsOf}
 use Rattle.pc_map.specs.Boundaries.{Mapped}
 use Rattle.optimize.specs.Parts.{numberedCode, reachedMarks, wordsOf}
 use Rattle.answer.specs.Pass.{removal}
 use Rattle.optimize.specs.Parts.{cellsIn}
-use Rattle.optimize.specs.Only.{At, Only, only-put, same-mid, mid-mid}
+use Rattle.liveness.specs.Only.{At, Only, only-put, same-mid, mid-mid}
 use Rattle.optimize.specs.Kept.{keepAt}
 
 -- the code is numbered
@@ -114,12 +115,9 @@ module _ (n k s : ℕ) (work32 work64 leads : List ℕ) (e : k ≡ n) (size : le
   front : take k (leads ++ postOf 0 k work32) ≡ leads
   front = take-at leads (postOf 0 k work32) k size
 
-  pub number-asks : (length (take k (leads ++ postOf 0 k work32)) ≤ 65536)
-      × (s ≤ 65536)
-      × (24 * length (take k (leads ++ postOf 0 k work32)) + 4 * s ≤ length work64)
-      × ((p : ℕ) → p < length (take k (leads ++ postOf 0 k work32))
-      → Named (class (ofWord (getD (midOf 0 (length (take k (leads ++ postOf 0 k work32))) work64) p 0))) s (ofWord (getD (midOf 0 (length (take k (leads ++ postOf 0 k work32))) work64) p 0)))
-  number-asks = rw (front, size, e) (d .few, omega (arith, d .slots), d .long64, d .named)
+  pub number-asks : (types : List ℕ) → length types ≡ s
+      → walk.Numberable (midOf 0 (length (take k (leads ++ postOf 0 k work32))) work64) (take k (leads ++ postOf 0 k work32)) types work64
+  number-asks types t = rw (front, size, e) (record { few = rw (size, e) (d .few); locals = rw t (omega (arith, d .slots)); long = rw (size, e, t) (d .long64); named = rw (size, e, t) (d .named) })
 
   pub number-renumbered : (S : Sections) (metadata work64′ : List ℕ) → leads ≡ leaders (cellsBy (midOf 0 k work64) metadata)
       → midOf 0 (length (take k (leads ++ postOf 0 k work32))) work64′ ≡ wordsOf (numberCode S (take k (leads ++ postOf 0 k work32)) (cellsBy (midOf 0 (length (take k (leads ++ postOf 0 k work32))) work64) metadata))

@@ -4,7 +4,6 @@ mod jump;
 pub mod parts;
 pub mod pass;
 mod retain;
-mod stub;
 
 // What a pass answers: unchanged, refused with number and place, or rewritten to so many instructions.
 pub enum Answer {

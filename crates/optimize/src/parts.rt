@@ -19,14 +19,16 @@ ghost use Rattle.optimize.specs.Steps.{Finished, Marks, Reached, Renumbe
 use crate::Answer;
 use crate::code;
 use crate::retain;
-use crate::stub;
+
 use effects::Check;
 use effects::operands;
 use flow::block;
 use flow::branch;
 use flow::hint;
+use flow::reach;
 use pc_map::relocation;
 use pc_map::retained;
+use values::walk;
 
 // "unchanged: same code, all kept", refusal 10, or rewritten.
 fn conclude(
@@ -98,7 +100,7 @@ fn reach(metadata: &[u8], work32: &mut [u32], words: &[u64], n: usize) -> Check
     ensures { λ r. ⌜ Reached n (now (metadata .entry)) (now (words .entry)) (now (work32 .entry)) (now (work32 .exit)) r ⌝ }
 {
     let at = 3 * n + 1;
-    stub::mark_reached(words, metadata, &mut work32[at..]);
+    reach::mark_reached(words, metadata, &mut work32[at..]);
     hint::check_loops(words, metadata, &work32[at..at + n])
 }
 
@@ -131,7 +133,7 @@ fn number(types: &[u8], constants: &[u8], work32: &mut [u32], work64: &mut [u64]
     ensures { λ _. ⌜ ((metadata : List ℕ) (locals : ℕ) (tables : Tables) → Renumbered (sectionsOf (now (types .entry)) (now (constants .entry)) locals tables) (cellsBy (midOf 0 n (now (work64 .entry))) metadata) n (now (work32 .exit)) (now (work64 .exit))) ⌝ }
 {
     block::mark_leaders(&work64[0..n], &mut work32[0..n]);
-    stub::number_code(work64, &work32[0..n], types, constants);
+    walk::number_code(work64, &work32[0..n], types, constants);
 }
 
 // From refusal 8 on: the code is loaded.

@@ -11,7 +11,9 @@ ghost use Rattle.effects.specs.Shape.{tablesOf};
 ghost use Rattle.optimize.specs.Kept.{Retainable, Retains, Useful, Stored, keepAt};
 use crate::code;
 use crate::jump;
-use crate::stub;
+use flow::block;
+use flow::hint;
+use liveness::stores;
 
 // The loop ends, of the reached places; then plain hints are not kept. The work is that from the kept places on.
 fn drop_hints(words: &[u64], metadata: &[u8], work: &mut [u32])
@@ -19,7 +21,7 @@ fn drop_hints(words: &[u64], metadata: &[u8], work: &mut [u32])
     ensures { λ _. ⌜ Useful (now (words .entry)) (now (metadata .entry)) (now (work .entry)) (now (work .exit)) ⌝ }
 {
     let n = words.len();
-    stub::mark_anchors(words, metadata, work, 2 * n + 1);
+    hint::mark_anchors(words, metadata, work, 2 * n + 1);
     code::drop_hints(words, &mut work[0..n]);
 }
 
@@ -38,8 +40,8 @@ fn drop_stores(
     ensures { λ _. ⌜ ((constants : List ℕ) → Stored n (now (metadata .entry)) (now (types .entry)) constants (now (functions .entry)) (now (externs .entry)) (now (cases .entry)) (now (work32 .entry)) (now (work64 .entry)) (now (work32 .exit)) (now (work64 .exit))) ⌝ }
 {
     let at = 3 * n + 1;
-    let count = stub::number_blocks(&mut work32[0..at], n);
-    stub::drop_dead_stores(
+    let count = block::number_blocks(&mut work32[0..at], n);
+    stores::drop_dead_stores(
         work64,
         &mut work32[0..at + n],
         metadata,
