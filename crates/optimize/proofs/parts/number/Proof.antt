@@ -1,3 +1,4 @@
+use mathlib.Core.Path.{refl}
 use mathlib.Core.Path.{_∙_}
 use Rattle.words.specs.Regions.{mid-long}
 use Prim.Native.Nat.{_-_}
@@ -10,7 +11,6 @@ use Rattle.optimize.proofs.parts.number.Tie as tie
 use Rattle.optimize.proofs.parts.number.Reads as reads
 use Rattle.optimize.proofs.parts.number.Lts as lts
 use Rattle.flow.proofs.block.mark_leaders.Reads as mark-leaders-reads
-use Rattle.optimize.proofs.stub.number_code.Reads as number-code-reads
 
 -- src/parts.rt:133:25
 sub-mark-leaders : tie.Need-sub-mark-leaders
@@ -54,7 +54,9 @@ part-number-code-end c = search needs
 
 -- src/parts.rt:134:5
 number-code-requires : tie.Need-number-code-requires
-number-code-requires c κs = let s = c .before .before .before .before .before .before .before .before .before .before .before .before .before in number-asks (s .args .n) (s .args .n - 0) (length (s .args .types .now)) (s .args .work32 .now) (s .args .work64 .now) (c .before .before .before .before .before .mark-leaders .last .1 .0) (omega arith) (c .before .before .before .before .before .mark-leaders .kept .1 .0 ∙ mid-long (s .args .work32 .now) 0 (s .args .n - 0) (omega (arith, s .pre .long32))) (s .pre)
+number-code-requires c κs = 
+    let s = c .before .before .before .before .before .before .before .before .before .before .before .before .before in
+    number-asks (s .args .n) (s .args .n - 0) (length (s .args .types .now)) (s .args .work32 .now) (s .args .work64 .now) (c .before .before .before .before .before .mark-leaders .last .1 .0) (omega arith) (c .before .before .before .before .before .mark-leaders .kept .1 .0 ∙ mid-long (s .args .work32 .now) 0 (s .args .n - 0) (omega (arith, s .pre .long32))) (s .pre) (s .args .types .now) refl
 
 -- src/parts.rt:129:1
 same-length : tie.Need-same-length

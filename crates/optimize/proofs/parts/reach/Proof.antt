@@ -5,7 +5,6 @@ use Rattle.optimize.proofs.parts.reach.Tie as tie
 use Rattle.optimize.proofs.parts.reach.Reads as reads
 use Rattle.optimize.proofs.parts.reach.Lts as lts
 use Rattle.flow.proofs.hint.check_loops.Reads as check-loops-reads
-use Rattle.optimize.proofs.stub.mark_reached.Reads as mark-reached-reads
 
 -- src/parts.rt:100:14
 mul-at : tie.Need-mul-at
@@ -65,7 +64,7 @@ same-length c = search needs
 
 -- src/parts.rt:96:1
 returns : tie.Need-returns
-returns c = let s = c .before .before .before .before .before .before .before .before .before .before in reach-marks (s .args .n) (s .args .metadata .now) (s .args .words .now) (s .args .work32 .now) (c .before .before .before .before .before .mark-reached .last .1 .1 .0) _ (s .pre .4) (s .pre .1) (c .before .before .before .before .before .mark-reached .kept .1 .1 .0) (c .before .before .before .before .before .mark-reached .ensures) (c .check-loops .ensures)
+returns c = let s = c .before .before .before .before .before .before .before .before .before .before in reach-marks (s .args .n) (s .args .metadata .now) (s .args .words .now) (s .args .work32 .now) (c .before .before .before .before .before .mark-reached .last .1 .1 .0) _ (s .pre .4) (s .pre .1) (c .before .before .before .before .before .mark-reached .kept .1 .1 .0) (c .before .before .before .before .before .mark-reached .ensures .0) (c .check-loops .ensures)
 
 pub reach-spec : {M : Type 1} → statement M
 reach-spec =

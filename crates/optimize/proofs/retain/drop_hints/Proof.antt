@@ -4,7 +4,6 @@ use Rattle.optimize.proofs.retain.drop_hints.Tie as tie
 use Rattle.optimize.proofs.retain.drop_hints.Reads as reads
 use Rattle.optimize.proofs.retain.drop_hints.Lts as lts
 use Rattle.optimize.proofs.code.drop_hints.Reads as drop-hints-reads
-use Rattle.optimize.proofs.stub.mark_anchors.Reads as mark-anchors-reads
 
 -- src/retain.rt:22:47
 mul-mark-anchors : tie.Need-mul-mark-anchors

@@ -3,8 +3,6 @@ use Rattle.optimize.proofs.retain.drop_stores.Statement.{statement}
 use Rattle.optimize.proofs.retain.drop_stores.Tie as tie
 use Rattle.optimize.proofs.retain.drop_stores.Reads as reads
 use Rattle.optimize.proofs.retain.drop_stores.Lts as lts
-use Rattle.optimize.proofs.stub.drop_dead_stores.Reads as drop-dead-stores-reads
-use Rattle.optimize.proofs.stub.number_blocks.Reads as number-blocks-reads
 
 -- src/retain.rt:40:14
 mul-at : tie.Need-mul-at
