@@ -2,7 +2,6 @@ use mathlib.Core.Path.{sym}
 use Prim.Native.Nat.{zero-le}
 use Rattle.words.specs.Keys.{past}
 use Rattle.instruction.specs.Class.{classOf, single, class-past}
-use borrow.Author.Needs.{needs}
 use Rattle.instruction.proofs.opcode.class_of.Statement.{statement}
 use Rattle.instruction.proofs.opcode.class_of.Tie as tie
 
