@@ -5,3 +5,5 @@ pub mod Whole
 pub mod Steps
 pub mod Numbered
 pub mod Chain
+pub mod Cleared
+pub mod Loading

@@ -3,7 +3,7 @@ use Rattle.optimize.proofs.jump.drop_jumps.Tie as tie
 use Rattle.optimize.proofs.jump.drop_jumps.Reads as reads
 use Rattle.optimize.proofs.jump.drop_jumps.Lts as lts
 use Rattle.optimize.proofs.jump.round.Reads as round-reads
-use Rattle.optimize.proofs.stub.boundaries.Reads as boundaries-reads
+use Rattle.pc_map.proofs.boundary.boundaries.Reads as boundaries-reads
 
 abbrev Inv-loop : tie.InvT-loop
 Inv-loop words work₀ k₀ work k = ?

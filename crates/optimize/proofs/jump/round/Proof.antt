@@ -4,7 +4,7 @@ use Rattle.optimize.proofs.jump.round.Tie as tie
 use Rattle.optimize.proofs.jump.round.Reads as reads
 use Rattle.optimize.proofs.jump.round.Lts as lts
 use Rattle.optimize.proofs.jump.drop_idle.Reads as drop-idle-reads
-use Rattle.optimize.proofs.stub.boundaries.Reads as boundaries-reads
+use Rattle.pc_map.proofs.boundary.boundaries.Reads as boundaries-reads
 
 -- src/jump.rt:69:5
 boundaries-requires : tie.Need-boundaries-requires
