@@ -7,3 +7,4 @@ pub mod Numbered
 pub mod Chain
 pub mod Cleared
 pub mod Loading
+pub mod Rounding
