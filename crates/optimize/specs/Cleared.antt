@@ -1,6 +1,6 @@
 -- A loop that clears the places which a test names, from 0 up.
 -- Assumes nothing.
-use mathlib.Core.Path.{_≡_, refl, sym, ap, _∙_}
+use mathlib.Core.Path.{_≡_, refl, sym, _∙_}
 use mathlib.Core.Bool.{Bool, true, false, cond}
 use mathlib.Core.List.{List}
 use Prim.Native.Nat.{ℕ, _+_, _≤_, _<_}
@@ -12,7 +12,7 @@ use lib.Seq.{getD-set-same, getD-set-other, ext-getD}
 use borrow.Rule.Slice.PartMut.{midOf}
 use Rattle.words.specs.Lists.{mapFrom, length-mapFrom, getD-mapFrom}
 use Rattle.words.specs.Regions.{mid-long, get-mid}
-use Rattle.effects.specs.Shape.{Cell, cellAt, noCell}
+use Rattle.effects.specs.Shape.{Cell, noCell}
 use Rattle.effects.specs.Cells.{cellOf, cellsBy, cells-long, cell-at}
 use Rattle.liveness.specs.Only.{At, Only}
 

@@ -4,16 +4,15 @@ use mathlib.Core.Path.{_≡_, refl, sym, ap, _∙_}
 use mathlib.Core.Bool.{Bool, true, false, _&&_, false≢true}
 use mathlib.Core.List.{List, [], _∷_}
 use Prim.Native.Nat.{ℕ, _+_, _≤_, _<_}
-use native.Mathlib.Numerals.{add-one}
 use native.Mathlib.Omega.{arith}
 use lib.Dec.{eqb}
 use lib.ListN.{length, getD, take, set, length-set}
 use lib.Seq.{set-getD, take-length}
 use borrow.Author.Tests.{eqb-true, eq-eqb}
 use Rattle.words.specs.Lists.{tabulate, getD-tabulate}
-use Rattle.words.specs.Tabulate.{tabulate-more, tabulated-turn, tabulated-end}
+use Rattle.words.specs.Tabulate.{tabulated-turn, tabulated-end}
 use Rattle.instruction.specs.Instruction.{instructionAt, toWord, ofWord}
-use Rattle.effects.specs.Cells.{cellOf, cellsBy}
+use Rattle.effects.specs.Cells.{cellsBy}
 use Rattle.flow.specs.Loop.{isPlainHint}
 use Rattle.answer.specs.Pass.{usefulPlaces}
 use Rattle.optimize.specs.Parts.{wordsIn, sameWords}

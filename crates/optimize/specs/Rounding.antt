@@ -1,7 +1,7 @@
 -- The loops of the jump rounds: what a round and all of them leave in lent memory.
 -- Assumes nothing.
 use mathlib.Core.Path.{_≡_, refl, sym, ap, _∙_}
-use mathlib.Core.Logic.{_⊎_, inl, inr}
+use mathlib.Core.Logic.{inl, inr}
 use mathlib.Core.Bool.{Bool, true, false, cond, _&&_, not}
 use mathlib.Core.List.{List, [], _++_}
 use Prim.Native.Nat.{ℕ, zero, suc, _+_, _*_, _-_, _≤_, _<_}
@@ -206,9 +206,6 @@ pub rounding-begin : (words work : List ℕ) → Flags (midOf 0 (length words) w
 rounding-begin words work f = record { only = only-none _ work; flags = f; answer = λ metadata. refl }
 
 module _ (words work₀ work : List ℕ) (k : ℕ) (r : Rounds words (length work₀)) (d : Rounding words work₀ work k) where
-  abbrev n : ℕ
-  n = length words
-
   abbrev keep : List ℕ
   keep = midOf 0 (length words) work
 

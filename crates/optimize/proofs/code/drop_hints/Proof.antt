@@ -23,13 +23,14 @@ slice-write-keep : tie.Need-slice-write-keep Inv-loop μ-loop
 slice-write-keep c = omega (arith, c .before .before .before .before .before .loop .inv .1 .long)
 
 loop-again : tie.Need-loop-again Inv-loop μ-loop
-loop-again c = let h = c .before .before .before .before .before in (
-  omega (arith, c .before .before .before .before .loop-test .taken),
-  ⊎-elim
-      (λ w. rw (w .1) (cleared-on _ _ _ _ (h .loop .inv .1) (omega (arith, h .before .before .before .pre)) (sym (c .before .is-plain-hint .ensures ∙ ap isPlainHint (c .before .before .from-word .ensures)) ∙ w .0 .taken)))
-      (λ w. rw (w .1) (cleared-off _ _ _ _ (h .loop .inv .1) (sym (c .before .is-plain-hint .ensures ∙ ap isPlainHint (c .before .before .from-word .ensures)) ∙ w .0 .left)))
-      (c .if1 .came),
-)
+loop-again c = let h = c .before .before .before .before .before in
+    let hint : c .before .is-plain-hint .result ≡ hintAt (h .before .before .before .args .words .now) (h .loop .p) = c .before .is-plain-hint .ensures ∙ ap isPlainHint (c .before .before .from-word .ensures) in (
+      omega (arith, c .before .before .before .before .loop-test .taken),
+      ⊎-elim
+          (λ w. rw (w .1) (cleared-on _ _ _ _ (h .loop .inv .1) (omega (arith, h .before .before .before .pre)) (sym hint ∙ w .0 .taken)))
+          (λ w. rw (w .1) (cleared-off _ _ _ _ (h .loop .inv .1) (sym hint ∙ w .0 .left)))
+          (c .if1 .came),
+    )
 
 same-length : tie.Need-same-length Inv-loop μ-loop
 same-length c = c .before .loop .inv .1 .long

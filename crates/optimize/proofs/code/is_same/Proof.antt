@@ -1,8 +1,7 @@
 use mathlib.Core.Path.{_≡_, _∙_, sym, ap, refl}
 use Prim.Native.Nat.{_-_}
-use native.Mathlib.Omega.{arith}
 use lib.ListN.{length}
-use Rattle.instruction.specs.Instruction.{toWord}
+use Rattle.instruction.specs.Instruction.{instructionAt, toWord}
 use Rattle.optimize.specs.Loading.{Loaded, loaded-none, loaded-next, loaded-all, same-yes, same-no}
 use borrow.Author.Needs.{needs}
 use Rattle.optimize.proofs.code.is_same.Statement.{statement}
@@ -17,13 +16,17 @@ abbrev μ-loop : tie.MeasureT-loop
 loop-holds : tie.Need-loop-holds Inv-loop μ-loop
 loop-holds c = loaded-none _ _
 
+-- the word that was read
+word : (c : tie.After-word Inv-loop μ-loop) → c .word .result ≡ toWord (instructionAt (c .before .before .before .before .before .before .args .code .now) (c .before .before .before .loop .p))
+word c = c .word .ensures ∙ ap toWord (c .before .read .ensures)
+
 returns : tie.Need-returns Inv-loop μ-loop
 returns c = let h = c .before .before .before .before .before in
-    same-no _ (h .before .before .before .args .words .now) _ (c .before .before .before .before .loop-test .taken) (λ e. c .if1 .taken ((c .before .before .word .ensures ∙ ap toWord (c .before .before .before .read .ensures)) ∙ e))
+    same-no _ (h .before .before .before .args .words .now) _ (c .before .before .before .before .loop-test .taken) (λ e. c .if1 .taken (word (c .before .before) ∙ e))
 
 loop-again : tie.Need-loop-again Inv-loop μ-loop
 loop-again c = let h = c .before .before .before .before .before in
-    loaded-next _ _ _ (h .loop .inv) (c .before .before .before .before .loop-test .taken) (sym ((c .before .before .word .ensures ∙ ap toWord (c .before .before .before .read .ensures))) ∙ c .if1 .left)
+    loaded-next _ _ _ (h .loop .inv) (c .before .before .before .before .loop-test .taken) (sym (word (c .before .before)) ∙ c .if1 .left)
 
 returns-2 : tie.Need-returns-2 Inv-loop μ-loop
 returns-2 c = same-yes _ _ (loaded-all _ _ _ (c .before .loop .inv) _ refl (c .loop-test .left))

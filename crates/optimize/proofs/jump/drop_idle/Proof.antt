@@ -1,11 +1,10 @@
-use mathlib.Core.Path.{_≡_, refl, _∙_, sym, ap}
+use mathlib.Core.Path.{_≡_, refl, _∙_, sym}
 use mathlib.Core.Logic.{⊎-elim}
 use mathlib.Core.Bool.{false, true≢false}
 use Prim.Native.Nat.{_-_, _≤_}
 use native.Mathlib.Omega.{arith}
 use lib.ListN.{length}
 use Rattle.optimize.specs.Cleared.{Cleared, cleared-none, cleared-on, cleared-off}
-use Rattle.optimize.specs.Jumping.{Rounds}
 use Rattle.optimize.specs.Rounding.{idleAt, idle-left, idle-dropped}
 use borrow.Author.Needs.{needs}
 use Rattle.optimize.proofs.jump.drop_idle.Statement.{statement}

@@ -1,7 +1,6 @@
-use mathlib.Core.Path.{_≡_, _∙_}
+use mathlib.Core.Path.{_∙_}
 use native.Mathlib.Omega.{arith}
 use borrow.Author.Tests.{not-true}
-use lib.ListN.{length}
 use Rattle.optimize.specs.Rounding.{Rounding, rounding-begin, rounding-asks, rounding-turn, rounding-last, rounding-end}
 use borrow.Author.Needs.{needs}
 use Rattle.optimize.proofs.jump.drop_jumps.Statement.{statement}

@@ -1,4 +1,3 @@
-use mathlib.Core.Path.{_≡_, _∙_}
 use Rattle.optimize.specs.Rounding.{round-asks, round-does}
 use borrow.Author.Needs.{needs}
 use Rattle.optimize.proofs.jump.round.Statement.{statement}
