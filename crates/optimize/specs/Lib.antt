@@ -7,3 +7,6 @@ pub mod Numbered
 pub mod Chain
 pub mod Concluded
 pub mod Retained
+pub mod Cleared
+pub mod Loading
+pub mod Rounding
