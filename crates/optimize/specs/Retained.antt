@@ -232,6 +232,35 @@ module _ (T : Tables) (n : ℕ) (words metadata types work32 : List ℕ) (room64
             code = still;
           }
 
+-- the same, with the parts' lengths as the code has them
+module _ (T : Tables) (n k j : ℕ) (words metadata types work32 : List ℕ) (room64 : ℕ) (e : k ≡ keepAt n) (f : j ≡ keepAt n + n)
+    (d : Retainable T n words metadata types (midOf 0 n work32) (midOf (keepAt n) n work32) (length work32) room64) (long : length words ≡ n)
+    (count : ℕ) (blocked : List ℕ) (size : length blocked ≡ length (midOf 0 k work32))
+    (b : Numbered (midOf 0 n (midOf 0 k work32)) (midOf n n blocked) (midOf (2 * n) (n + 1) (midOf 0 k work32)) (midOf (2 * n) (n + 1) blocked) count)
+    (o : blocked ≡ putMid n (2 * n + 1) (midOf 0 k work32) (midOf n (2 * n + 1) blocked)) where
+  size′ : length blocked ≡ keepAt n
+  size′ = rw e at size ∙ front-long T n words metadata types work32 room64 d long
+
+  b′ : Numbered (midOf 0 n (midOf 0 (keepAt n) work32)) (midOf n n blocked) (midOf (2 * n) (n + 1) (midOf 0 (keepAt n) work32)) (midOf (2 * n) (n + 1) blocked) count
+  b′ = rw e at b
+
+  o′ : blocked ≡ putMid n (2 * n + 1) (midOf 0 (keepAt n) work32) (midOf n (2 * n + 1) blocked)
+  o′ = rw e at o
+
+  pub stores-asks : Droppable T n count words metadata types (midOf 0 n (midOf 0 j (putMid 0 k work32 blocked))) (midOf n n (midOf 0 j (putMid 0 k work32 blocked)))
+      (midOf (2 * n) (n + 1) (midOf 0 j (putMid 0 k work32 blocked))) (midOf (3 * n + 1) n (midOf 0 j (putMid 0 k work32 blocked)))
+      × (work64Room n (length types) ≤ room64)
+      × (4 * n + 1 ≤ length (midOf 0 j (putMid 0 k work32 blocked)))
+  stores-asks = rw (e, f) (stores-known T n words metadata types work32 room64 d long count blocked size′ b′ o′, d .long64, stores-room T n words metadata types work32 room64 d long count blocked size′ b′ o′)
+
+  pub stores-leave : (work64 work64′ stored constants functions externs cases : List ℕ) → words ≡ midOf 0 n work64 → T ≡ tablesOf functions externs cases
+      → stored
+      ≡ putMid (3 * n + 1) n (midOf 0 j (putMid 0 k work32 blocked))
+      (deadStores (sectionsIn types constants functions externs cases) (midOf 0 n (midOf 0 j (putMid 0 k work32 blocked))) (midOf (3 * n + 1) n (midOf 0 j (putMid 0 k work32 blocked))) (cellsBy words metadata))
+      → midOf 0 n work64′ ≡ midOf 0 n work64 → Stored n metadata types constants functions externs cases work32 work64 (putMid 0 j (putMid 0 k work32 blocked) stored) work64′
+  stores-leave work64 work64′ stored constants functions externs cases w t kept still =
+      rw (e, f) (stores-stored T n words metadata types work32 room64 d long count blocked size′ b′ o′ work64 work64′ stored constants functions externs cases w t (rw (e, f) at kept) still)
+
 -- ---- all three
 module _ (n : ℕ) (metadata types constants functions externs cases work32 work64 : List ℕ)
     (d : Retainable (tablesOf functions externs cases) n (midOf 0 n work64) metadata types (midOf 0 n work32) (midOf (keepAt n) n work32) (length work32) (length work64)) where
