@@ -1,6 +1,10 @@
 //! The sizes of the lent buffers, for a function of n instructions and s local slots.
 
 use crate::result::{Retained, RESULT_HEADER_LEN};
+use std::ops::RangeInclusive;
+
+/// The numbers of instructions that are worked on: "unchanged: n under 2, above 65,536, or defer".
+pub const WORKED_ON: RangeInclusive<u32> = 2..=65_536;
 
 /// Dead stores are skipped "when w × blocks exceeds 2,097,152".
 pub const MAX_LIVENESS_WORDS: u64 = 2_097_152;

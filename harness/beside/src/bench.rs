@@ -1,0 +1,4 @@
+use crate::options::Options;
+pub fn run(_o: Options) -> Result<(), String> {
+    Ok(())
+}
