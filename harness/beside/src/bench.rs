@@ -1,4 +1,85 @@
+//! `beside bench`: one pass, ours beside the reference, in nanoseconds an instruction.
+//!
+//! Ours is the whole call over a unit: the layout's check, the work, the result, the zeroing of what was lent. The
+//! reference starts from a module already built, and copying that module for each run is not timed.
+
+use crate::chart::{self, Curve, Panel};
 use crate::options::Options;
-pub fn run(_o: Options) -> Result<(), String> {
-    Ok(())
+use generate::{Shape, SHAPES};
+use lampruda::Workspace;
+use reference::Prepared;
+use std::fs;
+use std::hint::black_box;
+use std::time::{Duration, Instant};
+use unit::Unit;
+
+const LENGTHS: [usize; 5] = [20, 200, 2_000, 9_700, 65_536];
+
+/// A sample runs so many instructions at least, so that the clock counts for little.
+const SAMPLE: usize = 20_000;
+
+/// Samples are taken for so long, between the least and the most of them.
+const PATIENCE: Duration = Duration::from_millis(600);
+const SAMPLES: std::ops::RangeInclusive<usize> = 3..=15;
+
+pub fn run(mut options: Options) -> Result<(), String> {
+    let seed = options.number("seed", 1)?;
+    let longest = options.number("longest", 65_536)? as usize;
+    let svg = options.text("svg");
+    options.done()?;
+    println!("seed {seed}; one pass, nanoseconds an instruction, the least of {SAMPLES:?} samples");
+    println!("{:<18}{:>13}{:>10}{:>11}{:>8}", "shape", "instructions", "ours", "reference", "ratio");
+    let panels: Vec<Panel> = SHAPES.iter().map(|shape| panel(shape, seed, longest)).collect();
+    match svg {
+        Some(file) => {
+            let title = "One pass: nanoseconds an instruction";
+            let text = chart::svg(title, "instructions", &panels);
+            fs::write(&file, text).map_err(|error| format!("{file}: {error}"))
+        }
+        None => Ok(()),
+    }
+}
+
+/// Times one shape at all lengths.
+fn panel(shape: &Shape, seed: u64, longest: usize) -> Panel {
+    let mut ours = Curve { name: "ours", points: Vec::new() };
+    let mut theirs = Curve { name: "reference", points: Vec::new() };
+    for n in LENGTHS.into_iter().filter(|&n| n <= longest) {
+        let [our_time, their_time] = time(&shape.unit(seed, n), n);
+        println!("{:<18}{n:>13}{our_time:>10.1}{their_time:>11.1}{:>8.2}", shape.name, our_time / their_time);
+        ours.points.push((n as f64, our_time));
+        theirs.points.push((n as f64, their_time));
+    }
+    Panel { name: shape.name, curves: [ours, theirs] }
+}
+
+/// Nanoseconds an instruction of a unit of n, ours and the reference's, sampled in turn.
+fn time(unit: &[u8], n: usize) -> [f64; 2] {
+    let runs = SAMPLE.div_ceil(n);
+    let units = vec![unit.to_vec(); runs];
+    let prepared = Prepared::new(&Unit::check(unit).expect("shapes are units"));
+    let mut workspace = Workspace::default();
+    workspace.pass(unit);
+    let mut samples = [Vec::new(), Vec::new()];
+    let start = Instant::now();
+    while samples[0].len() < *SAMPLES.start()
+        || (samples[0].len() < *SAMPLES.end() && start.elapsed() < PATIENCE)
+    {
+        let begun = Instant::now();
+        for unit in &units {
+            black_box(workspace.pass(black_box(unit)));
+        }
+        samples[0].push(begun.elapsed());
+        let mut copies = vec![prepared.clone(); runs];
+        let begun = Instant::now();
+        for copy in &mut copies {
+            black_box(copy.optimize_function()).expect("shapes are not refused");
+        }
+        samples[1].push(begun.elapsed());
+    }
+    // The least, since whatever else the machine does only adds.
+    samples.map(|samples| {
+        let least = samples.into_iter().min().expect("there are samples");
+        least.as_nanos() as f64 / (runs * n) as f64
+    })
 }
