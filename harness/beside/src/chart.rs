@@ -21,6 +21,8 @@ const TOP: f64 = 34.0;
 const STEP_X: f64 = WIDTH + LEFT + 14.0;
 const STEP_Y: f64 = HEIGHT + TOP + 44.0;
 const HEAD: f64 = 44.0;
+/// Room for the last panel's last number.
+const RIGHT: f64 = 18.0;
 
 /// The first curve is drawn through, the second dashed, so that they part without colour too.
 const STYLE: &str = "
@@ -86,7 +88,7 @@ pub fn svg(title: &str, x_label: &str, panels: &[Panel]) -> String {
     let x = Axis::over(points().map(|point| point.0));
     let y = Axis::over(points().map(|point| point.1));
     let rows = panels.len().div_ceil(PANELS);
-    let (width, height) = (STEP_X * PANELS as f64, HEAD + STEP_Y * rows as f64);
+    let (width, height) = (STEP_X * PANELS as f64 + RIGHT, HEAD + STEP_Y * rows as f64);
     let mut out = format!("<svg xmlns=\"http://www.w3.org/2000/svg\" viewBox=\"0 0 {width} {height}\">\n");
     write!(out, "<title>{title}</title>\n<style>{STYLE}</style>\n").unwrap();
     writeln!(out, "<text class=\"title\" x=\"{LEFT}\" y=\"20\">{title}</text>").unwrap();

@@ -5,8 +5,8 @@ use crate::options::Options;
 use crate::parallel;
 use crate::tally::Tally;
 use generate::{every_damage, every_opcode, named, small_world, Rng, SmallWorld, PROFILES};
-use lampruda::{sys, Lengths};
-use unit::{buffers, hex, Answer, Cleaned, Section, Unit};
+use lampruda::sys;
+use unit::{hex, Answer, Cleaned, Lengths, Unit};
 
 /// How many differences are printed, and how many bytes of a unit.
 const PRINTED: usize = 5;
@@ -111,61 +111,31 @@ fn report(seed: u64, mut compared: Compared, small_world: bool) -> Result<(), St
 
 /// Both calls with buffers of many lengths.
 fn compare_unit(rng: &mut Rng, unit: &[u8], tally: &mut Tally) -> Result<(), String> {
-    let once = Expected::new(unit);
+    let checked = Unit::check(unit);
+    let stated = checked.map(|unit| unit.stated_lengths());
+    let worked_on = checked.is_some_and(|unit| unit.is_worked_on());
     let pass = Cleaned { answer: reference::pass(unit), pass: 1 };
     let clean = reference::clean(unit);
-    for (call, given) in [(Call::Pass, &pass), (Call::Clean, &clean)] {
-        for (way, lengths) in ways(rng, call, once.stated).into_iter().enumerate() {
-            let expected = once.with_lengths(call, lengths, given);
+    let short = Cleaned { answer: Answer::SHORT_BUFFER, pass: 1 };
+    for (call, long) in [(Call::Pass, &pass), (Call::Clean, &clean)] {
+        for (way, lengths) in ways(rng, call, stated).into_iter().enumerate() {
+            let is_short = stated.is_some_and(|stated| !lengths.suffice(&lent_to(call, stated)));
+            let expected = if worked_on && is_short { &short } else { long };
             tally.calls += 1;
-            let refused_2 = matches!(expected.answer, Answer::Refused { number: 2, .. });
-            if way == 0 || refused_2 {
+            if way == 0 || expected.answer == Answer::SHORT_BUFFER {
                 tally.count(call, &expected.answer, expected.pass);
             }
-            compare_call(rng.word(), call, unit, lengths, &expected)
+            compare_call(rng.word(), call, unit, lengths, expected)
                 .map_err(|text| format!("{call:?} with {lengths:?}: {text}"))?;
         }
     }
     Ok(())
 }
 
-/// What the first rows of document 01's table say.
-struct Expected {
-    /// Whether the answer depends on the buffers: it is a unit, and it is worked on.
-    worked_on: bool,
-    /// The lengths stated, where it is a unit.
-    stated: Option<Lengths>,
-}
-
-impl Expected {
-    fn new(unit: &[u8]) -> Self {
-        let Some(unit) = Unit::check(unit) else {
-            return Self { worked_on: false, stated: None };
-        };
-        let header = unit.header();
-        let n = header.count(Section::Code);
-        Self {
-            worked_on: buffers::WORKED_ON.contains(&n) && header.defer == 0,
-            stated: Some(Lengths::stated(n, header.local_slots)),
-        }
-    }
-
-    /// The answer with buffers of these lengths, where it is `given` with long ones: "refused 2: a lent buffer
-    /// shorter than stated" comes after 1 and the first "unchanged", and before the rest.
-    fn with_lengths(&self, call: Call, lengths: Lengths, given: &Cleaned) -> Cleaned {
-        let short = self.stated.is_some_and(|stated| !lengths.suffice(&lent_to(call, stated)));
-        if self.worked_on && short {
-            Cleaned { answer: Answer::Refused { number: 2, place: 0 }, pass: 1 }
-        } else {
-            given.clone()
-        }
-    }
-}
-
-/// One pass is lent no spare memory.
+/// The buffers' lengths that count for this call.
 fn lent_to(call: Call, lengths: Lengths) -> Lengths {
     match call {
-        Call::Pass => Lengths { first: 0, second: 0, ..lengths },
+        Call::Pass => lengths.of_one_pass(),
         Call::Clean => lengths,
     }
 }

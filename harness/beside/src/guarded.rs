@@ -1,6 +1,7 @@
 //! Lent buffers that show every touch: noise inside and around them.
 
-use lampruda::{sys, Lengths, Lent};
+use lampruda::{sys, Lent};
+use unit::Lengths;
 
 /// An element of a buffer.
 pub trait Element: Copy + PartialEq {

@@ -20,8 +20,10 @@ mod lengths;
 mod lent;
 pub mod sys;
 
-pub use lengths::Lengths;
+pub use lengths::needed;
 pub use lent::Lent;
+
+use unit::Lengths;
 
 /// The answer of one pass.
 #[derive(Clone, Copy, Debug, Eq, PartialEq)]
@@ -80,14 +82,13 @@ pub struct Workspace {
 impl Workspace {
     /// One pass over a unit; any bytes will do.
     pub fn pass(&mut self, unit: &[u8]) -> Answer<'_> {
-        let lengths = Lengths { first: 0, second: 0, ..Lengths::of(unit) };
-        let returned = self.lend(lengths).pass(unit);
+        let returned = self.lend(needed(unit).of_one_pass()).pass(unit);
         Answer::new(returned, &self.out)
     }
 
     /// Up to three passes over a unit; any bytes will do.
     pub fn clean(&mut self, unit: &[u8]) -> Cleaned<'_> {
-        let returned = self.lend(Lengths::of(unit)).clean(unit);
+        let returned = self.lend(needed(unit)).clean(unit);
         Cleaned { answer: Answer::new(returned.answer(), &self.out), passes: returned.passes }
     }
 

@@ -22,6 +22,9 @@ impl Answer {
     /// "refused 1, place 0: unit not as above"
     pub const NO_UNIT: Self = Self::Refused { number: 1, place: 0 };
 
+    /// "refused 2, place 0: a lent buffer shorter than stated"
+    pub const SHORT_BUFFER: Self = Self::Refused { number: 2, place: 0 };
+
     pub fn rewritten(result: &Rewritten) -> Self {
         Self::Rewritten { bytes: result.encode() }
     }
