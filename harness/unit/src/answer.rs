@@ -1,5 +1,6 @@
 //! Document 01's answers and their text forms.
 
+use crate::entries::Instruction;
 use crate::hex;
 use crate::result::Rewritten;
 use std::fmt;
@@ -27,6 +28,20 @@ impl Answer {
 
     pub fn rewritten(result: &Rewritten) -> Self {
         Self::Rewritten { bytes: result.encode() }
+    }
+
+    /// What the listing program prints, "in decimal, the answer and then new place, old place, op, flags, a, b,
+    /// c".
+    pub fn listing(&self) -> String {
+        let Self::Rewritten { bytes } = self else {
+            return format!("{self}\n");
+        };
+        let result = Rewritten::decode(bytes).expect("a rewritten answer has a result");
+        let lines = result.retained.iter().enumerate().map(|(place, entry)| {
+            let Instruction { op, flags, a, b, c } = entry.instruction;
+            format!("{place} {} {op} {flags} {a} {b} {c}\n", entry.old_place)
+        });
+        format!("rewritten {}\n{}", result.retained.len(), lines.collect::<String>())
     }
 }
 

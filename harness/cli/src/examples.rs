@@ -1,0 +1,94 @@
+//! `harness assemble`, `disassemble`, `listing`, and `harness examples`: units and listings of the example texts.
+
+use std::fs;
+use std::path::{Path, PathBuf};
+use unit::{Answer, Lengths, Unit};
+
+/// At the repository's root.
+const FOLDER: &str = concat!(env!("CARGO_MANIFEST_DIR"), "/../../examples");
+
+/// What the listing program reads, and what it lends to its pass.
+const LONGEST: usize = 2_048;
+const LENT: Lengths = Lengths { out: 8_192, work32: 4_096, work64: 8_192, first: 0, second: 0 };
+
+fn read(file: &Path) -> Result<Vec<u8>, String> {
+    fs::read(file).map_err(|error| format!("{}: {error}", file.display()))
+}
+
+fn write(file: &Path, bytes: &[u8]) -> Result<(), String> {
+    fs::write(file, bytes).map_err(|error| format!("{}: {error}", file.display()))
+}
+
+/// The unit of a text file.
+fn unit_of(file: &Path) -> Result<Vec<u8>, String> {
+    let text = String::from_utf8(read(file)?).map_err(|_| format!("{}: no text", file.display()))?;
+    text::assemble(&text).map_err(|message| format!("{}: {message}", file.display()))
+}
+
+pub fn assemble(options: &[&str]) -> Result<(), String> {
+    let [file, out] = options else { return Err(crate::USAGE.into()) };
+    write(Path::new(out), &unit_of(Path::new(file))?)
+}
+
+pub fn disassemble(options: &[&str]) -> Result<(), String> {
+    let [file] = options else { return Err(crate::USAGE.into()) };
+    let text = text::disassemble(&read(Path::new(file))?).ok_or(format!("{file}: no unit"))?;
+    print!("{text}");
+    Ok(())
+}
+
+pub fn listing(options: &[&str]) -> Result<(), String> {
+    let [file] = options else { return Err(crate::USAGE.into()) };
+    print!("{}", listing_of(&read(Path::new(file))?));
+    Ok(())
+}
+
+/// What the listing program prints, by the reference's pass.
+fn listing_of(bytes: &[u8]) -> String {
+    let short = bytes.len() > LONGEST
+        || Unit::check(bytes)
+            .is_some_and(|unit| unit.is_worked_on() && !LENT.suffice(&unit.stated_lengths().of_one_pass()));
+    let answer = if short { Answer::SHORT_BUFFER } else { reference::pass(bytes) };
+    answer.listing()
+}
+
+/// Makes the unit and the listing of each text in the folder, or says which is another than it was made.
+pub fn run(options: &[&str]) -> Result<(), String> {
+    let made = made()?;
+    match options {
+        [] => made.iter().try_for_each(|(file, bytes)| write(file, bytes)),
+        ["--check"] => match made.iter().find(|(file, bytes)| fs::read(file).ok().as_ref() != Some(bytes)) {
+            Some((file, _)) => Err(format!("{} is not what its text makes", file.display())),
+            None => {
+                println!("{} files are what their texts make", made.len());
+                Ok(())
+            }
+        },
+        _ => Err(crate::USAGE.into()),
+    }
+}
+
+/// The files that the texts make.
+fn made() -> Result<Vec<(PathBuf, Vec<u8>)>, String> {
+    let entries = fs::read_dir(FOLDER).map_err(|error| format!("{FOLDER}: {error}"))?;
+    let mut texts: Vec<PathBuf> = entries
+        .filter_map(|entry| Some(entry.ok()?.path()))
+        .filter(|file| file.extension().is_some_and(|extension| extension == "lasm"))
+        .collect();
+    texts.sort();
+    let mut made = Vec::new();
+    for text in texts {
+        let unit = unit_of(&text)?;
+        made.push((text.with_extension("listing"), listing_of(&unit).into_bytes()));
+        made.push((text.with_extension("unit"), unit));
+    }
+    Ok(made)
+}
+
+#[cfg(test)]
+mod tests {
+    #[test]
+    fn examples_are_what_their_texts_make() {
+        super::run(&["--check"]).unwrap();
+    }
+}
