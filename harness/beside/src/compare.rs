@@ -3,9 +3,9 @@
 use crate::guarded::{Buffers, Call};
 use crate::options::Options;
 use crate::parallel;
+use crate::table::{first_rows, returned};
 use crate::tally::Tally;
 use generate::{every_damage, every_opcode, named, small_world, Rng, SmallWorld, PROFILES};
-use lampruda::sys;
 use unit::{hex, Answer, Cleaned, Lengths, Unit};
 
 /// How many differences are printed, and how many bytes of a unit.
@@ -111,18 +111,16 @@ fn report(seed: u64, mut compared: Compared, small_world: bool) -> Result<(), St
 
 /// Both calls with buffers of many lengths.
 fn compare_unit(rng: &mut Rng, unit: &[u8], tally: &mut Tally) -> Result<(), String> {
-    let checked = Unit::check(unit);
-    let stated = checked.map(|unit| unit.stated_lengths());
-    let worked_on = checked.is_some_and(|unit| unit.is_worked_on());
+    let stated = Unit::check(unit).map(|unit| unit.stated_lengths());
     let pass = Cleaned { answer: reference::pass(unit), pass: 1 };
     let clean = reference::clean(unit);
     let short = Cleaned { answer: Answer::SHORT_BUFFER, pass: 1 };
     for (call, long) in [(Call::Pass, &pass), (Call::Clean, &clean)] {
         for (way, lengths) in ways(rng, call, stated).into_iter().enumerate() {
-            let is_short = stated.is_some_and(|stated| !lengths.suffice(&lent_to(call, stated)));
-            let expected = if worked_on && is_short { &short } else { long };
+            let is_short = first_rows(call, unit, lengths) == Some(Answer::SHORT_BUFFER);
+            let expected = if is_short { &short } else { long };
             tally.calls += 1;
-            if way == 0 || expected.answer == Answer::SHORT_BUFFER {
+            if way == 0 || is_short {
                 tally.count(call, &expected.answer, expected.pass);
             }
             compare_call(rng.word(), call, unit, lengths, expected)
@@ -132,26 +130,18 @@ fn compare_unit(rng: &mut Rng, unit: &[u8], tally: &mut Tally) -> Result<(), Str
     Ok(())
 }
 
-/// The buffers' lengths that count for this call.
-fn lent_to(call: Call, lengths: Lengths) -> Lengths {
-    match call {
-        Call::Pass => lengths.of_one_pass(),
-        Call::Clean => lengths,
-    }
-}
-
 /// The lengths tried: as stated, longer, each one short by one, none at all. Any, for what is no unit.
 fn ways(rng: &mut Rng, call: Call, stated: Option<Lengths>) -> Vec<Lengths> {
     let stated = stated.unwrap_or_else(|| [(); 5].map(|()| rng.below(200)).into());
-    let exact = lent_to(call, stated);
+    let exact = call.lent(stated);
     let longer = exact.lengths().map(|length| length + rng.within(1..=40));
-    let mut others = vec![lent_to(call, longer.into()), Lengths::default()];
+    let mut others = vec![call.lent(longer.into()), Lengths::default()];
     for (buffer, length) in exact.lengths().into_iter().enumerate() {
         if length > 0 {
             // The others may be longer than stated.
             let mut short = if rng.percent(50) { exact.lengths() } else { longer };
             short[buffer] = length - 1;
-            others.push(lent_to(call, short.into()));
+            others.push(call.lent(short.into()));
         }
     }
     if exact.lengths().iter().sum::<usize>() > LARGE {
@@ -171,17 +161,8 @@ fn compare_call(
 ) -> Result<(), String> {
     let mut buffers = Buffers::new(seed >> 1, lengths);
     let given = unit.to_vec();
-    let (answer, passes) = buffers.call(call, &given);
-    let (wanted, written) = match &expected.answer {
-        Answer::Unchanged => (sys::Answer { kind: sys::UNCHANGED, number: 0, place: 0 }, &[][..]),
-        Answer::Refused { number, place } => {
-            (sys::Answer { kind: sys::REFUSED, number: *number, place: *place }, &[][..])
-        }
-        Answer::Rewritten { bytes } => {
-            let number = u32::from_le_bytes(bytes[..4].try_into().unwrap());
-            (sys::Answer { kind: sys::REWRITTEN, number, place: 0 }, &bytes[..])
-        }
-    };
+    let (answer, passes) = call.run(&mut buffers.lend(), &given);
+    let (wanted, written) = returned(&expected.answer);
     if answer != wanted {
         return Err(format!("{answer:?}, expected {wanted:?}"));
     }

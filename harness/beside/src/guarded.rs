@@ -84,6 +84,27 @@ pub enum Call {
     Clean,
 }
 
+impl Call {
+    /// The lengths that count for this call.
+    pub fn lent(self, lengths: Lengths) -> Lengths {
+        match self {
+            Self::Pass => lengths.of_one_pass(),
+            Self::Clean => lengths,
+        }
+    }
+
+    /// Calls the library; one pass counts as the last one run.
+    pub fn run(self, lent: &mut Lent, unit: &[u8]) -> (sys::Answer, u32) {
+        match self {
+            Self::Pass => (lent.pass(unit), 1),
+            Self::Clean => {
+                let cleaned = lent.clean(unit);
+                (cleaned.answer(), cleaned.passes)
+            }
+        }
+    }
+}
+
 /// The buffers of one call.
 pub struct Buffers {
     pub out: Guarded<u8>,
@@ -104,21 +125,13 @@ impl Buffers {
         }
     }
 
-    /// Calls the library; a pass counts as the last one run.
-    pub fn call(&mut self, call: Call, unit: &[u8]) -> (sys::Answer, u32) {
-        let mut lent = Lent {
+    pub fn lend(&mut self) -> Lent<'_> {
+        Lent {
             out: self.out.lend(),
             work32: self.work32.lend(),
             work64: self.work64.lend(),
             first: self.first.lend(),
             second: self.second.lend(),
-        };
-        match call {
-            Call::Pass => (lent.pass(unit), 1),
-            Call::Clean => {
-                let cleaned = lent.clean(unit);
-                (cleaned.answer(), cleaned.passes)
-            }
         }
     }
 

@@ -1,12 +1,15 @@
 //! The proved library beside the reference.
 
+mod arena;
 mod bench;
 mod chart;
 mod compare;
 mod fuzz;
 mod guarded;
+mod mutate;
 mod options;
 mod parallel;
+mod table;
 mod tally;
 
 use options::Options;

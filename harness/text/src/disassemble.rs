@@ -54,15 +54,15 @@ fn directives(parts: &Parts, out: &mut String) {
 
 /// Equal types in a row are one word.
 fn types(types: &[u8]) -> String {
-    let words = types.chunk_by(|left, right| left == right).map(|row| {
-        let name = TYPES[usize::from(row[0])];
-        if row.len() == 1 {
-            format!(" {name}")
-        } else {
-            format!(" {name}*{}", row.len())
-        }
-    });
-    words.collect()
+    let mut words = String::new();
+    let mut rest = types;
+    while let Some(&first) = rest.first() {
+        let row = rest.iter().take_while(|&&other| other == first).count();
+        let count = if row == 1 { String::new() } else { format!("*{row}") };
+        write!(words, " {}{count}", TYPES[usize::from(first)]).unwrap();
+        rest = &rest[row..];
+    }
+    words
 }
 
 fn constant(entry: &Constant) -> String {
