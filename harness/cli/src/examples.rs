@@ -52,7 +52,7 @@ fn listing_of(bytes: &[u8]) -> String {
     answer.listing()
 }
 
-/// Makes the unit and the listing of each text in the folder, or says which is another than it was made.
+/// Makes the unit, the listing and the cleaned listing of each text in the folder, or says which is another than it was made.
 pub fn run(options: &[&str]) -> Result<(), String> {
     let made = made()?;
     match options {
@@ -80,6 +80,7 @@ fn made() -> Result<Vec<(PathBuf, Vec<u8>)>, String> {
     for text in texts {
         let unit = unit_of(&text)?;
         made.push((text.with_extension("listing"), listing_of(&unit).into_bytes()));
+        made.push((text.with_extension("cleaned"), reference::clean(&unit).listing().into_bytes()));
         made.push((text.with_extension("unit"), unit));
     }
     Ok(made)

@@ -2,7 +2,7 @@
 
 use crate::entries::Instruction;
 use crate::hex;
-use crate::result::Rewritten;
+use crate::result::{Retained, Rewritten};
 use std::fmt;
 
 /// The answer of one pass.
@@ -33,15 +33,28 @@ impl Answer {
     /// What the listing program prints, "in decimal, the answer and then new place, old place, op, flags, a, b,
     /// c".
     pub fn listing(&self) -> String {
+        format!("{}\n{}", self.words(), self.lines())
+    }
+
+    /// The answer without its result.
+    fn words(&self) -> String {
+        match self {
+            Self::Rewritten { bytes } => format!("rewritten {}", retained(bytes)),
+            answer => answer.to_string(),
+        }
+    }
+
+    /// A line for each retained instruction.
+    fn lines(&self) -> String {
         let Self::Rewritten { bytes } = self else {
-            return format!("{self}\n");
+            return String::new();
         };
         let result = Rewritten::decode(bytes).expect("a rewritten answer has a result");
-        let lines = result.retained.iter().enumerate().map(|(place, entry)| {
+        let line = |(place, entry): (usize, &Retained)| {
             let Instruction { op, flags, a, b, c } = entry.instruction;
             format!("{place} {} {op} {flags} {a} {b} {c}\n", entry.old_place)
-        });
-        format!("rewritten {}\n{}", result.retained.len(), lines.collect::<String>())
+        };
+        result.retained.iter().enumerate().map(line).collect()
     }
 }
 
@@ -50,6 +63,13 @@ impl Answer {
 pub struct Cleaned {
     pub answer: Answer,
     pub pass: u32,
+}
+
+impl Cleaned {
+    /// The listing, with the number of the last pass run at the end of its first line.
+    pub fn listing(&self) -> String {
+        format!("{} {}\n{}", self.answer.words(), self.pass, self.answer.lines())
+    }
 }
 
 /// A rewritten answer's n', the first word of its bytes.
