@@ -159,7 +159,7 @@ fn compare_call(
     lengths: Lengths,
     expected: &Cleaned,
 ) -> Result<(), String> {
-    let mut buffers = Buffers::new(seed >> 1, lengths);
+    let mut buffers = Buffers::new(seed, lengths);
     let given = unit.to_vec();
     let (answer, passes) = call.run(&mut buffers.lend(), &given);
     let (wanted, written) = returned(&expected.answer);

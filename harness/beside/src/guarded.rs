@@ -118,10 +118,10 @@ impl Buffers {
     pub fn new(seed: u64, lengths: Lengths) -> Self {
         Self {
             out: Guarded::new(seed, lengths.out),
-            work32: Guarded::new(seed + 1, lengths.work32),
-            work64: Guarded::new(seed + 2, lengths.work64),
-            first: Guarded::new(seed + 3, lengths.first),
-            second: Guarded::new(seed + 4, lengths.second),
+            work32: Guarded::new(seed ^ 1, lengths.work32),
+            work64: Guarded::new(seed ^ 2, lengths.work64),
+            first: Guarded::new(seed ^ 3, lengths.first),
+            second: Guarded::new(seed ^ 4, lengths.second),
         }
     }
 

@@ -52,7 +52,8 @@ fn listing_of(bytes: &[u8]) -> String {
     answer.listing()
 }
 
-/// Makes the unit, the listing and the cleaned listing of each text in the folder, or says which is another than it was made.
+/// Makes the unit, the listing and the cleaned listing of each text in the folder, or says which of them is
+/// not what the text makes.
 pub fn run(options: &[&str]) -> Result<(), String> {
     let made = made()?;
     match options {

@@ -3,8 +3,8 @@
 use unit::buffers::WORKED_ON;
 use unit::{Entry, Header, Lengths, Section, HEADER_LEN, MAX_LOCAL_SLOTS};
 
-/// What these bytes need: nothing where their answer depends on no buffer, because they are no unit by their header
-/// or not worked on. So a damaged header asks for no more memory than the largest function.
+/// What these bytes need: nothing where their answer depends on no buffer, because they are no unit by their
+/// header or not worked on. So a damaged header asks for no more memory than the largest function.
 pub fn needed(unit: &[u8]) -> Lengths {
     let Some(bytes) = unit.get(..HEADER_LEN) else {
         return Lengths::default();

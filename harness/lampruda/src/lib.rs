@@ -1,7 +1,7 @@
 //! The proved library for Rust hosts.
 //!
-//! A [`Workspace`] has the memory that the library is lent. It grows as units ask for it, so that a host keeps one
-//! for each thread and cleans unit after unit with it.
+//! A [`Workspace`] has the memory that the library is lent. It grows as units ask for it, so that a host keeps
+//! one for each thread and cleans unit after unit with it.
 //!
 //! ```no_run
 //! # fn main() -> std::io::Result<()> {

@@ -1,4 +1,5 @@
-//! The proved library's two functions, as `include/lampruda.h` declares them. Nothing checks one against the other.
+//! The proved library's two functions, as `include/lampruda.h` declares them. Nothing checks one against the
+//! other.
 
 /// `lampruda_answer`
 #[repr(C)]

@@ -8,8 +8,8 @@
 //!         Return 2 1
 //! ```
 //!
-//! A `;` starts a comment, and a comma counts as a space. An instruction is an opcode's name, its operands and what is
-//! not 0 besides, as `NAME=VALUE`. The operands are a, b and c, those left out being 0, but for:
+//! A `;` starts a comment, and a comma counts as a space. An instruction is an opcode's name, its operands
+//! and what is not 0 besides, as `NAME=VALUE`. The operands are a, b and c, those left out being 0, but for:
 //!
 //! | | |
 //! |---|---|
@@ -18,8 +18,8 @@
 //! | `Loop end=PLACE exit=PLACE` | a loop hint: a Hint with flags 1, exit in imm32, and LoopEnd metadata; PLACE is a label or a number |
 //! | `op200 A B C` | a byte that is no opcode |
 //!
-//! A label is `NAME:` before an instruction, or after the last. Besides: `flags=`, `a=`, `b=`, `c=`, and the metadata,
-//! `meta=KIND first= second= array= ok= end=`, with the names of `InstructionMetadata`.
+//! A label is `NAME:` before an instruction, or after the last. Besides: `flags=`, `a=`, `b=`, `c=`, and the
+//! metadata, `meta=KIND first= second= array= ok= end=`, with the names of `InstructionMetadata`.
 //!
 //! | | |
 //! |---|---|

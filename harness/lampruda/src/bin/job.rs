@@ -1,7 +1,8 @@
 //! `job FOLDER [RESULTS]`: cleans every unit of a folder (files `*.unit`) on all cores.
 //!
-//! Shows how far it is, and says at the end how many instructions there were and are, and which units were refused,
-//! with number and place. Where a second folder is named, each rewritten function's result goes there as `*.result`.
+//! Shows how far it is, and says at the end how many instructions there were and are, and which units were
+//! refused, with number and place. Where a second folder is named, each rewritten function's result goes there
+//! as `*.result`.
 
 use lampruda::{Answer, Workspace};
 use std::collections::BTreeMap;
