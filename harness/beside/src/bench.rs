@@ -1,7 +1,7 @@
 //! `beside bench`: one pass, ours beside the reference, in nanoseconds an instruction.
 //!
-//! Ours is the whole call over a unit: the layout's check, the work, the result, the zeroing of what was lent. The
-//! reference starts from a module already built, and copying that module for each run is not timed.
+//! Ours is the whole call over a unit: the layout's check, the work, the result, the zeroing of what was lent.
+//! The reference starts from a module already built, and copying that module for each run is not timed.
 
 use crate::chart::{self, Curve, Panel};
 use crate::options::Options;

@@ -157,3 +157,43 @@ impl Buffers {
         Ok(())
     }
 }
+
+#[cfg(test)]
+mod tests {
+    use super::*;
+
+    #[test]
+    fn touches_show() {
+        let new = || Guarded::<u8>::new(5, 10);
+        let mut inside = new();
+        assert!(inside.is_guarded() && inside.is_untouched_from(0) && !inside.is_zero());
+        inside.lend()[3] ^= 1;
+        assert!(inside.is_guarded() && inside.is_untouched_from(4) && !inside.is_untouched_from(3));
+        for place in [0, new().before - 1, new().before + 10, new().store.len() - 1] {
+            let mut outside = new();
+            outside.store[place] ^= 1;
+            assert!(!outside.is_guarded() && outside.is_untouched_from(0));
+        }
+    }
+
+    #[test]
+    fn work_left_shows() {
+        let zeroed = |lengths| {
+            let mut buffers = Buffers::new(7, lengths);
+            let Lent { out: _, work32, work64, first, second } = buffers.lend();
+            work32.fill(0);
+            work64.fill(0);
+            first.fill(0);
+            second.fill(0);
+            buffers
+        };
+        let lengths = Lengths::from([4; 5]);
+        assert_eq!(zeroed(lengths).check(), Ok(()));
+        let mut left = zeroed(lengths);
+        left.lend().work64[3] = 1;
+        assert_eq!(left.check(), Err("work64 is not all 0".into()));
+        let mut left = zeroed(lengths);
+        left.lend().second[0] = 1;
+        assert_eq!(left.check(), Err("second is not all 0".into()));
+    }
+}

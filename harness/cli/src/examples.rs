@@ -1,4 +1,5 @@
-//! `harness assemble`, `disassemble`, `listing`, and `harness examples`: units and listings of the example texts.
+//! `harness assemble`, `disassemble`, `listing`, and `harness examples`: units and listings of the example
+//! texts.
 
 use std::fs;
 use std::path::{Path, PathBuf};

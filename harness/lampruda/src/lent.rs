@@ -15,8 +15,8 @@ pub struct Lent<'a> {
 impl Lent<'_> {
     /// One pass; the spare memory is not lent.
     pub fn pass(&mut self, unit: &[u8]) -> sys::Answer {
-        // SAFETY: each pointer and length is that of a slice, and no two of the slices overlap. The library reads
-        // the unit, and reads and writes the others, and nothing else.
+        // SAFETY: each pointer and length is that of a slice, and no two of the slices overlap. The library
+        // reads the unit, reads and writes the others, and touches nothing else.
         unsafe {
             sys::lampruda_pass(
                 unit.as_ptr(),
