@@ -5,13 +5,13 @@
 
 use crate::chart::{self, Curve, Panel};
 use crate::options::Options;
-use generate::{Shape, SHAPES};
+use generate::{Shape, ONE_BUCKET, SHAPES};
 use lampruda::Workspace;
 use reference::Prepared;
 use std::fs;
 use std::hint::black_box;
 use std::time::{Duration, Instant};
-use unit::Unit;
+use unit::{Answer, Section, Unit};
 
 const LENGTHS: [usize; 5] = [20, 200, 2_000, 9_700, 65_536];
 
@@ -26,10 +26,24 @@ pub fn run(mut options: Options) -> Result<(), String> {
     let seed = options.number("seed", 1)?;
     let longest = options.number("longest", 65_536)? as usize;
     let svg = options.text("svg");
+    let unit = options.text("unit");
     options.done()?;
-    println!("seed {seed}; one pass, nanoseconds an instruction, the least of {SAMPLES:?} samples");
+    println!("one pass, nanoseconds an instruction, the least of {SAMPLES:?} samples; seed {seed}");
     println!("{:<18}{:>13}{:>10}{:>11}{:>8}", "shape", "instructions", "ours", "reference", "ratio");
+    if let Some(file) = unit {
+        let bytes = fs::read(&file).map_err(|error| format!("{file}: {error}"))?;
+        let refused = matches!(reference::pass(&bytes), Answer::Refused { .. });
+        if refused {
+            return Err(format!("{file}: refused"));
+        }
+        row("the given unit", &bytes);
+        return Ok(());
+    }
     let panels: Vec<Panel> = SHAPES.iter().map(|shape| panel(shape, seed, longest)).collect();
+    // Not in the chart: it would flatten the others.
+    for n in LENGTHS.into_iter().filter(|&n| n <= longest) {
+        row(ONE_BUCKET.name, &ONE_BUCKET.unit(seed, n));
+    }
     match svg {
         Some(file) => {
             let title = "One pass: nanoseconds an instruction";
@@ -45,21 +59,29 @@ fn panel(shape: &Shape, seed: u64, longest: usize) -> Panel {
     let mut ours = Curve { name: "ours", points: Vec::new() };
     let mut theirs = Curve { name: "reference", points: Vec::new() };
     for n in LENGTHS.into_iter().filter(|&n| n <= longest) {
-        let [our_time, their_time] = time(&shape.unit(seed, n), n);
-        println!("{:<18}{n:>13}{our_time:>10.1}{their_time:>11.1}{:>8.2}", shape.name, our_time / their_time);
+        let [our_time, their_time] = row(shape.name, &shape.unit(seed, n));
         ours.points.push((n as f64, our_time));
         theirs.points.push((n as f64, their_time));
     }
     Panel { name: shape.name, curves: [ours, theirs] }
 }
 
+/// Times one unit that is not refused, and prints its row.
+fn row(name: &str, unit: &[u8]) -> [f64; 2] {
+    let unit = Unit::check(unit).expect("what is not refused is a unit");
+    let n = unit.header().count(Section::Code) as usize;
+    let [ours, theirs] = time(&unit, n.max(1));
+    println!("{name:<18}{n:>13}{ours:>10.1}{theirs:>11.1}{:>8.2}", ours / theirs);
+    [ours, theirs]
+}
+
 /// Nanoseconds an instruction of a unit of n, ours and the reference's, sampled in turn.
-fn time(unit: &[u8], n: usize) -> [f64; 2] {
+fn time(unit: &Unit, n: usize) -> [f64; 2] {
     let runs = SAMPLE.div_ceil(n);
-    let units = vec![unit.to_vec(); runs];
-    let prepared = Prepared::new(&Unit::check(unit).expect("shapes are units"));
+    let units = vec![unit.bytes().to_vec(); runs];
+    let prepared = Prepared::new(unit);
     let mut workspace = Workspace::default();
-    workspace.pass(unit);
+    workspace.pass(unit.bytes());
     let mut samples = [Vec::new(), Vec::new()];
     let start = Instant::now();
     while samples[0].len() < *SAMPLES.start()
@@ -73,7 +95,7 @@ fn time(unit: &[u8], n: usize) -> [f64; 2] {
         let mut copies = vec![prepared.clone(); runs];
         let begun = Instant::now();
         for copy in &mut copies {
-            black_box(copy.optimize_function()).expect("shapes are not refused");
+            black_box(copy.optimize_function()).expect("the unit is not refused");
         }
         samples[1].push(begun.elapsed());
     }

@@ -16,7 +16,7 @@ use options::Options;
 use std::process::ExitCode;
 
 const USAGE: &str = "usage: beside compare [--seed S] [--count N] [--profile NAME] [--small-world]
-       beside bench [--seed S] [--longest N] [--svg FILE]
+       beside bench [--seed S] [--longest N] [--svg FILE] | --unit FILE
        beside fuzz [--seed S] [--count N] [--from INDEX] [--seconds T]";
 
 fn main() -> ExitCode {

@@ -4,7 +4,7 @@ use crate::draft::Draft;
 use crate::laws;
 use crate::rng::Rng;
 use reference::Opcode;
-use unit::{Parts, TYPE_FLOAT};
+use unit::{Constant, Parts, CONSTANT_INT, TYPE_FLOAT};
 
 /// A named shape of functions.
 #[derive(Clone, Copy)]
@@ -19,6 +19,9 @@ impl Shape {
         (self.draw)(&mut Rng::new(seed, n as u64), n).encode()
     }
 }
+
+/// The worst known of our table, whose hash is fixed: constants chosen to fall in one bucket of it.
+pub const ONE_BUCKET: Shape = Shape { name: "one bucket", draw: one_bucket };
 
 pub const SHAPES: [Shape; 6] = [
     Shape { name: "material law", draw: laws::law },
@@ -129,6 +132,24 @@ fn constants_only(rng: &mut Rng, n: usize) -> Parts {
     while draft.place() + 1 < n {
         let (place, slot) = (draft.place(), draft.place() % usize::from(HALF));
         draft.load_int(slot as u16, place as i32);
+    }
+    end(draft)
+}
+
+/// The factor of a constant in the table's hash (crates/values/src/entries.rt).
+const FACTOR: u64 = 14_029_467_366_897_019_727;
+
+/// The constants are such that their products by the factor are 0, 1, 2 and so on, so the high bits never differ.
+fn one_bucket(rng: &mut Rng, n: usize) -> Parts {
+    // An odd number is its own inverse modulo 8, and each step doubles the bits.
+    let inverse = (0..5)
+        .fold(FACTOR, |inverse, _| inverse.wrapping_mul(2_u64.wrapping_sub(FACTOR.wrapping_mul(inverse))));
+    let mut draft = frame(rng, n);
+    while draft.place() + 1 < n {
+        let place = draft.place();
+        let value = inverse.wrapping_mul(place as u64);
+        draft.parts.constants.push(Constant::new(CONSTANT_INT, value));
+        draft.op(Opcode::LoadConst, 0, (place % usize::from(HALF)) as u16, place as u16, 0);
     }
     end(draft)
 }
