@@ -8,6 +8,7 @@ use crate::{mutate, parallel};
 use generate::Rng;
 use lampruda::{sys, Lent};
 use std::cell::Cell;
+use std::fmt;
 use std::io::{self, IsTerminal, Write};
 use std::process;
 use std::sync::atomic::{AtomicBool, AtomicU64, Ordering};
@@ -56,7 +57,7 @@ pub fn run(mut options: Options) -> Result<(), String> {
     }
     println!("seed {seed}: {} calls, each returned and was well-formed", all.calls);
     println!("{} unchanged, {} rewritten, {} refused", all.kinds[0], all.kinds[2], all.kinds[1]);
-    println!("{} of them compared with the reference", all.referred);
+    println!("{} of them held against the reference", all.referred);
     Ok(())
 }
 
@@ -218,80 +219,113 @@ impl Arenas {
 
         let (answer, passes) = call.run(&mut lent, unit);
 
-        let checked = check_buffers(&lent, noise as u8, answer)
+        let made = Made { call, bytes: &given, lengths, answer, passes, out: lent.out };
+        check_work(lent.work32, lent.work64, lent.first, lent.second)
+            .and_then(|()| made.check_output(noise as u8))
             .and_then(|()| if unit == given { Ok(()) } else { Err("the unit is touched".into()) })
-            .and_then(|()| check_answer(call, &given, lengths, answer, passes, lent.out))
+            .and_then(|()| made.check_answer())
             .and_then(|()| {
-                if rng.below(REFERRED) != 0 {
-                    return Ok(());
+                let refer = rng.below(REFERRED) == 0;
+                counts.referred += u64::from(refer);
+                if refer {
+                    made.check_reference()
+                } else {
+                    Ok(())
                 }
-                counts.referred += 1;
-                check_reference(call, &given, lengths, answer, passes, lent.out)
-            });
+            })
+            .map_err(|message| format!("call {number}, {made}: {message}\n  {}", hex::encode(&given)))?;
         counts.calls += 1;
-        // A kind that there is none of does not get past the check.
-        if checked.is_ok() {
-            counts.kinds[answer.kind as usize] += 1;
-        }
-        checked.map_err(|message| {
-            let unit = hex::encode(&given);
-            format!(
-                "call {number}, {call:?} with {lengths:?}: {answer:?}, pass {passes}: {message}\n  {unit}"
-            )
-        })
+        counts.kinds[answer.kind as usize] += 1;
+        Ok(())
     }
 }
 
-/// Zeros in the work buffers, and the output as it was but for what a rewritten answer writes.
-fn check_buffers(lent: &Lent, noise: u8, answer: sys::Answer) -> Result<(), String> {
-    let zero = lent.work32.iter().all(|&number| number == 0)
-        && lent.work64.iter().all(|&number| number == 0)
-        && lent.first.iter().chain(lent.second.iter()).all(|&byte| byte == 0);
-    if !zero {
-        return Err("a work buffer is not all 0".into());
-    }
-    let written = match answer.kind {
-        sys::REWRITTEN => unit::buffers::output(answer.number.into()) as usize,
-        _ => 0,
-    };
-    match lent.out.get(written..) {
-        None => Err("more retained than the output has room for".into()),
-        Some(rest) if rest.iter().any(|&byte| byte != noise) => {
-            Err(format!("the output is touched past its first {written} bytes"))
-        }
-        Some(_) => Ok(()),
+fn check_work(work32: &[u32], work64: &[u64], first: &[u8], second: &[u8]) -> Result<(), String> {
+    let zero = work32.iter().all(|&number| number == 0)
+        && work64.iter().all(|&number| number == 0)
+        && first.iter().chain(second).all(|&byte| byte == 0);
+    if zero {
+        Ok(())
+    } else {
+        Err("a work buffer is not all 0".into())
     }
 }
 
-/// The first rows of document 01's table exactly; of the others what holds of every such answer.
-fn check_answer(
+/// A call that was made.
+struct Made<'a> {
     call: Call,
-    bytes: &[u8],
+    bytes: &'a [u8],
     lengths: Lengths,
     answer: sys::Answer,
     passes: u32,
-    out: &[u8],
-) -> Result<(), String> {
-    if let Some(wanted) = first_rows(call, bytes, lengths) {
-        let same = answer == returned(&wanted).0 && passes == 1;
-        return if same { Ok(()) } else { Err(format!("expected {wanted} in pass 1")) };
+    /// The output as the call left it.
+    out: &'a [u8],
+}
+
+impl fmt::Display for Made<'_> {
+    fn fmt(&self, f: &mut fmt::Formatter) -> fmt::Result {
+        let Self { call, lengths, answer, passes, .. } = self;
+        write!(f, "{call:?} with {lengths:?}: {answer:?}, pass {passes}")
     }
-    let n = Unit::check(bytes).expect("a unit by the first rows").header().count(Section::Code);
-    let well_formed = match answer.kind {
-        sys::UNCHANGED => answer == returned(&Answer::Unchanged).0,
-        sys::REFUSED => (5..=10).contains(&answer.number) && answer.place < n,
-        sys::REWRITTEN => answer.place == 0 && is_result(out, answer.number, n),
-        _ => false,
-    };
-    let last = match (call, answer.kind) {
-        (Call::Pass, _) | (Call::Clean, sys::UNCHANGED) => 1..=1,
-        (Call::Clean, sys::REFUSED) => 1..=3,
-        (Call::Clean, _) => 2..=3,
-    };
-    if well_formed && last.contains(&passes) {
-        Ok(())
-    } else {
-        Err("no answer of the table".into())
+}
+
+impl Made<'_> {
+    /// The output is as it was, but for what a rewritten answer writes.
+    fn check_output(&self, noise: u8) -> Result<(), String> {
+        let written = match self.answer.kind {
+            sys::REWRITTEN => unit::buffers::output(self.answer.number.into()) as usize,
+            _ => 0,
+        };
+        match self.out.get(written..) {
+            None => Err("more retained than the output has room for".into()),
+            Some(rest) if rest.iter().any(|&byte| byte != noise) => {
+                Err(format!("the output is touched past its first {written} bytes"))
+            }
+            Some(_) => Ok(()),
+        }
+    }
+
+    /// The first rows of document 01's table exactly; of the others what holds of every such answer.
+    fn check_answer(&self) -> Result<(), String> {
+        let answer = self.answer;
+        if let Some(wanted) = first_rows(self.call, self.bytes, self.lengths) {
+            let same = answer == returned(&wanted).0 && self.passes == 1;
+            return if same { Ok(()) } else { Err(format!("expected {wanted} in pass 1")) };
+        }
+        let n = Unit::check(self.bytes).expect("a unit by the first rows").header().count(Section::Code);
+        let well_formed = match answer.kind {
+            sys::UNCHANGED => answer == returned(&Answer::Unchanged).0,
+            sys::REFUSED => (5..=10).contains(&answer.number) && answer.place < n,
+            sys::REWRITTEN => answer.place == 0 && is_result(self.out, answer.number, n),
+            _ => false,
+        };
+        let last = match (self.call, answer.kind) {
+            (Call::Pass, _) | (Call::Clean, sys::UNCHANGED) => 1..=1,
+            (Call::Clean, sys::REFUSED) => 1..=3,
+            (Call::Clean, _) => 2..=3,
+        };
+        if well_formed && last.contains(&self.passes) {
+            Ok(())
+        } else {
+            Err("no answer of the table".into())
+        }
+    }
+
+    /// The reference's answer, where the lengths do not decide.
+    fn check_reference(&self) -> Result<(), String> {
+        if first_rows(self.call, self.bytes, self.lengths) == Some(Answer::SHORT_BUFFER) {
+            return Ok(());
+        }
+        let expected = match self.call {
+            Call::Pass => Cleaned { answer: reference::pass(self.bytes), pass: 1 },
+            Call::Clean => reference::clean(self.bytes),
+        };
+        let (wanted, written) = returned(&expected.answer);
+        if self.answer == wanted && self.passes == expected.pass && self.out.starts_with(written) {
+            Ok(())
+        } else {
+            Err(format!("the reference: {expected}"))
+        }
     }
 }
 
@@ -303,28 +337,4 @@ fn is_result(out: &[u8], retained: u32, n: u32) -> bool {
     };
     let places: Vec<u32> = result.retained.iter().map(|entry| entry.old_place).collect();
     places.windows(2).all(|pair| pair[0] < pair[1]) && places.iter().all(|&place| place < n)
-}
-
-/// The reference's answer, where the lengths do not decide.
-fn check_reference(
-    call: Call,
-    bytes: &[u8],
-    lengths: Lengths,
-    answer: sys::Answer,
-    passes: u32,
-    out: &[u8],
-) -> Result<(), String> {
-    if first_rows(call, bytes, lengths) == Some(Answer::SHORT_BUFFER) {
-        return Ok(());
-    }
-    let expected = match call {
-        Call::Pass => Cleaned { answer: reference::pass(bytes), pass: 1 },
-        Call::Clean => reference::clean(bytes),
-    };
-    let (wanted, written) = returned(&expected.answer);
-    if answer == wanted && passes == expected.pass && out.starts_with(written) {
-        Ok(())
-    } else {
-        Err(format!("the reference: {expected}"))
-    }
 }
