@@ -1,18 +1,13 @@
-//! `harness assemble`, `disassemble`, `listing`, and `harness examples`: units and listings of the example
-//! texts.
+//! `harness assemble`, `disassemble`, and `harness examples`: units and listings of the example texts.
 
+use crate::listing::listing_of;
 use std::fs;
 use std::path::{Path, PathBuf};
-use unit::{Answer, Lengths, Unit};
 
 /// At the repository's root.
 const FOLDER: &str = concat!(env!("CARGO_MANIFEST_DIR"), "/../../examples");
 
-/// What the listing program reads, and what it lends to its pass.
-const LONGEST: usize = 2_048;
-const LENT: Lengths = Lengths { out: 8_192, work32: 4_096, work64: 8_192, first: 0, second: 0 };
-
-fn read(file: &Path) -> Result<Vec<u8>, String> {
+pub fn read(file: &Path) -> Result<Vec<u8>, String> {
     fs::read(file).map_err(|error| format!("{}: {error}", file.display()))
 }
 
@@ -36,21 +31,6 @@ pub fn disassemble(options: &[&str]) -> Result<(), String> {
     let text = text::disassemble(&read(Path::new(file))?).ok_or(format!("{file}: no unit"))?;
     print!("{text}");
     Ok(())
-}
-
-pub fn listing(options: &[&str]) -> Result<(), String> {
-    let [file] = options else { return Err(crate::USAGE.into()) };
-    print!("{}", listing_of(&read(Path::new(file))?));
-    Ok(())
-}
-
-/// What the listing program prints, by the reference's pass.
-fn listing_of(bytes: &[u8]) -> String {
-    let short = bytes.len() > LONGEST
-        || Unit::check(bytes)
-            .is_some_and(|unit| unit.is_worked_on() && !LENT.suffice(&unit.stated_lengths().of_one_pass()));
-    let answer = if short { Answer::SHORT_BUFFER } else { reference::pass(bytes) };
-    answer.listing()
 }
 
 /// Makes the unit, the listing and the cleaned listing of each text in the folder, or says which of them is

@@ -1,6 +1,7 @@
 //! The reference harness as a program.
 
 mod examples;
+mod listing;
 mod record;
 mod survey;
 
@@ -11,6 +12,7 @@ const USAGE: &str = "usage: harness survey [--seed S] [--count N]
        harness assemble TEXT UNIT
        harness disassemble UNIT
        harness listing UNIT
+       harness listings PROGRAM COUNT
        harness examples [--check]";
 
 fn main() -> ExitCode {
@@ -21,7 +23,8 @@ fn main() -> ExitCode {
         Some((&"record", options)) => record::run(options),
         Some((&"assemble", options)) => examples::assemble(options),
         Some((&"disassemble", options)) => examples::disassemble(options),
-        Some((&"listing", options)) => examples::listing(options),
+        Some((&"listing", options)) => listing::run(options),
+        Some((&"listings", options)) => listing::compare(options),
         Some((&"examples", options)) => examples::run(options),
         _ => Err(USAGE.into()),
     };
