@@ -66,7 +66,7 @@ module _ (n : ℕ) (code metadata : List ℕ) (S : Sections) (g : Given n code m
       named p h =
           let x = cellOf metadata p (getD (wordsIn n code) p 0) in
           let z : operandRefusal (S .locals) (S .tables) x ≡ 0 =
-              rw (← cell-at (wordsIn n code) metadata p (rw (words-long n code) h)) (passed-at (S .locals) (S .tables) cells o p (rw (given-long n code metadata S g) h)) in
+          rw (← cell-at (wordsIn n code) metadata p (rw (words-long n code) h)) (passed-at (S .locals) (S .tables) cells o p (rw (given-long n code metadata S g) h)) in
           named-of (S .locals) (S .tables) x (class (ofWord (getD (wordsIn n code) p 0))) refl z
 
   -- the check of branches in memory

@@ -106,8 +106,8 @@ reach-marks n metadata words work32 marks r room size long m e =
     let same : length marks ≡ rest = long ∙ mid-long work32 (keepAt n) rest fits in
     let part : keepAt n + n - keepAt n ≡ n = omega arith in
     let here : midOf (keepAt n) n (putMid (keepAt n) rest work32 marks) ≡ reachedPlaces (cellsBy words metadata) =
-        ap (λ (b : ℕ). midOf b n (putMid (keepAt n) rest work32 marks)) (sym (add-zero (keepAt n)))
-        ∙ back-within work32 (keepAt n) rest marks fits same 0 n (omega arith) ∙ (rw size at m) in
+    ap (λ (b : ℕ). midOf b n (putMid (keepAt n) rest work32 marks)) (sym (add-zero (keepAt n)))
+    ∙ back-within work32 (keepAt n) rest marks fits same 0 n (omega arith) ∙ (rw size at m) in
     record { leads = back-before work32 (keepAt n) rest marks fits same 0 n (omega arith); marks = here; answer = e ∙ ap (λ (l : List ℕ). loopCheck l (cellsBy words metadata)) (ap (λ (j : ℕ). midOf (keepAt n) j (putMid (keepAt n) rest work32 marks)) part ∙ here) }
 
 -- ---- `number`

@@ -13,9 +13,9 @@ ghost use Rattle.flow.specs.Flags.{Flags};
 ghost use Rattle.pc_map.specs.Boundary.{boundary};
 ghost use Rattle.answer.specs.Jump.{dropIdle, jumpRounds};
 ghost use Rattle.optimize.specs.Jumping.{Rounds, idleIn, endsIn, mapOf};
-use pc_map::boundary;
 use flow::branch;
 use instruction::Instruction;
+use pc_map::boundary;
 
 // Jump's number.
 const JUMP: u8 = 57;

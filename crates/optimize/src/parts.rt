@@ -19,7 +19,6 @@ ghost use Rattle.optimize.specs.Steps.{Finished, Marks, Reached, Renumbe
 use crate::Answer;
 use crate::code;
 use crate::retain;
-
 use effects::Check;
 use effects::operands;
 use flow::block;
@@ -57,7 +56,14 @@ fn conclude(
 }
 
 // The answer, of the retained places and their map in the work.
-fn finish(code: &[u8], metadata: &[u8], out: &mut [u8], work32: &[u32], work64: &[u64], n: usize) -> Answer
+fn finish(
+    code: &[u8],
+    metadata: &[u8],
+    out: &mut [u8],
+    work32: &[u32],
+    work64: &[u64],
+    n: usize,
+) -> Answer
     requires { ⌜ Finished n (now code) (now metadata) (length (now out)) (now work32) (now work64) ⌝ }
     ensures { λ r. ⌜ Tells (removal (cellsIn n (now (code .entry)) (now (metadata .entry))) (cellsBy (midOf 0 n (now (work64 .entry))) (now (metadata .entry))) (midOf (keepAt n) n (now (work32 .entry)))) r (now (out .entry)) (now (out .exit)) ⌝ }
 {
@@ -90,7 +96,16 @@ fn after_loops(
     requires { ⌜ Given n (now code) (now metadata) (sectionsIn (now types) (now constants) (now functions) (now externs) (now cases)) × Room n (length (now types)) (length (now out)) (length (now work32)) (length (now work64)) × Checked (sectionsIn (now types) (now constants) (now functions) (now externs) (now cases)) (cellsIn n (now code) (now metadata)) × Marks (sectionsIn (now types) (now constants) (now functions) (now externs) (now cases)) (cellsIn n (now code) (now metadata)) n (now work32) (now work64) ⌝ }
     ensures { λ r. ⌜ Tells (afterLoops (sectionsIn (now (types .entry)) (now (constants .entry)) (now (functions .entry)) (now (externs .entry)) (now (cases .entry))) (cellsIn n (now (code .entry)) (now (metadata .entry)))) r (now (out .entry)) (now (out .exit)) ⌝ }
 {
-    retain::retain(metadata, types, functions, externs, cases, work32, work64, n);
+    retain::retain(
+        metadata,
+        types,
+        functions,
+        externs,
+        cases,
+        work32,
+        work64,
+        n,
+    );
     finish(code, metadata, out, &work32[..], &work64[..], n)
 }
 
@@ -123,7 +138,19 @@ fn after_branches(
 {
     match reach(metadata, work32, &work64[0..n], n) {
         Check::Refused(k, p) => Answer::Refused(k, p),
-        Check::Passed => after_loops(code, metadata, types, constants, functions, externs, cases, out, work32, work64, n),
+        Check::Passed => after_loops(
+            code,
+            metadata,
+            types,
+            constants,
+            functions,
+            externs,
+            cases,
+            out,
+            work32,
+            work64,
+            n,
+        ),
     }
 }
 
@@ -157,7 +184,19 @@ fn after_operands(
         Check::Refused(k, p) => Answer::Refused(k, p),
         Check::Passed => {
             number(types, constants, work32, work64, n);
-            after_branches(code, metadata, types, constants, functions, externs, cases, out, work32, work64, n)
+            after_branches(
+                code,
+                metadata,
+                types,
+                constants,
+                functions,
+                externs,
+                cases,
+                out,
+                work32,
+                work64,
+                n,
+            )
         }
     }
 }
@@ -190,7 +229,17 @@ pub fn optimize(
     ) {
         Check::Refused(k, p) => Answer::Refused(k, p),
         Check::Passed => after_operands(
-            code, metadata, types, constants, functions, externs, cases, out, work32, work64, n,
+            code,
+            metadata,
+            types,
+            constants,
+            functions,
+            externs,
+            cases,
+            out,
+            work32,
+            work64,
+            n,
         ),
     }
 }

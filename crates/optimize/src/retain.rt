@@ -71,7 +71,14 @@ pub fn retain(
     let at = 3 * n + 1;
     drop_hints(&work64[0..n], metadata, &mut work32[at..]);
     drop_stores(
-        metadata, types, functions, externs, cases, work32, work64, n,
+        metadata,
+        types,
+        functions,
+        externs,
+        cases,
+        work32,
+        work64,
+        n,
     );
     jump::drop_jumps(&work64[0..n], &mut work32[at..]);
 }

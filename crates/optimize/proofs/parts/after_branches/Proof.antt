@@ -40,7 +40,7 @@ enum-told c = search needs
 
 -- src/parts.rt:124:26
 after-loops-requires : tie.Need-after-loops-requires
-after-loops-requires c κs = 
+after-loops-requires c κs =
     let s = c .before .before .before .before .before .before .before .before .before .before .before .before .before .before .before .before .before .before .before .before .before in
     let a = s .args in
     (s .pre .0, same-room _ _ _ _ _ _ _ (s .pre .1) (c .before .before .before .before .before .before .before .reach .kept .1 .0) refl, s .pre .2, (reached-marks (a .n) (a .code .now) (a .metadata .now) (sectionsIn (a .types .now) (a .constants .now) (a .functions .now) (a .externs .now) (a .cases .now)) (s .pre .0) (s .pre .2) (a .work32 .now) (a .work64 .now) (s .pre .3) (a .n - 0) _ _ (omega arith) (c .before .before .before .before .before .before .before .reach .ensures)))
@@ -55,7 +55,7 @@ same-length-2 c = search needs
 
 -- src/parts.rt:106:1
 returns : tie.Need-returns
-returns c = 
+returns c =
     let s = c .before .before .before .before .before .before .before .before .before .before .before .before .before .before .before .before .before .before .before in
     let a = s .args in
     tells-same _ (refused _ _) _ _ _ (checked-refused _ _ _ _ (reached-answer (a .n) (a .code .now) (a .metadata .now) (sectionsIn (a .types .now) (a .constants .now) (a .functions .now) (a .externs .now) (a .cases .now)) (s .pre .0) (s .pre .2) (a .work32 .now) (a .work64 .now) (s .pre .3) (a .n - 0) _ _ (omega arith) (c .before .before .before .before .before .reach .ensures) ∙ c .before .k .given .1)) (tells-refused _ _ _ (a .out .now) refl)
@@ -74,7 +74,7 @@ same-length-5 c = search needs
 
 -- src/parts.rt:106:1
 returns-2 : tie.Need-returns-2
-returns-2 c = 
+returns-2 c =
     let s = c .before .before .before .before .before .before .before .before .before .before .before .before .before .before .before .before .before .before .before .before .before .before .before .before .before .before .before .before in
     let a = s .args in
     tells-same _ _ _ _ _ (checked-passed _ _ (reached-answer (a .n) (a .code .now) (a .metadata .now) (sectionsIn (a .types .now) (a .constants .now) (a .functions .now) (a .externs .now) (a .cases .now)) (s .pre .0) (s .pre .2) (a .work32 .now) (a .work64 .now) (s .pre .3) (a .n - 0) _ _ (omega arith) (c .before .before .before .before .before .before .before .before .before .before .before .before .before .before .reach .ensures) ∙ c .before .before .before .before .before .before .before .before .before .before .enum-told .given .1)) (c .before .before .before .before .before .before .after-loops .ensures)

@@ -16,14 +16,14 @@ use Rattle.optimize.proofs.retain.retain.Reads as retain-reads
 
 -- src/parts.rt:91:5
 retain-requires : tie.Need-retain-requires
-retain-requires c κs = 
+retain-requires c κs =
     let s = c .before .before .before .before .before .before .before .before .before .before .before .before in
     let a = s .args in
     marks-retainable (a .n) (a .code .now) (a .metadata .now) (sectionsIn (a .types .now) (a .constants .now) (a .functions .now) (a .externs .now) (a .cases .now)) (s .pre .0) (s .pre .2) (length (a .out .now)) (a .work32 .now) (a .work64 .now) (s .pre .1) (s .pre .3) refl
 
 -- src/parts.rt:92:5
 finish-requires : tie.Need-finish-requires
-finish-requires c κs = 
+finish-requires c κs =
     let s = c .before .before .before .before .before .before .before .before .before .before .before .before .before .before .before .before .before .before .before .before in
     let a = s .args in
     kept-finished (a .n) (a .code .now) (a .metadata .now) (sectionsIn (a .types .now) (a .constants .now) (a .functions .now) (a .externs .now) (a .cases .now)) (s .pre .0) (s .pre .2) (length (a .out .now)) (a .work32 .now) (a .work64 .now) (s .pre .1) (s .pre .3) refl (a .constants .now) (a .functions .now) (a .externs .now) (a .cases .now) _ _ refl (c .before .before .before .before .before .before .before .retain .kept .1 .1 .1 .1 .1 .0) (c .before .before .before .before .before .before .before .retain .kept .1 .1 .1 .1 .1 .1 .0) (c .before .before .before .before .before .before .before .retain .ensures (a .constants .now))
@@ -42,7 +42,7 @@ same-length-3 c = search needs
 
 -- src/parts.rt:75:1
 returns : tie.Need-returns
-returns c = 
+returns c =
     let s = c .before .before .before .before .before .before .before .before .before .before .before .before .before .before .before .before .before .before .before .before .before .before .before in
     let a = s .args in
     tells-same _ _ _ _ _ (kept-answer (a .n) (a .code .now) (a .metadata .now) (sectionsIn (a .types .now) (a .constants .now) (a .functions .now) (a .externs .now) (a .cases .now)) (s .pre .0) (s .pre .2) (length (a .out .now)) (a .work32 .now) (a .work64 .now) (s .pre .1) (s .pre .3) refl (a .constants .now) (a .functions .now) (a .externs .now) (a .cases .now) _ _ refl (c .before .before .before .before .before .before .before .before .before .before .retain .kept .1 .1 .1 .1 .1 .0) (c .before .before .before .before .before .before .before .before .before .before .retain .kept .1 .1 .1 .1 .1 .1 .0) (c .before .before .before .before .before .before .before .before .before .before .retain .ensures (a .constants .now))) (c .before .before .finish .ensures)

@@ -41,20 +41,23 @@ enum-told c = search needs
 
 -- src/parts.rt:157:13
 number-requires : tie.Need-number-requires
-number-requires c κs = 
+number-requires c κs =
     let s = c .before .before .before .before .before .before .before .before .before .before .before .before .before .before .before .before .before in
     let a = s .args in
     loaded-numberable (a .n) (a .code .now) (a .metadata .now) (sectionsIn (a .types .now) (a .constants .now) (a .functions .now) (a .externs .now) (a .cases .now)) (s .pre .0) (length (a .out .now)) _ _ (s .pre .1) (s .pre .2) (s .pre .3)
 
 -- src/parts.rt:158:13
 after-branches-requires : tie.Need-after-branches-requires
-after-branches-requires c κs = 
+after-branches-requires c κs =
     let s = c .before .before .before .before .before .before .before .before .before .before .before .before .before .before .before .before .before .before .before .before .before .before .before .before .before in
     let a = s .args in
     let n = c .before .before .before .before .before .before .before .number in
-    let passed = (loaded-branches (a .n) (a .code .now) (a .metadata .now) (sectionsIn (a .types .now) (a .constants .now) (a .functions .now) (a .externs .now) (a .cases .now)) (s .pre .0) (a .n - 0) (a .work64 .now) (omega arith) (s .pre .3) ∙ sym (c .before .before .before .before .before .before .before .before .before .before .before .before .check-branches .ensures (a .metadata .now)) ∙ c .before .before .before .before .before .before .before .before .before .before .enum-told .given .1) in
-    (s .pre .0, same-room _ _ _ _ _ _ _ (s .pre .1) (n .kept .1 .1 .0) (n .kept .1 .1 .1 .0), record { operands = s .pre .2; branches = passed },
-    loaded-renumbered (a .n) (a .code .now) (a .metadata .now) (sectionsIn (a .types .now) (a .constants .now) (a .functions .now) (a .externs .now) (a .cases .now)) (s .pre .0) (a .work64 .now) _ _ (s .pre .3) (n .ensures (a .metadata .now) (length (a .types .now)) (tablesOf (a .functions .now) (a .externs .now) (a .cases .now))))
+    let passed = (loaded-branches (a .n) (a .code .now) (a .metadata .now) (sectionsIn (a .types .now) (a .constants .now) (a .functions .now) (a .externs .now) (a .cases .now)) (s .pre .0) (a .n - 0) (a .work64 .now) (omega arith) (s .pre .3) ∙ sym (c .before .before .before .before .before .before .before .before .before .before .before .before .check-branches .ensures (a .metadata .now)) ∙ c .before .before .before .before .before .before .before .before .before .before .enum-told .given .1) in (
+      s .pre .0,
+      same-room _ _ _ _ _ _ _ (s .pre .1) (n .kept .1 .1 .0) (n .kept .1 .1 .1 .0),
+      record { operands = s .pre .2; branches = passed },
+      loaded-renumbered (a .n) (a .code .now) (a .metadata .now) (sectionsIn (a .types .now) (a .constants .now) (a .functions .now) (a .externs .now) (a .cases .now)) (s .pre .0) (a .work64 .now) _ _ (s .pre .3) (n .ensures (a .metadata .now) (length (a .types .now)) (tablesOf (a .functions .now) (a .externs .now) (a .cases .now))),
+    )
 
 -- src/parts.rt:138:1
 same-length : tie.Need-same-length
@@ -62,7 +65,7 @@ same-length c = search needs
 
 -- src/parts.rt:138:1
 returns : tie.Need-returns
-returns c = 
+returns c =
     let s = c .before .before .before .before .before .before .before .before .before .before .before .before .before .before .before .before in
     let a = s .args in
     tells-same _ (refused _ _) _ _ _ (checked-refused _ _ _ _ (loaded-branches (a .n) (a .code .now) (a .metadata .now) (sectionsIn (a .types .now) (a .constants .now) (a .functions .now) (a .externs .now) (a .cases .now)) (s .pre .0) (a .n - 0) (a .work64 .now) (omega arith) (s .pre .3) ∙ sym (c .before .before .before .check-branches .ensures (a .metadata .now)) ∙ c .before .k .given .1)) (tells-refused _ _ _ (a .out .now) refl)
@@ -81,7 +84,7 @@ same-length-4 c = search needs
 
 -- src/parts.rt:138:1
 returns-2 : tie.Need-returns-2
-returns-2 c = 
+returns-2 c =
     let s = c .before .before .before .before .before .before .before .before .before .before .before .before .before .before .before .before .before .before .before .before .before .before .before .before .before .before .before .before .before .before .before .before in
     let a = s .args in
     tells-same _ _ _ _ _ (checked-passed _ _ (loaded-branches (a .n) (a .code .now) (a .metadata .now) (sectionsIn (a .types .now) (a .constants .now) (a .functions .now) (a .externs .now) (a .cases .now)) (s .pre .0) (a .n - 0) (a .work64 .now) (omega arith) (s .pre .3) ∙ sym (c .before .before .before .before .before .before .before .before .before .before .before .before .before .before .before .before .before .before .before .check-branches .ensures (a .metadata .now)) ∙ c .before .before .before .before .before .before .before .before .before .before .before .before .before .before .before .before .before .enum-told .given .1)) (c .before .before .before .before .before .before .after-branches .ensures)

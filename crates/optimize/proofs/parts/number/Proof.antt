@@ -54,7 +54,7 @@ part-number-code-end c = search needs
 
 -- src/parts.rt:134:5
 number-code-requires : tie.Need-number-code-requires
-number-code-requires c κs = 
+number-code-requires c κs =
     let s = c .before .before .before .before .before .before .before .before .before .before .before .before .before in
     number-asks (s .args .n) (s .args .n - 0) (length (s .args .types .now)) (s .args .work32 .now) (s .args .work64 .now) (c .before .before .before .before .before .mark-leaders .last .1 .0) (omega arith) (c .before .before .before .before .before .mark-leaders .kept .1 .0 ∙ mid-long (s .args .work32 .now) 0 (s .args .n - 0) (omega (arith, s .pre .long32))) (s .pre) (s .args .types .now) refl
 

@@ -45,7 +45,7 @@ part-check-operands-end c = search needs
 
 -- src/parts.rt:140:11
 check-operands-requires : tie.Need-check-operands-requires
-check-operands-requires c κs = 
+check-operands-requires c κs =
     let s = c .before .before .before .before .before .before .before .before .before .before .before .before .before .before .before .before in
     let a = s .args in
     (operands-asks (a .n) (a .code .now) (a .metadata .now) _ (sectionsIn (a .types .now) (a .constants .now) (a .functions .now) (a .externs .now) (a .cases .now)) (s .pre .0) (load-part (a .n) (a .n - 0) (a .code .now) (a .work64 .now) (c .before .before .before .before .load .last .1 .0) (omega arith) (omega (arith, s .pre .1 .room64)) (c .before .before .before .before .load .ensures)))
@@ -60,7 +60,7 @@ enum-told c = search needs
 
 -- src/parts.rt:149:26
 after-operands-requires : tie.Need-after-operands-requires
-after-operands-requires c κs = 
+after-operands-requires c κs =
     let s = c .before .before .before .before .before .before .before .before .before .before .before .before .before .before .before .before .before .before .before .before .before .before in
     let a = s .args in
     (s .pre .0, same-room _ _ _ _ _ _ _ (s .pre .1) refl (load-long (a .n) (a .n - 0) (a .code .now) (a .work64 .now) (c .before .before .before .before .before .before .before .before .before .before .load .last .1 .0) (omega arith) (omega (arith, s .pre .1 .room64)) (c .before .before .before .before .before .before .before .before .before .before .load .ensures)), (operands-answer (a .n) (a .code .now) (a .metadata .now) _ (sectionsIn (a .types .now) (a .constants .now) (a .functions .now) (a .externs .now) (a .cases .now)) (s .pre .0) (load-part (a .n) (a .n - 0) (a .code .now) (a .work64 .now) (c .before .before .before .before .before .before .before .before .before .before .load .last .1 .0) (omega arith) (omega (arith, s .pre .1 .room64)) (c .before .before .before .before .before .before .before .before .before .before .load .ensures))) ∙ sym (c .before .before .before .before .before .check-operands .ensures) ∙ c .before .before .before .enum-told .given .1, (load-front (a .n) (a .n - 0) (a .code .now) (a .work64 .now) (c .before .before .before .before .before .before .before .before .before .before .load .last .1 .0) (omega arith) (omega (arith, s .pre .1 .room64)) (c .before .before .before .before .before .before .before .before .before .before .load .ensures)))
@@ -71,7 +71,7 @@ same-length c = search needs
 
 -- src/parts.rt:123:1
 returns : tie.Need-returns
-returns c = 
+returns c =
     let s = c .before .before .before .before .before .before .before .before .before .before .before .before .before .before .before .before .before .before .before .before in
     let a = s .args in
     tells-same _ (refused _ _) _ _ _ (optimized-steps _ _ ∙ checked-refused _ _ _ _ ((operands-answer (a .n) (a .code .now) (a .metadata .now) _ (sectionsIn (a .types .now) (a .constants .now) (a .functions .now) (a .externs .now) (a .cases .now)) (s .pre .0) (load-part (a .n) (a .n - 0) (a .code .now) (a .work64 .now) (c .before .before .before .before .before .before .before .before .load .last .1 .0) (omega arith) (omega (arith, s .pre .1 .room64)) (c .before .before .before .before .before .before .before .before .load .ensures))) ∙ sym (c .before .before .before .check-operands .ensures) ∙ c .before .k .given .1)) (tells-refused _ _ _ (a .out .now) refl)
@@ -90,7 +90,7 @@ same-length-4 c = search needs
 
 -- src/parts.rt:123:1
 returns-2 : tie.Need-returns-2
-returns-2 c = 
+returns-2 c =
     let s = c .before .before .before .before .before .before .before .before .before .before .before .before .before .before .before .before .before .before .before .before .before .before .before .before .before .before .before .before .before in
     let a = s .args in
     tells-same _ _ _ _ _ (optimized-steps _ _ ∙ checked-passed _ _ ((operands-answer (a .n) (a .code .now) (a .metadata .now) _ (sectionsIn (a .types .now) (a .constants .now) (a .functions .now) (a .externs .now) (a .cases .now)) (s .pre .0) (load-part (a .n) (a .n - 0) (a .code .now) (a .work64 .now) (c .before .before .before .before .before .before .before .before .before .before .before .before .before .before .before .before .before .load .last .1 .0) (omega arith) (omega (arith, s .pre .1 .room64)) (c .before .before .before .before .before .before .before .before .before .before .before .before .before .before .before .before .before .load .ensures))) ∙ sym (c .before .before .before .before .before .before .before .before .before .before .before .before .check-operands .ensures) ∙ c .before .before .before .before .before .before .before .before .before .before .enum-told .given .1)) (c .before .before .before .before .before .before .after-operands .ensures)

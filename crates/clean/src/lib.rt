@@ -1,0 +1,1 @@
+// The cleaning: up to three passes.
