@@ -167,7 +167,7 @@ module _ (F : Function) (w : Well F) (cases : ℕ) (sound : AllSound cases (F .c
 
 -- ---- with old places in the given unit
 
-placed-at : (before kept : List Retained) (p : ℕ) → p < length kept
+pub placed-at : (before kept : List Retained) (p : ℕ) → p < length kept
     → retainedAt (placedBy before kept) p ≡ record { instruction = retainedAt kept p .instruction; metadata = retainedAt kept p .metadata; place = retainedAt before (retainedAt kept p .place) .place }
 unfolding placedBy
 placed-at before [] p h = absurd (omega arith)

@@ -1,1 +1,2 @@
 // The cleaning: up to three passes.
+mod buffer;
