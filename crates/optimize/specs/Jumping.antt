@@ -1,12 +1,13 @@
 -- Jump rounds in lent memory: the kept places at [0, n), their boundaries at [n, 2n + 1), the loop ends at [2n + 1, 3n + 1).
 -- Assumes nothing.
-use mathlib.Core.Path.{_≡_, refl, sym, ap, _∙_}
+use mathlib.Core.Path.{_≡_, refl}
 use mathlib.Core.Bool.{Bool, true, false, cond, _&&_, not}
-use mathlib.Core.List.{List, [], _∷_, _++_}
-use Prim.Native.Nat.{ℕ, zero, suc, _+_, _*_, _≤_, _<_}
+use mathlib.Core.List.{List}
+use Prim.Native.Nat.{ℕ, _+_, _*_, _≤_}
 use lib.Dec.{eqb}
 use lib.ListN.{length, getD}
-use borrow.Rule.Slice.PartMut.{putMid, midOf}
+use borrow.Author.Tests.{eq-eqb, ne-eqb}
+use borrow.Rule.Slice.PartMut.{midOf}
 use Rattle.words.specs.Lists.{tabulate}
 use Rattle.instruction.specs.declared.Instruction.{Instruction}
 use Rattle.instruction.specs.Opcode as op
@@ -36,24 +37,28 @@ idleIn n work p i =
     (eqb (getD work (n + target p i) 0) (getD work (n + p) 0 + 1)) false
 
 -- the test's answers, one part after the other
-module _ (kept free jump near : Bool) where
-  pub no-jump : jump ≡ false → false ≡ cond (kept && free && jump) near false
-  no-jump e = rw e (go kept free)
+module _ (n : ℕ) (work : List ℕ) (p : ℕ) (i i′ : Instruction) (same : i′ ≡ i) where
+  abbrev near : Bool
+  near = eqb (getD work (n + target p i) 0) (getD work (n + p) 0 + 1)
+
+  pub no-jump : (i′ .op ≡ op.Jump → ⊥) → false ≡ idleIn n work p i
+  no-jump f = rw (← same) (rw (ne-eqb _ _ f) (go (eqb (getD work p 0) 1) (not (eqb (getD work (2 * n + 1 + p) 0) 1)) _))
     where
-      go : (a b : Bool) → false ≡ cond (a && b && false) near false
-      go true true = refl
-      go true false = refl
-      go false b = refl
+      go : (a b near : Bool) → false ≡ cond (a && b && false) near false
+      go true true near = refl
+      go true false near = refl
+      go false b near = refl
 
-  pub not-kept : kept ≡ false → false ≡ cond (kept && free && jump) near false
-  not-kept e = rw e refl
+  pub not-kept : (getD work p 0 ≡ 1 → ⊥) → false ≡ idleIn n work p i
+  not-kept f = rw (ne-eqb _ _ f) refl
 
-  pub loop-end : free ≡ false → false ≡ cond (kept && free && jump) near false
-  loop-end e = rw e (go kept)
+  pub loop-end : getD work (2 * n + 1 + p) 0 ≡ 1 → false ≡ idleIn n work p i
+  loop-end e = rw (eq-eqb _ _ e) (go (eqb (getD work p 0) 1) (eqb (i .op) op.Jump) near)
     where
-      go : (a : Bool) → false ≡ cond (a && false && jump) near false
-      go true = refl
-      go false = refl
+      go : (a c near : Bool) → false ≡ cond (a && false && c) near false
+      go true c near = refl
+      go false c near = refl
 
-  pub all-three : kept ≡ true → free ≡ true → jump ≡ true → near ≡ cond (kept && free && jump) near false
-  all-three e f g = rw (e, f, g) refl
+  pub all-three : getD work p 0 ≡ 1 → (getD work (2 * n + 1 + p) 0 ≡ 1 → ⊥) → i′ .op ≡ op.Jump → (t : ℕ) → t ≡ target p i′
+      → eqb (getD work (n + t) 0) (getD work (n + p) 0 + 1) ≡ idleIn n work p i
+  all-three e f g t h = rw (← same) (rw (h, eq-eqb _ _ e, ne-eqb _ _ f, eq-eqb _ _ g) refl)

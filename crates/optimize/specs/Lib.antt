@@ -5,3 +5,8 @@ pub mod Whole
 pub mod Steps
 pub mod Numbered
 pub mod Chain
+pub mod Concluded
+pub mod Retained
+pub mod Cleared
+pub mod Loading
+pub mod Rounding

@@ -1,7 +1,7 @@
 // The code in lent memory, one word an instruction.
 ghost use mathlib.Core.Path.{_≡_};
 ghost use mathlib.Core.List.{List};
-ghost use Prim.Native.Nat.{ℕ, _+_, _*_, _≤_, _<_};
+ghost use Prim.Native.Nat.{ℕ, _*_, _≤_};
 ghost use lib.ListN.{length};
 ghost use Rattle.unit.specs.Size.{instructionSize};
 ghost use Rattle.effects.specs.Cells.{cellsBy};

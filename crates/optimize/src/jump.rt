@@ -3,14 +3,12 @@
 ghost use mathlib.Core.Path.{_≡_};
 ghost use mathlib.Core.Bool.{false};
 ghost use mathlib.Core.List.{List, _++_};
-ghost use Prim.Native.Nat.{ℕ, _+_, _*_, _≤_, _<_};
+ghost use Prim.Native.Nat.{ℕ, _+_, _*_, _<_};
 ghost use lib.ListN.{length, getD};
 ghost use borrow.Rule.Slice.PartMut.{putMid, midOf};
-ghost use Rattle.words.specs.Lists.{tabulate};
 ghost use Rattle.instruction.specs.Instruction.{ofWord};
 ghost use Rattle.effects.specs.Cells.{cellsBy};
 ghost use Rattle.flow.specs.Flags.{Flags};
-ghost use Rattle.pc_map.specs.Boundary.{boundary};
 ghost use Rattle.answer.specs.Jump.{dropIdle, jumpRounds};
 ghost use Rattle.optimize.specs.Jumping.{Rounds, idleIn, endsIn, mapOf};
 use flow::branch;

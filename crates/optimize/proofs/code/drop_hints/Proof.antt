@@ -1,63 +1,44 @@
+use mathlib.Core.Path.{_≡_, _∙_, sym, ap}
+use mathlib.Core.Logic.{⊎-elim}
+use Prim.Native.Nat.{_-_, _≤_}
+use native.Mathlib.Omega.{arith}
+use lib.ListN.{length}
+use Rattle.flow.specs.Loop.{isPlainHint}
+use Rattle.optimize.specs.Cleared.{Cleared, cleared-none, cleared-on, cleared-off}
+use Rattle.optimize.specs.Loading.{hintAt, hints-dropped}
+use borrow.Author.Needs.{needs}
 use Rattle.optimize.proofs.code.drop_hints.Statement.{statement}
 use Rattle.optimize.proofs.code.drop_hints.Tie as tie
-use Rattle.optimize.proofs.code.drop_hints.Reads as reads
-use Rattle.optimize.proofs.code.drop_hints.Lts as lts
-use Rattle.instruction.proofs.Instruction.from_word.Reads as from-word-reads
-use Rattle.optimize.proofs.code.is_plain_hint.Reads as is-plain-hint-reads
 
 abbrev Inv-loop : tie.InvT-loop
-Inv-loop words keep₀ p₀ keep p = ?
+Inv-loop words keep₀ p₀ keep p = (p ≤ length words) × Cleared (hintAt words) keep₀ keep p
 
 abbrev μ-loop : tie.MeasureT-loop
-μ-loop words keep₀ p₀ keep p = ?
+μ-loop words keep₀ p₀ keep p = length words - p
 
--- src/code.rt:53:5
 loop-holds : tie.Need-loop-holds Inv-loop μ-loop
-loop-holds c = ?
+loop-holds c = (omega arith, cleared-none _ _)
 
--- src/code.rt:54:49
-mul-from-word : tie.Need-mul-from-word Inv-loop μ-loop
-mul-from-word c = ?
-
--- src/code.rt:54:49
-shared-slice-read-from-word : tie.Need-shared-slice-read-from-word Inv-loop μ-loop
-shared-slice-read-from-word c = ?
-
--- src/code.rt:54:26
-from-word-requires : tie.Need-from-word-requires Inv-loop μ-loop
-from-word-requires c κs = ?
-
--- src/code.rt:54:12
-is-plain-hint-requires : tie.Need-is-plain-hint-requires Inv-loop μ-loop
-is-plain-hint-requires c κs = ?
-
--- src/code.rt:55:13
-mul-keep : tie.Need-mul-keep Inv-loop μ-loop
-mul-keep c = ?
-
--- src/code.rt:55:13
 slice-write-keep : tie.Need-slice-write-keep Inv-loop μ-loop
-slice-write-keep c = ?
+slice-write-keep c = omega (arith, c .before .before .before .before .before .loop .inv .1 .long)
 
--- src/code.rt:57:9
-add-p : tie.Need-add-p Inv-loop μ-loop
-add-p c = ?
-
--- src/code.rt:53:5
-loop-less : tie.Need-loop-less Inv-loop μ-loop
-loop-less c = ?
-
--- src/code.rt:53:5
 loop-again : tie.Need-loop-again Inv-loop μ-loop
-loop-again c = ?
+loop-again c = let h = c .before .before .before .before .before in
+    let hint : c .before .is-plain-hint .result ≡ hintAt (h .before .before .before .args .words .now) (h .loop .p) = c .before .is-plain-hint .ensures ∙ ap isPlainHint (c .before .before .from-word .ensures) in (
+      omega (arith, c .before .before .before .before .loop-test .taken),
+      ⊎-elim
+          (λ w. rw (w .1) (cleared-on _ _ _ _ (h .loop .inv .1) (omega (arith, h .before .before .before .pre)) (sym hint ∙ w .0 .taken)))
+          (λ w. rw (w .1) (cleared-off _ _ _ _ (h .loop .inv .1) (sym hint ∙ w .0 .left)))
+          (c .if1 .came),
+    )
 
--- src/code.rt:48:1
 same-length : tie.Need-same-length Inv-loop μ-loop
-same-length c = ?
+same-length c = c .before .loop .inv .1 .long
 
--- src/code.rt:48:1
 returns : tie.Need-returns Inv-loop μ-loop
-returns c = ?
+returns c metadata = let h = c .before in
+    let e : h .loop .p ≡ length (h .before .before .before .args .words .now) = omega (arith, h .loop .inv .0) in
+    hints-dropped _ _ _ metadata (h .before .before .before .pre) (rw e at (h .loop .inv .1))
 
 pub drop-hints-spec : {M : Type 1} → statement M
 drop-hints-spec =
@@ -66,14 +47,14 @@ drop-hints-spec =
     Inv-loop
     μ-loop
     loop-holds
-    mul-from-word
-    shared-slice-read-from-word
-    from-word-requires
-    is-plain-hint-requires
-    mul-keep
+    (λ c. search needs)
+    (λ c. search needs)
+    (λ c κs. search needs)
+    (λ c κs. search needs)
+    (λ c. search needs)
     slice-write-keep
-    add-p
-    loop-less
+    (λ c. search needs)
+    (λ c. search needs)
     loop-again
     same-length
     returns)

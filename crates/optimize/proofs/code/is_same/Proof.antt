@@ -1,55 +1,35 @@
+use mathlib.Core.Path.{_≡_, _∙_, sym, ap, refl}
+use Prim.Native.Nat.{_-_}
+use lib.ListN.{length}
+use Rattle.instruction.specs.Instruction.{instructionAt, toWord}
+use Rattle.optimize.specs.Loading.{Loaded, loaded-none, loaded-next, loaded-all, same-yes, same-no}
+use borrow.Author.Needs.{needs}
 use Rattle.optimize.proofs.code.is_same.Statement.{statement}
 use Rattle.optimize.proofs.code.is_same.Tie as tie
-use Rattle.optimize.proofs.code.is_same.Reads as reads
-use Rattle.optimize.proofs.code.is_same.Lts as lts
-use Rattle.instruction.proofs.Instruction.word.Reads as word-reads
-use Rattle.instruction.proofs.read.Reads as read-reads
 
 abbrev Inv-loop : tie.InvT-loop
-Inv-loop code words p₀ p = ?
+Inv-loop code words p₀ p = Loaded code words p
 
 abbrev μ-loop : tie.MeasureT-loop
-μ-loop code words p₀ p = ?
+μ-loop code words p₀ p = length words - p
 
--- src/code.rt:31:5
 loop-holds : tie.Need-loop-holds Inv-loop μ-loop
-loop-holds c = ?
+loop-holds c = loaded-none _ _
 
--- src/code.rt:32:12
-read-requires : tie.Need-read-requires Inv-loop μ-loop
-read-requires c κs = ?
+-- the word that was read
+word : (c : tie.After-word Inv-loop μ-loop) → c .word .result ≡ toWord (instructionAt (c .before .before .before .before .before .before .args .code .now) (c .before .before .before .loop .p))
+word c = c .word .ensures ∙ ap toWord (c .before .read .ensures)
 
--- src/code.rt:32:12
-word-requires : tie.Need-word-requires Inv-loop μ-loop
-word-requires c κs = ?
-
--- src/code.rt:32:49
-mul-if1 : tie.Need-mul-if1 Inv-loop μ-loop
-mul-if1 c = ?
-
--- src/code.rt:32:49
-shared-slice-read-if1 : tie.Need-shared-slice-read-if1 Inv-loop μ-loop
-shared-slice-read-if1 c = ?
-
--- src/code.rt:33:13
 returns : tie.Need-returns Inv-loop μ-loop
-returns c = ?
+returns c = let h = c .before .before .before .before .before in
+    same-no _ (h .before .before .before .args .words .now) _ (c .before .before .before .before .loop-test .taken) (λ e. c .if1 .taken (word (c .before .before) ∙ e))
 
--- src/code.rt:35:9
-add-p : tie.Need-add-p Inv-loop μ-loop
-add-p c = ?
-
--- src/code.rt:31:5
-loop-less : tie.Need-loop-less Inv-loop μ-loop
-loop-less c = ?
-
--- src/code.rt:31:5
 loop-again : tie.Need-loop-again Inv-loop μ-loop
-loop-again c = ?
+loop-again c = let h = c .before .before .before .before .before in
+    loaded-next _ _ _ (h .loop .inv) (c .before .before .before .before .loop-test .taken) (sym (word (c .before .before)) ∙ c .if1 .left)
 
--- src/code.rt:26:1
 returns-2 : tie.Need-returns-2 Inv-loop μ-loop
-returns-2 c = ?
+returns-2 c = same-yes _ _ (loaded-all _ _ _ (c .before .loop .inv) _ refl (c .loop-test .left))
 
 pub is-same-spec : {M : Type 1} → statement M
 is-same-spec =
@@ -58,12 +38,12 @@ is-same-spec =
     Inv-loop
     μ-loop
     loop-holds
-    read-requires
-    word-requires
-    mul-if1
-    shared-slice-read-if1
+    (λ c κs. search needs)
+    (λ c κs. search needs)
+    (λ c. search needs)
+    (λ c. search needs)
     returns
-    add-p
-    loop-less
+    (λ c. search needs)
+    (λ c. search needs)
     loop-again
     returns-2)

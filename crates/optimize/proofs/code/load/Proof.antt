@@ -1,55 +1,37 @@
+use mathlib.Core.Path.{_≡_, refl, _∙_, ap}
+use Prim.Native.Nat.{_-_}
+use native.Mathlib.Omega.{arith}
+use lib.ListN.{length, length-set}
+use Rattle.instruction.specs.Instruction.{toWord}
+use Rattle.optimize.specs.Loading.{Loaded, loaded-none, loaded-set, loaded-all}
+use borrow.Author.Needs.{needs}
 use Rattle.optimize.proofs.code.load.Statement.{statement}
 use Rattle.optimize.proofs.code.load.Tie as tie
-use Rattle.optimize.proofs.code.load.Reads as reads
-use Rattle.optimize.proofs.code.load.Lts as lts
-use Rattle.instruction.proofs.Instruction.word.Reads as word-reads
-use Rattle.instruction.proofs.read.Reads as read-reads
 
 abbrev Inv-loop : tie.InvT-loop
-Inv-loop code words₀ p₀ words p = ?
+Inv-loop code words₀ p₀ words p = (length words ≡ length words₀) × Loaded code words p
 
 abbrev μ-loop : tie.MeasureT-loop
-μ-loop code words₀ p₀ words p = ?
+μ-loop code words₀ p₀ words p = length words₀ - p
 
--- src/code.rt:19:5
 loop-holds : tie.Need-loop-holds Inv-loop μ-loop
-loop-holds c = ?
+loop-holds c = (refl, loaded-none _ _)
 
--- src/code.rt:20:20
 read-requires : tie.Need-read-requires Inv-loop μ-loop
-read-requires c κs = ?
+read-requires c κs = omega (arith, c .before .loop .inv .0)
 
--- src/code.rt:20:20
-word-requires : tie.Need-word-requires Inv-loop μ-loop
-word-requires c κs = ?
-
--- src/code.rt:20:9
-mul-words : tie.Need-mul-words Inv-loop μ-loop
-mul-words c = ?
-
--- src/code.rt:20:9
-slice-write-words : tie.Need-slice-write-words Inv-loop μ-loop
-slice-write-words c = ?
-
--- src/code.rt:21:9
-add-p : tie.Need-add-p Inv-loop μ-loop
-add-p c = ?
-
--- src/code.rt:19:5
 loop-less : tie.Need-loop-less Inv-loop μ-loop
-loop-less c = ?
+loop-less c = omega (arith, c .before .before .before .loop .inv .0)
 
--- src/code.rt:19:5
 loop-again : tie.Need-loop-again Inv-loop μ-loop
-loop-again c = ?
+loop-again c = let h = c .before .before .before in
+    (length-set (h .loop .words) _ _ ∙ h .loop .inv .0, loaded-set _ _ _ (h .loop .inv .1) (c .before .before .loop-test .taken) _ (c .word .ensures ∙ ap toWord (c .before .read .ensures)))
 
--- src/code.rt:14:1
 same-length : tie.Need-same-length Inv-loop μ-loop
-same-length c = ?
+same-length c = c .before .loop .inv .0
 
--- src/code.rt:14:1
 returns : tie.Need-returns Inv-loop μ-loop
-returns c = ?
+returns c = loaded-all _ _ _ (c .before .loop .inv .1) _ (c .before .loop .inv .0) (c .loop-test .left)
 
 pub load-spec : {M : Type 1} → statement M
 load-spec =
@@ -59,10 +41,10 @@ load-spec =
     μ-loop
     loop-holds
     read-requires
-    word-requires
-    mul-words
-    slice-write-words
-    add-p
+    (λ c κs. search needs)
+    (λ c. search needs)
+    (λ c. search needs)
+    (λ c. search needs)
     loop-less
     loop-again
     same-length

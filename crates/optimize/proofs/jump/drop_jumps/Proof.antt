@@ -1,54 +1,43 @@
+use mathlib.Core.Path.{_∙_}
+use native.Mathlib.Omega.{arith}
+use borrow.Author.Tests.{not-true}
+use Rattle.optimize.specs.Rounding.{Rounding, rounding-begin, rounding-asks, rounding-turn, rounding-last, rounding-end}
+use borrow.Author.Needs.{needs}
 use Rattle.optimize.proofs.jump.drop_jumps.Statement.{statement}
 use Rattle.optimize.proofs.jump.drop_jumps.Tie as tie
-use Rattle.optimize.proofs.jump.drop_jumps.Reads as reads
-use Rattle.optimize.proofs.jump.drop_jumps.Lts as lts
-use Rattle.optimize.proofs.jump.round.Reads as round-reads
 
 abbrev Inv-loop : tie.InvT-loop
-Inv-loop words work₀ k₀ work k = ?
+Inv-loop words work₀ k₀ work k = Rounding words work₀ work k
 
 abbrev μ-loop : tie.MeasureT-loop
-μ-loop words work₀ k₀ work k = ?
+μ-loop words work₀ k₀ work k = k
 
--- src/jump.rt:79:5
 loop-holds : tie.Need-loop-holds Inv-loop μ-loop
-loop-holds c = ?
+loop-holds c = rounding-begin _ _ (c .before .before .pre .1)
 
--- src/jump.rt:80:13
 round-requires : tie.Need-round-requires Inv-loop μ-loop
-round-requires c κs = ?
+round-requires c κs = let h = c .before .before in (rounding-asks _ _ _ _ (c .before .before .before .before .before .pre .0) (h .loop .inv), h .loop .inv .flags)
 
--- src/jump.rt:81:13
 same-length : tie.Need-same-length Inv-loop μ-loop
-same-length c = ?
+same-length c = c .before .before .before .round .kept .1 .0 ∙ c .before .before .before .before .before .before .loop .inv .only .long
 
--- src/jump.rt:81:13
 returns : tie.Need-returns Inv-loop μ-loop
-returns c = ?
+returns c metadata keep e = let f = c .before .before .before .round .ensures metadata in
+    rounding-last _ _ _ _ (c .before .before .before .before .before .before .before .before .before .pre .0) (c .before .before .before .before .before .before .loop .inv) metadata _ keep e (f .0) (f .1 (not-true _ (c .if1 .taken)))
 
--- src/jump.rt:83:9
-sub-k : tie.Need-sub-k Inv-loop μ-loop
-sub-k c = ?
-
--- src/jump.rt:79:5
-loop-less : tie.Need-loop-less Inv-loop μ-loop
-loop-less c = ?
-
--- src/jump.rt:79:5
 loop-again : tie.Need-loop-again Inv-loop μ-loop
-loop-again c = ?
+loop-again c = rounding-turn _ _ _ _ (c .before .before .before .before .before .before .before .before .before .pre .0) (c .before .before .before .before .before .before .loop .inv) _ (λ metadata. c .before .before .before .round .ensures metadata .0) (omega (arith, c .before .before .before .before .before .loop-test .taken))
 
--- src/jump.rt:85:5
 boundaries-requires : tie.Need-boundaries-requires Inv-loop μ-loop
-boundaries-requires c κs = ?
+boundaries-requires c κs = let h = c .before .before in
+    let r = rounding-asks _ _ _ _ (c .before .before .before .before .before .pre .0) (h .loop .inv) in
+    (h .loop .inv .flags, r .few, omega (arith, r .long))
 
--- src/jump.rt:74:1
 same-length-2 : tie.Need-same-length-2 Inv-loop μ-loop
-same-length-2 c = ?
+same-length-2 c = c .before .before .boundaries .kept .0 ∙ c .before .before .before .before .before .loop .inv .only .long
 
--- src/jump.rt:74:1
 returns-2 : tie.Need-returns-2 Inv-loop μ-loop
-returns-2 c = ?
+returns-2 c metadata keep e = rounding-end _ _ _ _ (c .before .before .before .before .before .before .before .before .pre .0) (c .before .before .before .before .before .loop .inv) metadata _ keep e (c .before .before .boundaries .ensures .0) (omega (arith, c .before .before .before .before .loop-test .left))
 
 pub drop-jumps-spec : {M : Type 1} → statement M
 drop-jumps-spec =
@@ -60,8 +49,8 @@ drop-jumps-spec =
     round-requires
     same-length
     returns
-    sub-k
-    loop-less
+    (λ c. search needs)
+    (λ c. search needs)
     loop-again
     boundaries-requires
     same-length-2

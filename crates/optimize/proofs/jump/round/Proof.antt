@@ -1,25 +1,21 @@
+use Rattle.optimize.specs.Rounding.{round-asks, round-does}
 use borrow.Author.Needs.{needs}
 use Rattle.optimize.proofs.jump.round.Statement.{statement}
 use Rattle.optimize.proofs.jump.round.Tie as tie
-use Rattle.optimize.proofs.jump.round.Reads as reads
-use Rattle.optimize.proofs.jump.round.Lts as lts
-use Rattle.optimize.proofs.jump.drop_idle.Reads as drop-idle-reads
 
--- src/jump.rt:69:5
-boundaries-requires : tie.Need-boundaries-requires
-boundaries-requires c κs = search needs
-
--- src/jump.rt:70:5
 drop-idle-requires : tie.Need-drop-idle-requires
-drop-idle-requires c κs = ?
+drop-idle-requires c κs = round-asks _ _ _ (c .before .before .before .before .before .before .before .pre .0) (c .before .before .before .boundaries .ensures .0)
 
--- src/jump.rt:65:1
-same-length : tie.Need-same-length
-same-length c = search needs
-
--- src/jump.rt:65:1
 returns : tie.Need-returns
-returns c = ?
+returns c metadata = let s = c .before .before .before .before .before .before .before .before .before .before in
+    let d = c .before .before .drop-idle .ensures in
+    round-does _ _ _ (s .pre .0) (c .before .before .before .before .before .before .boundaries .ensures .0) metadata _ (c .before .before .drop-idle .result) (d .0 metadata) (d .1)
 
 pub round-spec : {M : Type 1} → statement M
-round-spec = tie.close (tie.spec boundaries-requires drop-idle-requires same-length returns)
+round-spec =
+    tie.close
+    (tie.spec
+    (λ c κs. search needs)
+    drop-idle-requires
+    (λ c. search needs)
+    returns)

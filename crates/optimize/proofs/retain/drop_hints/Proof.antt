@@ -1,3 +1,7 @@
+use Prim.Native.Nat.{_-_}
+use native.Mathlib.Omega.{arith}
+use lib.ListN.{length}
+use Rattle.optimize.specs.Retained.{hints-useful}
 use borrow.Author.Needs.{needs}
 use Rattle.optimize.proofs.retain.drop_hints.Statement.{statement}
 use Rattle.optimize.proofs.retain.drop_hints.Tie as tie
@@ -39,7 +43,10 @@ same-length c = search needs
 
 -- src/retain.rt:17:1
 returns : tie.Need-returns
-returns c = ?
+returns c = 
+    let a = c .before .before .before .before .before .before .before .before .before .before .before .args in
+    hints-useful (a .words .now) (a .metadata .now) (a .work .now) (c .before .before .before .before .before .before .mark-anchors .last .1 .1 .0) (c .before .before .drop-hints .last .1 .0) (length (a .words .now) - 0) (omega arith) (c .before .before .before .before .before .before .before .before .before .before .before .pre .2)
+    (c .before .before .before .before .before .before .mark-anchors .ensures) (c .before .before .drop-hints .ensures (a .metadata .now))
 
 pub drop-hints-spec : {M : Type 1} → statement M
 drop-hints-spec =

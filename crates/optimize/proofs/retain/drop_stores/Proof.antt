@@ -1,3 +1,11 @@
+use mathlib.Core.Path.{refl}
+use Prim.Native.Nat.{_+_, _*_, _-_}
+use native.Mathlib.Omega.{arith}
+use lib.ListN.{length}
+use borrow.Rule.Slice.PartMut.{midOf}
+use Rattle.words.specs.Regions.{mid-long}
+use Rattle.effects.specs.Shape.{tablesOf}
+use Rattle.optimize.specs.Retained.{blocks-asks, stores-asks, stores-leave}
 use borrow.Author.Needs.{needs}
 use Rattle.optimize.proofs.retain.drop_stores.Statement.{statement}
 use Rattle.optimize.proofs.retain.drop_stores.Tie as tie
@@ -26,7 +34,11 @@ part-number-blocks-end c = search needs
 
 -- src/retain.rt:41:9
 number-blocks-requires : tie.Need-number-blocks-requires
-number-blocks-requires c κs = ?
+number-blocks-requires c κs = 
+    let s = c .before .before .before .before .before .before .before .before in
+    let a = s .args in
+    blocks-asks (tablesOf (a .functions .now) (a .externs .now) (a .cases .now)) (a .n) (midOf 0 (a .n) (a .work64 .now)) (a .metadata .now) (a .types .now) (a .work32 .now) (length (a .work64 .now)) (s .pre)
+    (mid-long (a .work64 .now) 0 (a .n) (omega (arith, s .pre .long64))) (3 * a .n + 1 - 0) (omega arith)
 
 -- src/retain.rt:44:24
 add-drop-dead-stores : tie.Need-add-drop-dead-stores
@@ -46,7 +58,11 @@ part-drop-dead-stores-end c = search needs
 
 -- src/retain.rt:42:5
 drop-dead-stores-requires : tie.Need-drop-dead-stores-requires
-drop-dead-stores-requires c κs = ?
+drop-dead-stores-requires c κs = 
+    let s = c .before .before .before .before .before .before .before .before .before .before .before .before .before in
+    let a = s .args in
+    stores-asks (tablesOf (a .functions .now) (a .externs .now) (a .cases .now)) (a .n) (3 * a .n + 1 - 0) (3 * a .n + 1 + a .n - 0) (midOf 0 (a .n) (a .work64 .now)) (a .metadata .now) (a .types .now) (a .work32 .now) (length (a .work64 .now)) (omega arith) (omega arith) (s .pre)
+    (mid-long (a .work64 .now) 0 (a .n) (omega (arith, s .pre .long64))) _ (c .before .before .before .before .number-blocks .last .0) (c .before .before .before .before .number-blocks .kept .0) (c .before .before .before .before .number-blocks .ensures .0) (c .before .before .before .before .number-blocks .ensures .1)
 
 -- src/retain.rt:27:1
 same-length : tie.Need-same-length
@@ -58,7 +74,12 @@ same-length-2 c = search needs
 
 -- src/retain.rt:27:1
 returns : tie.Need-returns
-returns c = ?
+returns c = 
+    let s = c .before .before .before .before .before .before .before .before .before .before .before .before .before .before .before .before .before .before in
+    let a = s .args in
+    λ constants.
+    stores-leave (tablesOf (a .functions .now) (a .externs .now) (a .cases .now)) (a .n) (3 * a .n + 1 - 0) (3 * a .n + 1 + a .n - 0) (midOf 0 (a .n) (a .work64 .now)) (a .metadata .now) (a .types .now) (a .work32 .now) (length (a .work64 .now)) (omega arith) (omega arith) (s .pre)
+    (mid-long (a .work64 .now) 0 (a .n) (omega (arith, s .pre .long64))) _ (c .before .before .before .before .before .before .before .before .before .number-blocks .last .0) (c .before .before .before .before .before .before .before .before .before .number-blocks .kept .0) (c .before .before .before .before .before .before .before .before .before .number-blocks .ensures .0) (c .before .before .before .before .before .before .before .before .before .number-blocks .ensures .1) (a .work64 .now) _ _ constants (a .functions .now) (a .externs .now) (a .cases .now) refl refl (c .before .before .before .before .drop-dead-stores .ensures .0 constants) (c .before .before .before .before .drop-dead-stores .ensures .1)
 
 pub drop-stores-spec : {M : Type 1} → statement M
 drop-stores-spec =

@@ -1,0 +1,277 @@
+-- The three steps that drop places, in lent memory.
+-- Assumes nothing.
+use mathlib.Core.Path.{_≡_, refl, sym, ap, _∙_}
+use mathlib.Core.Logic.{_⊎_, inl, inr}
+use mathlib.Core.Bool.{Bool, true, false, cond, _&&_, not}
+use mathlib.Core.List.{List, [], _∷_, _++_}
+use mathlib.Core.Option.{Option, none, some}
+use Prim.Native.Nat.{ℕ, zero, suc, _+_, _*_, _-_, _≤_, _<_}
+use native.Mathlib.Nat.{add-zero, zero-add}
+use native.Mathlib.Omega.{arith}
+use lib.Dec.{eqb}
+use lib.ListN.{length, getD, take, set, replicate, length-set, length-replicate}
+use borrow.Rule.Slice.PartMut.{midOf, putMid, postOf}
+use Rattle.words.specs.Lists.{mapFrom, length-mapFrom, tabulate, length-tabulate}
+use Rattle.words.specs.Regions.{mid-long, put-long, mid-put}
+use Rattle.unit.specs.Size.{metadataSize, work32Room, work64Room, maxInstructions}
+use Rattle.effects.specs.Shape.{Tables, Sections, Cell, tablesOf}
+use Rattle.effects.specs.Cells.{cellOf, cellsBy, cells-long}
+use Rattle.flow.specs.Blocks.{Numbered, numbered-start}
+use Rattle.flow.specs.BranchLaws.{BranchesInside}
+use Rattle.flow.specs.Flags.{Flags}
+use Rattle.flow.specs.Loop.{anchors, loopEnds, isPlainHint}
+use Rattle.flow.specs.Reach.{markAll}
+use Rattle.flow.specs.Marks.{Marked}
+use Rattle.liveness.specs.Dead.{Swept, sweptAt, sweepFrom, withoutDead, deadStores, isDead}
+use Rattle.liveness.specs.Droppable.{Droppable}
+use Rattle.liveness.specs.Sweep.{swept-keep}
+use Rattle.pc_map.specs.Boundary.{isKept}
+use Rattle.run.specs.Jumps.{rounds-bits, rounds-long}
+use Rattle.run.specs.Optimized.{bits-of}
+use Rattle.liveness.specs.Live.{Row, liveAfter, liveRows}
+use Rattle.answer.specs.Jump.{jumpRounds}
+use Rattle.answer.specs.Pass.{keptPlaces, usefulPlaces}
+use Rattle.optimize.specs.Jumping.{Rounds, endsIn, mapOf}
+use Rattle.optimize.specs.Parts.{sectionsIn}
+use Rattle.optimize.specs.Kept.{keepAt, endsAt, Useful, Stored, Retainable, Retains}
+use Rattle.optimize.specs.Steps.{back-within, back-before, back-after}
+use Rattle.liveness.specs.Only.{mid-mid}
+
+-- ---- flags stay flags
+
+useful-from : (marks : List ℕ) → Flags marks → (p : ℕ) (cells : List Cell) → Flags (mapFrom (λ p x. cond (isPlainHint (x .instruction)) 0 (getD marks p 0)) p cells)
+unfolding mapFrom
+useful-from marks f p [] q = omega arith
+useful-from marks f p (x ∷ cells) zero = go (isPlainHint (x .instruction))
+  where
+    go : (t : Bool) → cond t 0 (getD marks p 0) ≤ 1
+    go true = omega arith
+    go false = f p
+useful-from marks f p (x ∷ cells) (suc q) = useful-from marks f (suc p) cells q
+
+pub useful-flags : (marks : List ℕ) (cells : List Cell) → Flags marks → Flags (usefulPlaces marks cells)
+unfolding usefulPlaces
+useful-flags marks cells f = useful-from marks f 0 cells
+
+pub useful-long : (marks : List ℕ) (cells : List Cell) → length (usefulPlaces marks cells) ≡ length cells
+unfolding usefulPlaces
+useful-long marks cells = length-mapFrom _ 0 cells
+
+bit-flags : (l : List ℕ) (t : Bool) (m : List ℕ) → l ≡ cond t 1 0 ∷ m → Flags m → Flags l
+bit-flags l t m e f q = rw e (go t q)
+  where
+    go : (t : Bool) (q : ℕ) → getD (cond t 1 0 ∷ m) q 0 ≤ 1
+    go true zero = omega arith
+    go false zero = omega arith
+    go true (suc q) = f q
+    go false (suc q) = f q
+
+module _ (S : Sections) (leaders keep : List ℕ) (cells : List Cell) where
+  module _ (rows : List Row) where
+    sweep-flags : (p : ℕ) (xs : List Cell) → Flags (sweepFrom S (length cells) leaders keep rows p xs .keep)
+    unfolding sweepFrom
+    sweep-flags p [] = λ q. omega arith
+    sweep-flags p (x ∷ xs) =
+        let r : Swept = sweepFrom S (length cells) leaders keep rows (suc p) xs in
+        let a : Row = liveAfter S (length cells) leaders keep rows p x (r .before) in
+        bit-flags _ (isKept keep p && not (isDead S x a)) (r .keep) (swept-keep S leaders keep cells rows x (isKept keep p) a r) (sweep-flags (suc p) xs)
+
+    sweep-long : (p : ℕ) (xs : List Cell) → length (sweepFrom S (length cells) leaders keep rows p xs .keep) ≡ length xs
+    unfolding sweepFrom
+    sweep-long p [] = refl
+    sweep-long p (x ∷ xs) = ap length (swept-keep S leaders keep cells rows x (isKept keep p) _ (sweepFrom S (length cells) leaders keep rows (suc p) xs)) ∙ ap suc (sweep-long (suc p) xs)
+
+  pub dead-flags : Flags keep → Flags (deadStores S leaders keep cells)
+  unfolding deadStores withoutDead
+  dead-flags f = go (liveRows S leaders keep cells)
+    where
+      go : (o : Option (List Row)) → Flags (withoutDead S leaders keep cells o)
+      go none = f
+      go (some rows) = sweep-flags rows 0 cells
+
+  pub dead-long : length keep ≡ length cells → length (deadStores S leaders keep cells) ≡ length cells
+  unfolding deadStores withoutDead
+  dead-long e = go (liveRows S leaders keep cells)
+    where
+      go : (o : Option (List Row)) → length (withoutDead S leaders keep cells o) ≡ length cells
+      go none = e
+      go (some rows) = sweep-long rows 0 cells
+
+pub rounds-flags : (k : ℕ) (ends keep : List ℕ) (cells : List Cell) → Flags keep → Flags (jumpRounds k ends cells keep)
+rounds-flags k ends keep cells f p = elim (rounds-bits ends cells k keep (bits-of keep f) p) [ inl e ↦ rw e (omega arith) | inr e ↦ rw e (omega arith) ]
+
+mark-long : (l qs : List ℕ) → length (markAll l qs) ≡ length l
+unfolding markAll
+mark-long l [] = refl
+mark-long l (q ∷ qs) = mark-long (set l q 1) qs ∙ length-set l q 1
+
+anchors-long : (marks : List ℕ) (cells : List Cell) → length (anchors marks cells) ≡ length cells
+unfolding anchors
+anchors-long marks cells = mark-long (replicate (length cells) 0) (loopEnds 0 marks cells) ∙ length-replicate (length cells) 0
+
+-- ---- plain hints
+pub hints-useful : (words metadata work work₁ keep : List ℕ) (k : ℕ) → k ≡ length words → 3 * length words + 1 ≤ length work
+    → work₁ ≡ putMid (endsAt (length words)) (length words) work (anchors (midOf 0 (length words) work) (cellsBy words metadata))
+    → keep ≡ usefulPlaces (midOf 0 k work₁) (cellsBy words metadata)
+    → Useful words metadata work (keep ++ postOf 0 k work₁)
+hints-useful words metadata work work₁ keep k e room a u =
+    let n = length words in
+    let cells = cellsBy words metadata in
+    let long : length (anchors (midOf 0 n work) cells) ≡ n = anchors-long (midOf 0 n work) cells ∙ cells-long words metadata in
+    let fits : endsAt n + n ≤ length work = omega arith in
+    let whole : length work₁ ≡ length work = ap length a ∙ put-long work (endsAt n) n (anchors (midOf 0 n work) cells) long fits in
+    let marks : midOf 0 n work₁ ≡ midOf 0 n work = ap (λ (l : List ℕ). midOf 0 n l) a ∙ back-before work (endsAt n) n (anchors (midOf 0 n work) cells) fits long 0 n (omega arith) in
+    let kept : keep ≡ usefulPlaces (midOf 0 n work) cells = u ∙ rw (e, marks) in
+    let size : length keep ≡ k = ap length kept ∙ useful-long (midOf 0 n work) cells ∙ cells-long words metadata ∙ sym e in
+    let room₁ : 0 + k ≤ length work₁ = omega (arith, whole) in
+    record {
+      keep = ap (λ (j : ℕ). midOf 0 j (putMid 0 k work₁ keep)) (sym e) ∙ mid-put work₁ 0 k keep size room₁ ∙ kept;
+      ends = back-after work₁ 0 k keep room₁ size (endsAt n) n (omega arith) (omega (arith, whole)) ∙ ap (λ (l : List ℕ). midOf (endsAt n) n l) a ∙ mid-put work (endsAt n) n (anchors (midOf 0 n work) cells) long fits;
+    }
+
+-- ---- dead stores
+module _ (T : Tables) (n : ℕ) (words metadata types work32 : List ℕ) (room64 : ℕ)
+    (d : Retainable T n words metadata types (midOf 0 n work32) (midOf (keepAt n) n work32) (length work32) room64) (long : length words ≡ n) where
+  room : keepAt n + n ≤ length work32
+  room = omega (arith, d .long32)
+
+  front-long : length (midOf 0 (keepAt n) work32) ≡ keepAt n
+  front-long = mid-long work32 0 (keepAt n) (omega (arith, room))
+
+  front-part : (b i : ℕ) → b + i ≤ keepAt n → midOf b i (midOf 0 (keepAt n) work32) ≡ midOf b i work32
+  front-part b i h = mid-mid work32 0 (keepAt n) b i (omega (arith, room)) h ∙ ap (λ (m : ℕ). midOf m i work32) (zero-add b)
+
+  pub blocks-asks : (k : ℕ) → k ≡ keepAt n → Flags (midOf 0 n (midOf 0 k work32)) × Marked (midOf 0 n (midOf 0 k work32)) 0 × (n ≤ maxInstructions) × (3 * n + 1 ≤ length (midOf 0 k work32))
+  blocks-asks k e = rw (e, front-part 0 n (omega arith), front-long) (d .flags, d .one, d .few, omega arith)
+
+  -- what the numbering of blocks left
+  module _ (count : ℕ) (blocked : List ℕ) (size : length blocked ≡ keepAt n)
+      (b : Numbered (midOf 0 n (midOf 0 (keepAt n) work32)) (midOf n n blocked) (midOf (2 * n) (n + 1) (midOf 0 (keepAt n) work32)) (midOf (2 * n) (n + 1) blocked) count)
+      (o : blocked ≡ putMid n (2 * n + 1) (midOf 0 (keepAt n) work32) (midOf n (2 * n + 1) blocked)) where
+    abbrev now : List ℕ
+    now = putMid 0 (keepAt n) work32 blocked
+
+    fits : 0 + keepAt n ≤ length work32
+    fits = omega (arith, room)
+
+    same : length (putMid 0 (keepAt n) work32 blocked) ≡ length work32
+    same = put-long work32 0 (keepAt n) blocked size fits
+
+    part-now : (b i : ℕ) → b + i ≤ keepAt n → midOf b i (midOf 0 (keepAt n + n) now) ≡ midOf b i blocked
+    part-now b i h = mid-mid now 0 (keepAt n + n) b i (omega (arith, same, room)) (omega arith) ∙ back-within work32 0 (keepAt n) blocked fits size b i h
+
+    region : length (midOf n (2 * n + 1) blocked) ≡ 2 * n + 1
+    region = mid-long blocked n (2 * n + 1) (omega (arith, size))
+
+    leads-now : midOf 0 n (midOf 0 (keepAt n + n) now) ≡ midOf 0 n work32
+    leads-now = part-now 0 n (omega arith) ∙ ap (λ (l : List ℕ). midOf 0 n l) o
+        ∙ back-before (midOf 0 (keepAt n) work32) n (2 * n + 1) (midOf n (2 * n + 1) blocked) (omega (arith, front-long)) region 0 n (omega arith) ∙ front-part 0 n (omega arith)
+
+    keep-now : midOf (3 * n + 1) n (midOf 0 (keepAt n + n) now) ≡ midOf (keepAt n) n work32
+    keep-now = mid-mid now 0 (keepAt n + n) (keepAt n) n (omega (arith, same, room)) (omega arith) ∙ ap (λ (m : ℕ). midOf m n now) (zero-add (keepAt n))
+        ∙ back-after work32 0 (keepAt n) blocked fits size (keepAt n) n (omega arith) room
+
+    numbers : Numbered (midOf 0 n work32) (midOf n n blocked) (midOf (2 * n) (n + 1) (midOf 0 (keepAt n) work32)) (midOf (2 * n) (n + 1) blocked) count
+    numbers = rw (front-part 0 n (omega arith)) at b
+
+    leads-long : length (midOf 0 n work32) ≡ n
+    leads-long = mid-long work32 0 n (omega (arith, room))
+
+    pub stores-known : Droppable T n count words metadata types (midOf 0 n (midOf 0 (keepAt n + n) now)) (midOf n n (midOf 0 (keepAt n + n) now))
+        (midOf (2 * n) (n + 1) (midOf 0 (keepAt n + n) now)) (midOf (3 * n + 1) n (midOf 0 (keepAt n + n) now))
+    stores-known = rw (leads-now, part-now n n (omega arith), part-now (2 * n) (n + 1) (omega arith), keep-now) (record {
+      some = omega (arith, d .some);
+      most = d .few;
+      few = d .slots;
+      entries = omega (arith, d .entries);
+      long-words = long;
+      long-leaders = leads-long;
+      long-blocks = mid-long blocked n n (omega (arith, size));
+      long-starts = mid-long blocked (2 * n) (n + 1) (omega (arith, size));
+      long-keep = mid-long work32 (keepAt n) n room;
+      flags = d .flags;
+      one = d .one;
+      keep-flags = d .marked;
+      total = numbers .counted;
+      numbers = rw leads-long at (numbers .numbers);
+      places = λ b h. numbered-start (midOf 0 n work32) (midOf n n blocked) _ (midOf (2 * n) (n + 1) blocked) count (d .flags) numbers b (rw (← numbers .counted) h);
+      good = d .good;
+      operands = d .operands;
+      inside = rw long at (d .inside);
+    })
+
+    pub stores-room : 4 * n + 1 ≤ length (midOf 0 (keepAt n + n) (putMid 0 (keepAt n) work32 blocked))
+    stores-room = rw (mid-long now 0 (keepAt n + n) (omega (arith, same, room))) (omega arith)
+
+    -- and what dead stores leave then
+    module _ (work64 work64′ stored : List ℕ) (constants functions externs cases : List ℕ) (code : words ≡ midOf 0 n work64) (tables : T ≡ tablesOf functions externs cases)
+        (kept : stored ≡ putMid (3 * n + 1) n (midOf 0 (keepAt n + n) now) (deadStores (sectionsIn types constants functions externs cases) (midOf 0 n (midOf 0 (keepAt n + n) now)) (midOf (3 * n + 1) n (midOf 0 (keepAt n + n) now)) (cellsBy words metadata)))
+        (still : midOf 0 n work64′ ≡ midOf 0 n work64) where
+      abbrev dead : List ℕ
+      dead = deadStores (sectionsIn types constants functions externs cases) (midOf 0 n work32) (midOf (keepAt n) n work32) (cellsBy words metadata)
+
+      pub stores-stored : Stored n metadata types constants functions externs cases work32 work64 (putMid 0 (keepAt n + n) now stored) work64′
+      stores-stored =
+          let whole : length (midOf 0 (keepAt n + n) now) ≡ keepAt n + n = mid-long now 0 (keepAt n + n) (omega (arith, same, room)) in
+          let cells : length (cellsBy words metadata) ≡ n = cells-long words metadata ∙ long in
+          let size-dead : length dead ≡ n = dead-long _ (midOf 0 n work32) (midOf (keepAt n) n work32) (cellsBy words metadata) (mid-long work32 (keepAt n) n room ∙ sym cells) ∙ cells in
+          let at : stored ≡ putMid (keepAt n) n (midOf 0 (keepAt n + n) now) dead = kept ∙ rw (leads-now, keep-now) in
+          let inner : keepAt n + n ≤ length (midOf 0 (keepAt n + n) now) = omega (arith, whole) in
+          let size-stored : length stored ≡ keepAt n + n = ap length at ∙ put-long (midOf 0 (keepAt n + n) now) (keepAt n) n dead size-dead inner ∙ whole in
+          let outer : 0 + (keepAt n + n) ≤ length now = omega (arith, same, room) in
+          record {
+            keep =
+                ap (λ (m : ℕ). midOf m n (putMid 0 (keepAt n + n) now stored)) (sym (zero-add (keepAt n)))
+                ∙ back-within now 0 (keepAt n + n) stored outer size-stored (keepAt n) n (omega arith)
+                ∙ ap (λ (l : List ℕ). midOf (keepAt n) n l) at
+                ∙ mid-put (midOf 0 (keepAt n + n) now) (keepAt n) n dead size-dead inner
+                ∙ ap (λ (l : List ℕ). deadStores (sectionsIn types constants functions externs cases) (midOf 0 n work32) (midOf (keepAt n) n work32) (cellsBy l metadata)) code;
+            ends =
+                back-after now 0 (keepAt n + n) stored outer size-stored (keepAt n + endsAt n) n (omega arith) (omega (arith, same, d .long32))
+                ∙ back-after work32 0 (keepAt n) blocked fits size (keepAt n + endsAt n) n (omega arith) (omega (arith, d .long32));
+            code = still;
+          }
+
+-- the same, with the parts' lengths as the code has them
+module _ (T : Tables) (n k j : ℕ) (words metadata types work32 : List ℕ) (room64 : ℕ) (e : k ≡ keepAt n) (f : j ≡ keepAt n + n)
+    (d : Retainable T n words metadata types (midOf 0 n work32) (midOf (keepAt n) n work32) (length work32) room64) (long : length words ≡ n)
+    (count : ℕ) (blocked : List ℕ) (size : length blocked ≡ length (midOf 0 k work32))
+    (b : Numbered (midOf 0 n (midOf 0 k work32)) (midOf n n blocked) (midOf (2 * n) (n + 1) (midOf 0 k work32)) (midOf (2 * n) (n + 1) blocked) count)
+    (o : blocked ≡ putMid n (2 * n + 1) (midOf 0 k work32) (midOf n (2 * n + 1) blocked)) where
+  size′ : length blocked ≡ keepAt n
+  size′ = rw e at size ∙ front-long T n words metadata types work32 room64 d long
+
+  b′ : Numbered (midOf 0 n (midOf 0 (keepAt n) work32)) (midOf n n blocked) (midOf (2 * n) (n + 1) (midOf 0 (keepAt n) work32)) (midOf (2 * n) (n + 1) blocked) count
+  b′ = rw e at b
+
+  o′ : blocked ≡ putMid n (2 * n + 1) (midOf 0 (keepAt n) work32) (midOf n (2 * n + 1) blocked)
+  o′ = rw e at o
+
+  pub stores-asks : Droppable T n count words metadata types (midOf 0 n (midOf 0 j (putMid 0 k work32 blocked))) (midOf n n (midOf 0 j (putMid 0 k work32 blocked)))
+      (midOf (2 * n) (n + 1) (midOf 0 j (putMid 0 k work32 blocked))) (midOf (3 * n + 1) n (midOf 0 j (putMid 0 k work32 blocked)))
+      × (work64Room n (length types) ≤ room64)
+      × (4 * n + 1 ≤ length (midOf 0 j (putMid 0 k work32 blocked)))
+  stores-asks = rw (e, f) (stores-known T n words metadata types work32 room64 d long count blocked size′ b′ o′, d .long64, stores-room T n words metadata types work32 room64 d long count blocked size′ b′ o′)
+
+  pub stores-leave : (work64 work64′ stored constants functions externs cases : List ℕ) → words ≡ midOf 0 n work64 → T ≡ tablesOf functions externs cases
+      → stored
+      ≡ putMid (3 * n + 1) n (midOf 0 j (putMid 0 k work32 blocked))
+      (deadStores (sectionsIn types constants functions externs cases) (midOf 0 n (midOf 0 j (putMid 0 k work32 blocked))) (midOf (3 * n + 1) n (midOf 0 j (putMid 0 k work32 blocked))) (cellsBy words metadata))
+      → midOf 0 n work64′ ≡ midOf 0 n work64 → Stored n metadata types constants functions externs cases work32 work64 (putMid 0 j (putMid 0 k work32 blocked) stored) work64′
+  stores-leave work64 work64′ stored constants functions externs cases w t kept still =
+      rw (e, f) (stores-stored T n words metadata types work32 room64 d long count blocked size′ b′ o′ work64 work64′ stored constants functions externs cases w t (rw (e, f) at kept) still)
+
+-- ---- all three
+module _ (n : ℕ) (metadata types constants functions externs cases work32 work64 : List ℕ)
+    (d : Retainable (tablesOf functions externs cases) n (midOf 0 n work64) metadata types (midOf 0 n work32) (midOf (keepAt n) n work32) (length work32) (length work64)) where
+  abbrev words : List ℕ
+  words = midOf 0 n work64
+
+  abbrev cells : List Cell
+  cells = cellsBy words metadata
+
+  pub code-long : length (midOf 0 n work64) ≡ n
+  code-long = mid-long work64 0 n (omega (arith, d .long64))
+
+  rest : ℕ
+  rest = length work32 - keepAt n
