@@ -13,6 +13,7 @@ use Rattle.instruction.specs.Instruction.{Fields}
 use Rattle.unit.specs.Entry.{goodMetadata}
 use Rattle.unit.specs.Laws.{MetadataFields}
 use Rattle.unit.specs.Result.{Retained}
+use Rattle.unit.specs.Size.{maxInstructions}
 use Rattle.unit.specs.declared.Metadata.{Metadata}
 use Rattle.effects.specs.declared.Check.the-variants.{Passed}
 use Rattle.effects.specs.Check.{operandCheck}
@@ -41,12 +42,7 @@ use Rattle.run.specs.Program.{Function}
 use Rattle.run.specs.Relocated.{pick}
 use Rattle.run.specs.Retained.{Bits}
 use Rattle.run.specs.Returned.{resultFunction}
-use Rattle.clean.specs.Reading.{Fits, AllFit, retainedAt, noRetained}
-
--- metadata that fits, and is as a unit's is
-pub record Sound (cases : ℕ) (d : Metadata) : Type 0 where
-  pub fits : MetadataFields d
-  pub good : goodMetadata cases d ≡ true
+use Rattle.clean.specs.Reading.{Sound, Fits, AllFit, retainedAt, noRetained}
 
 abbrev pub AllSound : ℕ → List Cell → Type 0
 AllSound cases cells = (p : ℕ) → p < length cells → Sound cases (cellAt cells p .metadata)
@@ -180,7 +176,11 @@ placed-long before [] = refl
 placed-long before (r ∷ rs) = ap suc (placed-long before rs)
 
 -- where the places in `before` are words of 32 bits, so are those of what came of it
-pub placed-fits : (cases : ℕ) (before kept : List Retained) → ((p : ℕ) → p < length before → retainedAt before p .place < 2 ^ 32) → Again cases (length before) kept → AllFit (placedBy before kept)
+pub placed-fits : (cases : ℕ) (before kept : List Retained) → ((p : ℕ) → p < length before → retainedAt before p .place < 2 ^ 32) → Again cases (length before) kept
+    → AllFit cases (placedBy before kept)
 placed-fits cases before kept b a p h =
     let l : p < length kept = rw placed-long at h in
-    rw (placed-at before kept p l) (record { instruction = a .instructions p l; metadata = a .metadata p l .fits; place = b (retainedAt kept p .place) (a .places p l) })
+    rw (placed-at before kept p l) (record { instruction = a .instructions p l; metadata = a .metadata p l; place = b (retainedAt kept p .place) (a .places p l) })
+
+pub again-fits : (cases n : ℕ) (kept : List Retained) → n ≤ maxInstructions → Again cases n kept → AllFit cases kept
+again-fits cases n kept few a p h = record { instruction = a .instructions p h; metadata = a .metadata p h; place = let l = a .places p h in omega arith }

@@ -1,3 +1,6 @@
 pub mod Reading
 pub mod Fitting
 pub mod Placing
+pub mod Parts
+pub mod Whole
+pub mod Ready

@@ -1,6 +1,7 @@
 -- A result that lies at the front of a buffer is read back.
 -- Assumes nothing.
 use mathlib.Core.Path.{_≡_, refl, sym, ap, _∙_}
+use mathlib.Core.Bool.{true}
 use mathlib.Core.List.{List, [], _∷_, _++_, append-assoc}
 use Prim.Native.Nat.{ℕ, suc, _+_, _*_, _^_, _≤_, _<_}
 use native.Mathlib.Omega.{arith}
@@ -12,10 +13,11 @@ use Rattle.words.specs.Le.{fromLe, toLe, u32At, from-to, length-toLe}
 use Rattle.words.specs.Lists.{tabulate, length-tabulate, getD-tabulate}
 use Rattle.instruction.specs.Instruction.{Fields, instructionAt, toWord}
 use Rattle.instruction.specs.Laws.{read-back}
-use Rattle.unit.specs.Entry.{metadataAt, metadataBytes}
+use Rattle.unit.specs.Entry.{metadataAt, metadataBytes, goodMetadata}
 use Rattle.unit.specs.Laws.{MetadataFields, metadata-read-back, code-bytes-long, metadata-bytes-all-long, place-bytes-long, result-header-long}
 use Rattle.unit.specs.Result.{Retained, resultHeader, codeBytes, metadataBytesAll, placeBytes, resultBytes, resultMetadataAt, resultPlacesAt}
 use Rattle.unit.specs.Size.{resultHeaderSize, instructionSize, metadataSize}
+use Rattle.unit.specs.declared.Metadata.{Metadata}
 use Rattle.effects.specs.Shape.{noCell}
 use Rattle.pc_map.specs.Retaining.{Section, code-section, metadata-section, place-section}
 
@@ -45,14 +47,19 @@ noRetained = record { instruction = noCell .instruction; metadata = noCell .meta
 abbrev pub retainedAt : List Retained → ℕ → Retained
 retainedAt kept p = getD kept p noRetained
 
--- every field of an instruction of a result fits its width
-pub record Fits (r : Retained) : Type 0 where
+-- metadata whose fields fit their width, and that is as a unit's is
+pub record Sound (cases : ℕ) (d : Metadata) : Type 0 where
+  pub fits : MetadataFields d
+  pub good : goodMetadata cases d ≡ true
+
+-- an instruction of a result that can be read back, and be given to the next pass
+pub record Fits (cases : ℕ) (r : Retained) : Type 0 where
   pub instruction : Fields (r .instruction)
-  pub metadata : MetadataFields (r .metadata)
+  pub metadata : Sound cases (r .metadata)
   pub place : r .place < 2 ^ 32
 
-abbrev pub AllFit : List Retained → Type 0
-AllFit kept = (p : ℕ) → p < length kept → Fits (retainedAt kept p)
+abbrev pub AllFit : ℕ → List Retained → Type 0
+AllFit cases kept = (p : ℕ) → p < length kept → Fits cases (retainedAt kept p)
 
 -- ---- the sections
 
@@ -133,12 +140,12 @@ module _ (kept : List Retained) (p : ℕ) (h : p < length kept) where
       ∙ ap fromLe (middle (placeBytes (take p kept)) (toLe 4 (r .place)) (placeBytes (drop (suc p) kept)) (placeSize * p) placeSize (ahead-long place-section kept p h) (length-toLe 4 (r .place)))
       ∙ from-to 4 (r .place) f
 
-pub retained-back : (kept : List Retained) (rest : List ℕ) → AllFit kept → retainedIn (length kept) (resultBytes kept ++ rest) ≡ kept
+pub retained-back : (cases : ℕ) (kept : List Retained) (rest : List ℕ) → AllFit cases kept → retainedIn (length kept) (resultBytes kept ++ rest) ≡ kept
 unfolding retainedIn
-retained-back kept rest f =
+retained-back cases kept rest f =
     rw (code-in kept rest, metadata-in kept rest, places-in kept rest)
     (ext-getD noRetained (tabulate (length kept) _) kept (length-tabulate (length kept) _)
     (λ p h.
     let l : p < length kept = rw (length-tabulate (length kept) _) at h in
     let fits = f p l in
-    getD-tabulate (length kept) _ p noRetained l ∙ rw (instruction-back kept p l (fits .instruction), metadata-back kept p l (fits .metadata), place-back kept p l (fits .place))))
+    getD-tabulate (length kept) _ p noRetained l ∙ rw (instruction-back kept p l (fits .instruction), metadata-back kept p l (fits .metadata .fits), place-back kept p l (fits .place))))

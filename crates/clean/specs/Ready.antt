@@ -1,0 +1,181 @@
+-- Between two passes: a result at the front of a spare buffer, and what the next pass makes of it.
+-- Assumes nothing.
+use mathlib.Core.Path.{_≡_, refl, sym, ap, _∙_}
+use mathlib.Core.Bool.{Bool, true, false, cond, not, _&&_}
+use mathlib.Core.List.{List, [], _∷_, _++_, append-assoc, map}
+use Prim.Native.Nat.{ℕ, zero, suc, _+_, _*_, _/_, _^_, _≤_, _<_, min}
+use native.Mathlib.Nat.{mul-le-mul-left, zero-add}
+use native.Mathlib.Omega.{arith}
+use lib.Dec.{ltb}
+use lib.ListN.{length, getD, take, drop, length-append, length-map, take-append-drop, List·getD-map}
+use lib.Seq.{ext-getD, take-at, drop-at}
+use borrow.Author.Tests.{lt-ltb, le-ltb}
+use borrow.Rule.Slice.PartMut.{midOf, putMid}
+use Rattle.words.specs.Bytes.{Bytes, bytes-mid, le-fits}
+use Rattle.words.specs.Le.{u32At}
+use Rattle.words.specs.Lists.{tabulate, length-tabulate, getD-tabulate}
+use Rattle.words.specs.Regions.{mid-long}
+use Rattle.instruction.specs.Instruction.{Fields, instructionAt}
+use Rattle.unit.specs.Entry.{metadataAt, goodMetadata}
+use Rattle.unit.specs.Laws.{MetadataFields, unit-laid, result-long, result-header-long, code-bytes-long, metadata-bytes-all-long, place-bytes-long}
+use Rattle.unit.specs.Layout.{headerOf, typesOf, constantsOf, functionsOf, externsOf, casesOf, isUnit}
+use Rattle.unit.specs.Result.{Retained, resultHeader, codeBytes, metadataBytesAll, placeBytes, resultBytes, resultMetadataAt, resultPlacesAt}
+use Rattle.unit.specs.Size.{instructionSize, metadataSize, constantSize, caseSize, resultSize, setWords, maxSetWords, work64Room, maxInstructions}
+use Rattle.effects.specs.Shape.{Sections, Cell, cellAt, noCell}
+use Rattle.answer.specs.Answer.{sectionsOf}
+use Rattle.answer.specs.Clean.{cellOf, cellsAfter, placedBy}
+use Rattle.answer.specs.Pass.{Outcome, unchanged, refused, rewritten, isWorkedOn, optimized, pass}
+use Rattle.run.specs.Checked.{Well}
+use Rattle.run.specs.Given.{instruction-fields, constants-below}
+use Rattle.run.specs.Program.{Function}
+use Rattle.run.specs.Returned.{resultFunction}
+use Rattle.clean.specs.Parts.{Given, Room, sectionsIn, cellsIn, cells-in, written}
+use Rattle.clean.specs.Reading.{Sound, AllFit, placeSize, codeIn, metadataIn, placesIn, retainedIn, retainedAt, noRetained, code-in, metadata-in, places-in, metadata-back, place-back, retained-back}
+use Rattle.clean.specs.Fitting.{AllSound, Again, optimized-again, placed-long, placed-fits}
+use Rattle.clean.specs.Placing.{composed, composed-places}
+
+-- room for n instructions is room for fewer
+pub room-fewer : (k n s out work32 work64 : ℕ) → k ≤ n → Room n s out work32 work64 → Room k s out work32 work64
+room-fewer k n s out work32 work64 h r =
+    let rows : min k (maxSetWords / setWords s) ≤ min n (maxSetWords / setWords s) = omega arith in
+    let sets : 3 * setWords s * min k (maxSetWords / setWords s) ≤ 3 * setWords s * min n (maxSetWords / setWords s) = mul-le-mul-left (3 * setWords s) rows in
+    record {
+      out-room = let o = r .out-room in omega arith;
+      room32 = let o = r .room32 in omega arith;
+      room64 = let o = r .room64 in omega arith;
+    }
+
+-- entries of the unit's cases
+abbrev pub casesIn : List ℕ → ℕ
+casesIn u = length (casesOf u) / caseSize
+
+-- the result of k instructions in `from` may be given to a pass that writes to `to`
+pub record Ready (u from : List ℕ) (k to work32 work64 : ℕ) : Type 0 where
+  pub laid : isUnit u ≡ true
+  pub typed : headerOf u .counts .types ≡ headerOf u .counts .locals
+  pub few : k ≤ maxInstructions
+  pub long : resultSize k ≤ length from
+  pub good : (p : ℕ) → p < k → goodMetadata (casesIn u) (metadataAt (metadataIn k from) p) ≡ true
+  pub whole : take (resultSize k) from ≡ resultBytes (retainedIn k from)
+  pub room : Room k (length (typesOf u)) to work32 work64
+
+-- "with old places in the given unit"
+unfoldable pub placedOutcome : List Retained → Outcome → Outcome
+placedOutcome before unchanged = unchanged
+placedOutcome before (refused k p) = refused k p
+placedOutcome before (rewritten kept) = rewritten (placedBy before kept)
+
+-- what a later pass makes of the code `before`
+abbrev pub laterOutcome : Sections → List Retained → Outcome
+laterOutcome S before = placedOutcome before (pass S (cellsAfter before))
+
+pub before-long : (k : ℕ) (from : List ℕ) → length (retainedIn k from) ≡ k
+unfolding retainedIn
+before-long k from = length-tabulate k _
+
+before-at : (k : ℕ) (from : List ℕ) (p : ℕ) → p < k
+    → retainedAt (retainedIn k from) p ≡ record { instruction = instructionAt (codeIn k from) p; metadata = metadataAt (metadataIn k from) p; place = u32At (placesIn k from) (placeSize * p) }
+unfolding retainedIn
+before-at k from p h = getD-tabulate k _ p noRetained h
+
+cell-before : (k : ℕ) (from : List ℕ) (p : ℕ) → p < k
+    → cellAt (cellsAfter (retainedIn k from)) p ≡ record { instruction = instructionAt (codeIn k from) p; metadata = metadataAt (metadataIn k from) p }
+cell-before k from p h = List·getD-map cellOf (retainedIn k from) p noRetained ∙ ap cellOf (before-at k from p h)
+
+cells-before-long : (k : ℕ) (from : List ℕ) → length (cellsAfter (retainedIn k from)) ≡ k
+cells-before-long k from = length-map (retainedIn k from) cellOf ∙ before-long k from
+
+cells-before : (k : ℕ) (from : List ℕ) → Bytes from → cellsIn k (codeIn k from) (metadataIn k from) ≡ cellsAfter (retainedIn k from)
+cells-before k from b =
+    cells-in k (codeIn k from) (metadataIn k from) (bytes-mid 16 (instructionSize * k) from b)
+    ∙ ext-getD noCell (tabulate k _) (cellsAfter (retainedIn k from)) (length-tabulate k _ ∙ sym (cells-before-long k from))
+    (λ p h. let l : p < k = rw (length-tabulate k _) at h in getD-tabulate k _ p noCell l ∙ sym (cell-before k from p l))
+
+metadata-fields : (l : List ℕ) (p : ℕ) → Bytes l → MetadataFields (metadataAt l p)
+unfolding metadataAt
+metadata-fields l p b =
+    record {
+      kind-fits = b (metadataSize * p);
+      ok-fits = b (metadataSize * p + 1);
+      array-fits = le-fits 2 l (metadataSize * p + 2) b;
+      first-fits = le-fits 4 l (metadataSize * p + 4) b;
+      second-fits = le-fits 4 l (metadataSize * p + 8) b;
+      end-fits = le-fits 4 l (metadataSize * p + 12) b;
+    }
+
+module _ {u from : List ℕ} {k to work32 work64 : ℕ} (r : Ready u from k to work32 work64) (bu : Bytes u) (bf : Bytes from) where
+  abbrev before : List Retained
+  before = retainedIn k from
+
+  abbrev S : Sections
+  S = sectionsOf u
+
+  abbrev F : Function
+  F = resultFunction S before
+
+  ready-well : Well F
+  unfolding resultFunction sectionsOf
+  ready-well =
+      record {
+        locals = unit-laid u (r .laid) .locals;
+        described = rw (length-map before cellOf) (omega arith);
+        fields = λ p h.
+            let l : p < k = rw (cells-before-long k from) at h in
+            rw (cell-before k from p l) (instruction-fields (codeIn k from) p (bytes-mid 16 (instructionSize * k) from bf));
+        constants = constants-below (constantsOf u) (bytes-mid (headerOf u .offsets .constants) (constantSize * headerOf u .counts .constants) u bu);
+      }
+
+  ready-sound : AllSound (casesIn u) (cellsAfter before)
+  ready-sound p h =
+      let l : p < k = rw (cells-before-long k from) at h in
+      rw (cell-before k from p l) (record { fits = metadata-fields (metadataIn k from) p (bytes-mid (resultMetadataAt k) (metadataSize * k) from bf); good = r .good p l })
+
+  pub ready-places : (p : ℕ) → p < length before → retainedAt before p .place < 2 ^ 32
+  ready-places p h =
+      let l : p < k = rw (before-long k from) at h in
+      rw (before-at k from p l) (le-fits 4 (placesIn k from) (placeSize * p) (bytes-mid (resultPlacesAt k) (placeSize * k) from bf))
+
+  same-sections : sectionsIn (typesOf u) (constantsOf u) (functionsOf u) (externsOf u) (casesOf u) ≡ S
+  unfolding sectionsOf
+  same-sections = rw (unit-laid u (r .laid) .lengths .types ∙ r .typed)
+
+  ready-given : 1 < k → Given k (codeIn k from) (metadataIn k from) (sectionsIn (typesOf u) (constantsOf u) (functionsOf u) (externsOf u) (casesOf u))
+  ready-given h =
+      let long = r .long in
+      let code : length (codeIn k from) ≡ instructionSize * k = mid-long from 16 (instructionSize * k) (omega arith) in
+      record {
+        some = h;
+        few = r .few;
+        code-long = omega (arith, code);
+        metadata-long = mid-long from (resultMetadataAt k) (metadataSize * k) (omega arith);
+        slots = rw (unit-laid u (r .laid) .lengths .types ∙ r .typed) (unit-laid u (r .laid) .locals);
+        good = r .good;
+        code-bytes = bytes-mid 16 (instructionSize * k) from bf;
+        constant-bytes = bytes-mid (headerOf u .offsets .constants) (constantSize * headerOf u .counts .constants) u bu;
+      }
+
+  -- the parts that were found are what a pass may be given
+  module _ (code metadata types constants functions externs cases : List ℕ) (e₁ : code ≡ codeIn k from) (e₂ : metadata ≡ metadataIn k from) (e₃ : types ≡ typesOf u)
+      (e₄ : constants ≡ constantsOf u) (e₅ : functions ≡ functionsOf u) (e₆ : externs ≡ externsOf u) (e₇ : cases ≡ casesOf u) where
+    pub later-given : 1 < k → Given k code metadata (sectionsIn types constants functions externs cases) × Room k (length types) to work32 work64
+    later-given h = rw (e₁, e₂, e₃, e₄, e₅, e₆, e₇) (ready-given h, r .room)
+
+    pub later-answer : optimized (sectionsOf u) (cellsAfter (retainedIn k from)) ≡ optimized (sectionsIn types constants functions externs cases) (cellsIn k code metadata)
+    later-answer = rw (e₁, e₂, e₃, e₄, e₅, e₆, e₇, same-sections, cells-before k from bf)
+
+  -- "n under 2" is unchanged
+  pub pass-small : k < 2 → pass S (cellsAfter before) ≡ unchanged
+  unfolding pass isWorkedOn
+  pass-small h = rw (cells-before-long k from, le-ltb 1 k (omega arith))
+
+  worked : 2 ≤ k → isWorkedOn (length (cellsAfter before)) ≡ true
+  unfolding isWorkedOn
+  worked h = rw (cells-before-long k from, lt-ltb 1 k (omega arith), le-ltb maxInstructions k (r .few))
+
+  pub pass-worked : 2 ≤ k → pass S (cellsAfter before) ≡ optimized S (cellsAfter before)
+  unfolding pass
+  pass-worked h = rw (worked h)
+
+  pub ready-again : 2 ≤ k → (kept : List Retained) → optimized S (cellsAfter before) ≡ rewritten kept → Again (casesIn u) k kept
+  unfolding resultFunction
+  ready-again h kept e = rw (cells-before-long k from) at (optimized-again F ready-well (casesIn u) ready-sound (worked h) kept e)
