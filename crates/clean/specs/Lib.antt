@@ -4,3 +4,4 @@ pub mod Placing
 pub mod Parts
 pub mod Whole
 pub mod Ready
+pub mod Told

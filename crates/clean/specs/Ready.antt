@@ -3,7 +3,7 @@
 use mathlib.Core.Path.{_≡_, refl, sym, ap, _∙_}
 use mathlib.Core.Bool.{Bool, true, false, cond, not, _&&_}
 use mathlib.Core.List.{List, [], _∷_, _++_, append-assoc, map}
-use Prim.Native.Nat.{ℕ, zero, suc, _+_, _*_, _/_, _^_, _≤_, _<_, min}
+use Prim.Native.Nat.{ℕ, zero, suc, _+_, _-_, _*_, _/_, _^_, _≤_, _<_, min}
 use native.Mathlib.Nat.{mul-le-mul-left, zero-add}
 use native.Mathlib.Omega.{arith}
 use lib.Dec.{ltb}
@@ -20,7 +20,7 @@ use Rattle.unit.specs.Entry.{metadataAt, goodMetadata}
 use Rattle.unit.specs.Laws.{MetadataFields, unit-laid, result-long, result-header-long, code-bytes-long, metadata-bytes-all-long, place-bytes-long}
 use Rattle.unit.specs.Layout.{headerOf, typesOf, constantsOf, functionsOf, externsOf, casesOf, isUnit}
 use Rattle.unit.specs.Result.{Retained, resultHeader, codeBytes, metadataBytesAll, placeBytes, resultBytes, resultMetadataAt, resultPlacesAt}
-use Rattle.unit.specs.Size.{instructionSize, metadataSize, constantSize, caseSize, resultSize, setWords, maxSetWords, work64Room, maxInstructions}
+use Rattle.unit.specs.Size.{instructionSize, metadataSize, constantSize, caseSize, resultHeaderSize, resultSize, setWords, maxSetWords, work64Room, maxInstructions}
 use Rattle.effects.specs.Shape.{Sections, Cell, cellAt, noCell}
 use Rattle.answer.specs.Answer.{sectionsOf}
 use Rattle.answer.specs.Clean.{cellOf, cellsAfter, placedBy}
@@ -103,6 +103,13 @@ metadata-fields l p b =
       end-fits = le-fits 4 l (metadataSize * p + 12) b;
     }
 
+-- the parts of a result between its sections' starts
+pub code-part : (from : List ℕ) (k a : ℕ) → a ≡ resultMetadataAt k → midOf resultHeaderSize (a - resultHeaderSize) from ≡ codeIn k from
+code-part from k a e = let size : a - resultHeaderSize ≡ instructionSize * k = omega arith in rw size
+
+pub metadata-part : (from : List ℕ) (k a b : ℕ) → a ≡ resultMetadataAt k → b ≡ resultPlacesAt k → midOf a (b - a) from ≡ metadataIn k from
+metadata-part from k a b e f = let size : b - a ≡ metadataSize * k = omega arith in rw (size, e)
+
 module _ {u from : List ℕ} {k to work32 work64 : ℕ} (r : Ready u from k to work32 work64) (bu : Bytes u) (bf : Bytes from) where
   abbrev before : List Retained
   before = retainedIn k from
@@ -179,3 +186,90 @@ module _ {u from : List ℕ} {k to work32 work64 : ℕ} (r : Ready u from k to w
   pub ready-again : 2 ≤ k → (kept : List Retained) → optimized S (cellsAfter before) ≡ rewritten kept → Again (casesIn u) k kept
   unfolding resultFunction
   ready-again h kept e = rw (cells-before-long k from) at (optimized-again F ready-well (casesIn u) ready-sound (worked h) kept e)
+
+  -- the old places of the code before
+  pub ready-old : placesIn k from ≡ placeBytes before
+  ready-old =
+      let split : from ≡ resultBytes before ++ drop (resultSize k) from = sym (take-append-drop (resultSize k) from) ∙ ap (λ (l : List ℕ). l ++ drop (resultSize k) from) (r .whole) in
+      ap (placesIn k) split ∙ (rw (before-long k from) at (places-in before (drop (resultSize k) from)))
+
+-- ---- what a pass wrote
+
+-- a result that was written to a buffer
+module _ (cases : ℕ) (kept : List Retained) (to to′ : List ℕ) (e : to′ ≡ putMid 0 (resultSize (length kept)) to (resultBytes kept)) where
+  abbrev j : ℕ
+  j = length kept
+
+  abbrev rest : List ℕ
+  rest = drop (resultSize (length kept)) to
+
+  pub written-places : placesIn (length kept) to′ ≡ placeBytes kept
+  written-places = ap (placesIn j) e ∙ places-in kept rest
+
+  pub written-long : resultSize (length kept) ≤ length to → resultSize (length kept) ≤ length to′
+  written-long h = rw e (rw (length-append (resultBytes kept) rest, result-long kept) (omega arith))
+
+  module _ (f : AllFit cases kept) where
+    pub written-back : retainedIn (length kept) to′ ≡ kept
+    written-back = ap (retainedIn j) e ∙ retained-back cases kept rest f
+
+    written-whole : take (resultSize j) to′ ≡ resultBytes (retainedIn j to′)
+    written-whole = ap (take (resultSize j)) e ∙ take-at (resultBytes kept) rest (resultSize j) (result-long kept) ∙ ap resultBytes (sym written-back)
+
+    written-good : (p : ℕ) → p < j → goodMetadata cases (metadataAt (metadataIn j to′) p) ≡ true
+    written-good p h =
+        let m : metadataIn j to′ ≡ metadataBytesAll kept = ap (metadataIn j) e ∙ metadata-in kept rest in
+        rw (m, metadata-back kept p h (f p h .metadata .fits)) (f p h .metadata .good)
+
+    -- it may be given to the next pass
+    pub written-ready : (u : List ℕ) (n out work32 work64 : ℕ) → isUnit u ≡ true → headerOf u .counts .types ≡ headerOf u .counts .locals → casesIn u ≡ cases
+        → n ≤ maxInstructions → length kept ≤ n → resultSize n ≤ length to → Room n (length (typesOf u)) out work32 work64
+        → Ready u to′ (length kept) out work32 work64
+    written-ready u n out work32 work64 laid typed c few fewer fits room =
+        record {
+          laid = laid;
+          typed = typed;
+          few = omega arith;
+          long = written-long (omega arith);
+          good = rw c written-good;
+          whole = written-whole;
+          room = room-fewer j n (length (typesOf u)) out work32 work64 fewer room;
+        }
+
+-- ---- composed places
+
+placed-code : (before kept : List Retained) → codeBytes (placedBy before kept) ≡ codeBytes kept
+unfolding placedBy codeBytes
+placed-code before [] = refl
+placed-code before (r ∷ rs) = rw (placed-code before rs)
+
+placed-metadata : (before kept : List Retained) → metadataBytesAll (placedBy before kept) ≡ metadataBytesAll kept
+unfolding placedBy metadataBytesAll
+placed-metadata before [] = refl
+placed-metadata before (r ∷ rs) = rw (placed-metadata before rs)
+
+-- the places of a result replaced
+places-put : (kept : List Retained) (rest ys : List ℕ) → length ys ≡ placeSize * length kept
+    → putMid (resultPlacesAt (length kept)) (placeSize * length kept) (resultBytes kept ++ rest) ys ≡ (resultHeader (length kept) ++ codeBytes kept ++ metadataBytesAll kept ++ ys) ++ rest
+unfolding resultBytes
+places-put kept rest ys e =
+    let k = length kept in
+    let a = resultHeader k ++ codeBytes kept ++ metadataBytesAll kept in
+    let long : length a ≡ resultPlacesAt k = simp (length-append, result-header-long, code-bytes-long, metadata-bytes-all-long) in
+    let split : resultBytes kept ++ rest ≡ a ++ (placeBytes kept ++ rest) = append-assoc a (placeBytes kept) rest in
+    rw (split, take-at a (placeBytes kept ++ rest) (resultPlacesAt k) long, drop-at a (placeBytes kept ++ rest) (resultPlacesAt k) long, drop-at (placeBytes kept) rest (placeSize * k) (place-bytes-long kept))
+    (sym (append-assoc a ys rest))
+
+pub places-composed : (before kept : List Retained) (to to₁ to₂ old : List ℕ) → old ≡ placeBytes before
+    → to₁ ≡ putMid 0 (resultSize (length kept)) to (resultBytes kept)
+    → to₂ ≡ putMid (resultPlacesAt (length kept)) (placeSize * length kept) to₁ (composed old (placesIn (length kept) to₁) (length kept))
+    → composed (placeBytes before) (placeBytes kept) (length kept) ≡ placeBytes (placedBy before kept)
+    → to₂ ≡ putMid 0 (resultSize (length (placedBy before kept))) to (resultBytes (placedBy before kept))
+unfolding resultBytes
+places-composed before kept to to₁ to₂ old o e₁ e₂ c =
+    let rest = drop (resultSize (length kept)) to in
+    let ys : List ℕ = placeBytes (placedBy before kept) in
+    let found : composed old (placesIn (length kept) to₁) (length kept) ≡ ys = rw (o, written-places 0 kept to to₁ e₁) c in
+    let long : length ys ≡ placeSize * length kept = place-bytes-long (placedBy before kept) ∙ rw (placed-long before kept) in
+    let put : to₂ ≡ (resultHeader (length kept) ++ codeBytes kept ++ metadataBytesAll kept ++ ys) ++ rest = e₂ ∙ rw (found, e₁) (places-put kept rest ys long) in
+    put ∙ rw (placed-long before kept, placed-code before kept, placed-metadata before kept)

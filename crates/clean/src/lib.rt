@@ -1,5 +1,6 @@
 // The cleaning: up to three passes.
 mod buffer;
+mod later;
 mod parts;
 mod pass;
 
