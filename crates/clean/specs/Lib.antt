@@ -5,3 +5,4 @@ pub mod Parts
 pub mod Whole
 pub mod Ready
 pub mod Told
+pub mod Cleaning

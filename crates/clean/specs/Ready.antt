@@ -183,15 +183,33 @@ module _ {u from : List ℕ} {k to work32 work64 : ℕ} (r : Ready u from k to w
   unfolding pass
   pass-worked h = rw (worked h)
 
-  pub ready-again : 2 ≤ k → (kept : List Retained) → optimized S (cellsAfter before) ≡ rewritten kept → Again (casesIn u) k kept
+  worked-again : isWorkedOn (length (cellsAfter before)) ≡ true → (kept : List Retained) → optimized S (cellsAfter before) ≡ rewritten kept → Again (casesIn u) k kept
   unfolding resultFunction
-  ready-again h kept e = rw (cells-before-long k from) at (optimized-again F ready-well (casesIn u) ready-sound (worked h) kept e)
+  worked-again h kept e = rw (cells-before-long k from) at (optimized-again F ready-well (casesIn u) ready-sound h kept e)
+
+  pub ready-again : 2 ≤ k → (kept : List Retained) → optimized S (cellsAfter before) ≡ rewritten kept → Again (casesIn u) k kept
+  ready-again h = worked-again (worked h)
 
   -- the old places of the code before
   pub ready-old : placesIn k from ≡ placeBytes before
   ready-old =
       let split : from ≡ resultBytes before ++ drop (resultSize k) from = sym (take-append-drop (resultSize k) from) ∙ ap (λ (l : List ℕ). l ++ drop (resultSize k) from) (r .whole) in
       ap (placesIn k) split ∙ (rw (before-long k from) at (places-in before (drop (resultSize k) from)))
+
+  -- what it rewrote fits again
+  pub later-made : (kept : List Retained) → laterOutcome S before ≡ rewritten kept → AllFit (casesIn u) kept × (length kept ≤ k)
+  unfolding placedOutcome pass
+  later-made kept e = go (isWorkedOn (length (cellsAfter before))) refl (optimized S (cellsAfter before)) refl e
+    where
+      go : (t : Bool) → isWorkedOn (length (cellsAfter before)) ≡ t → (q : Outcome) → optimized S (cellsAfter before) ≡ q → placedOutcome before (cond t q unchanged) ≡ rewritten kept
+          → AllFit (casesIn u) kept × (length kept ≤ k)
+      go true f unchanged g e = let z : _≡_ {A = ℕ} 0 1 = cc in absurd (omega arith)
+      go true f (refused m p) g e = let z : _≡_ {A = ℕ} 0 1 = cc in absurd (omega arith)
+      go true f (rewritten made) g e =
+          let same : placedBy before made ≡ kept = cc in
+          let again : Again (casesIn u) k made = worked-again f made g in
+          rw (← same) (placed-fits (casesIn u) before made ready-places (rw (before-long k from) again), rw (placed-long before made) (again .few))
+      go false f q g e = let z : _≡_ {A = ℕ} 0 1 = cc in absurd (omega arith)
 
 -- ---- what a pass wrote
 
