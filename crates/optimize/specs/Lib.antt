@@ -7,6 +7,7 @@ pub mod Numbered
 pub mod Chain
 pub mod Concluded
 pub mod Retained
+pub mod Retaining
 pub mod Cleared
 pub mod Loading
 pub mod Rounding

@@ -9,7 +9,8 @@ use Prim.Native.Nat.{ℕ, zero, suc, _+_, _*_, _-_, _≤_, _<_}
 use native.Mathlib.Nat.{add-zero, zero-add}
 use native.Mathlib.Omega.{arith}
 use lib.Dec.{eqb}
-use lib.ListN.{length, getD, take, set, replicate, length-set, length-replicate}
+use lib.ListN.{length, getD, take, set, replicate, length-set, length-replicate, length-append}
+use lib.Seq.{take-at, drop-at, take-length}
 use borrow.Rule.Slice.PartMut.{midOf, putMid, postOf}
 use Rattle.words.specs.Lists.{mapFrom, length-mapFrom, tabulate, length-tabulate}
 use Rattle.words.specs.Regions.{mid-long, put-long, mid-put}
@@ -25,7 +26,7 @@ use Rattle.flow.specs.Marks.{Marked}
 use Rattle.liveness.specs.Dead.{Swept, sweptAt, sweepFrom, withoutDead, deadStores, isDead}
 use Rattle.liveness.specs.Droppable.{Droppable}
 use Rattle.liveness.specs.Sweep.{swept-keep}
-use Rattle.pc_map.specs.Boundary.{isKept}
+use Rattle.pc_map.specs.Boundary.{isKept, boundary}
 use Rattle.run.specs.Jumps.{rounds-bits, rounds-long}
 use Rattle.run.specs.Optimized.{bits-of}
 use Rattle.liveness.specs.Live.{Row, liveAfter, liveRows}
@@ -260,18 +261,3 @@ module _ (T : Tables) (n k j : ℕ) (words metadata types work32 : List ℕ) (ro
       → midOf 0 n work64′ ≡ midOf 0 n work64 → Stored n metadata types constants functions externs cases work32 work64 (putMid 0 j (putMid 0 k work32 blocked) stored) work64′
   stores-leave work64 work64′ stored constants functions externs cases w t kept still =
       rw (e, f) (stores-stored T n words metadata types work32 room64 d long count blocked size′ b′ o′ work64 work64′ stored constants functions externs cases w t (rw (e, f) at kept) still)
-
--- ---- all three
-module _ (n : ℕ) (metadata types constants functions externs cases work32 work64 : List ℕ)
-    (d : Retainable (tablesOf functions externs cases) n (midOf 0 n work64) metadata types (midOf 0 n work32) (midOf (keepAt n) n work32) (length work32) (length work64)) where
-  abbrev words : List ℕ
-  words = midOf 0 n work64
-
-  abbrev cells : List Cell
-  cells = cellsBy words metadata
-
-  pub code-long : length (midOf 0 n work64) ≡ n
-  code-long = mid-long work64 0 n (omega (arith, d .long64))
-
-  rest : ℕ
-  rest = length work32 - keepAt n

@@ -1,46 +1,33 @@
-use mathlib.Core.Path.{_≡_, refl, sym, ap, _∙_}
+use mathlib.Core.Path.{refl}
 use Prim.Native.Nat.{_-_}
-use native.Mathlib.Omega.{arith}
 use lib.ListN.{length}
-use Rattle.effects.specs.Shape.{tablesOf, Sections}
-use Rattle.answer.specs.Pass.{refused}
-use Rattle.optimize.specs.Parts.{tells-refused, tells-same, sectionsIn}
+use Rattle.optimize.specs.Parts.{tells-same, sectionsIn}
 use Rattle.optimize.specs.Chain.{marks-retainable, kept-finished, kept-answer}
 use borrow.Author.Needs.{needs}
 use Rattle.optimize.proofs.parts.after_loops.Statement.{statement}
 use Rattle.optimize.proofs.parts.after_loops.Tie as tie
-use Rattle.optimize.proofs.parts.after_loops.Reads as reads
-use Rattle.optimize.proofs.parts.after_loops.Lts as lts
-use Rattle.optimize.proofs.parts.finish.Reads as finish-reads
-use Rattle.optimize.proofs.retain.retain.Reads as retain-reads
 
--- src/parts.rt:91:5
 retain-requires : tie.Need-retain-requires
 retain-requires c κs =
     let s = c .before .before .before .before .before .before .before .before .before .before .before .before in
     let a = s .args in
     marks-retainable (a .n) (a .code .now) (a .metadata .now) (sectionsIn (a .types .now) (a .constants .now) (a .functions .now) (a .externs .now) (a .cases .now)) (s .pre .0) (s .pre .2) (length (a .out .now)) (a .work32 .now) (a .work64 .now) (s .pre .1) (s .pre .3) refl
 
--- src/parts.rt:92:5
 finish-requires : tie.Need-finish-requires
 finish-requires c κs =
     let s = c .before .before .before .before .before .before .before .before .before .before .before .before .before .before .before .before .before .before .before .before in
     let a = s .args in
     kept-finished (a .n) (a .code .now) (a .metadata .now) (sectionsIn (a .types .now) (a .constants .now) (a .functions .now) (a .externs .now) (a .cases .now)) (s .pre .0) (s .pre .2) (length (a .out .now)) (a .work32 .now) (a .work64 .now) (s .pre .1) (s .pre .3) refl (a .constants .now) (a .functions .now) (a .externs .now) (a .cases .now) _ _ refl (c .before .before .before .before .before .before .before .retain .kept .1 .1 .1 .1 .1 .0) (c .before .before .before .before .before .before .before .retain .kept .1 .1 .1 .1 .1 .1 .0) (c .before .before .before .before .before .before .before .retain .ensures (a .constants .now))
 
--- src/parts.rt:75:1
 same-length : tie.Need-same-length
 same-length c = search needs
 
--- src/parts.rt:75:1
 same-length-2 : tie.Need-same-length-2
 same-length-2 c = search needs
 
--- src/parts.rt:75:1
 same-length-3 : tie.Need-same-length-3
 same-length-3 c = search needs
 
--- src/parts.rt:75:1
 returns : tie.Need-returns
 returns c =
     let s = c .before .before .before .before .before .before .before .before .before .before .before .before .before .before .before .before .before .before .before .before .before .before .before in

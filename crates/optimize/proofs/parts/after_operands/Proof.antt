@@ -1,52 +1,39 @@
-use mathlib.Core.Path.{_≡_, refl, sym, ap, _∙_}
+use mathlib.Core.Path.{refl, sym, _∙_}
 use Prim.Native.Nat.{_-_}
 use native.Mathlib.Omega.{arith}
 use lib.ListN.{length}
-use Rattle.effects.specs.Shape.{tablesOf, Sections}
+use Rattle.effects.specs.Shape.{tablesOf}
 use Rattle.answer.specs.Pass.{refused}
 use Rattle.optimize.specs.Parts.{tells-refused, tells-same, sectionsIn}
 use Rattle.optimize.specs.Chain.{checked-refused, checked-passed, same-room, loaded-numberable, loaded-branches, loaded-renumbered}
 use borrow.Author.Needs.{needs}
 use Rattle.optimize.proofs.parts.after_operands.Statement.{statement}
 use Rattle.optimize.proofs.parts.after_operands.Tie as tie
-use Rattle.optimize.proofs.parts.after_operands.Reads as reads
-use Rattle.optimize.proofs.parts.after_operands.Lts as lts
-use Rattle.flow.proofs.branch.check_branches.Reads as check-branches-reads
-use Rattle.optimize.proofs.parts.after_branches.Reads as after-branches-reads
-use Rattle.optimize.proofs.parts.number.Reads as number-reads
 
--- src/parts.rt:154:34
 sub-check-branches : tie.Need-sub-check-branches
 sub-check-branches c = search needs
 
--- src/parts.rt:154:34
 part-check-branches-start : tie.Need-part-check-branches-start
 part-check-branches-start c = search needs
 
--- src/parts.rt:154:34
 part-check-branches-end : tie.Need-part-check-branches-end
 part-check-branches-end c = search needs
 
--- src/parts.rt:154:11
 check-branches-requires : tie.Need-check-branches-requires
 check-branches-requires c κs = search needs
 
--- src/parts.rt:155:24
 enum-known-k : tie.Need-enum-known-k
 enum-known-k c = search needs
 
--- src/parts.rt:157:38
 enum-told : tie.Need-enum-told
 enum-told c = search needs
 
--- src/parts.rt:157:13
 number-requires : tie.Need-number-requires
 number-requires c κs =
     let s = c .before .before .before .before .before .before .before .before .before .before .before .before .before .before .before .before .before in
     let a = s .args in
     loaded-numberable (a .n) (a .code .now) (a .metadata .now) (sectionsIn (a .types .now) (a .constants .now) (a .functions .now) (a .externs .now) (a .cases .now)) (s .pre .0) (length (a .out .now)) _ _ (s .pre .1) (s .pre .2) (s .pre .3)
 
--- src/parts.rt:158:13
 after-branches-requires : tie.Need-after-branches-requires
 after-branches-requires c κs =
     let s = c .before .before .before .before .before .before .before .before .before .before .before .before .before .before .before .before .before .before .before .before .before .before .before .before .before in
@@ -59,30 +46,24 @@ after-branches-requires c κs =
       loaded-renumbered (a .n) (a .code .now) (a .metadata .now) (sectionsIn (a .types .now) (a .constants .now) (a .functions .now) (a .externs .now) (a .cases .now)) (s .pre .0) (a .work64 .now) _ _ (s .pre .3) (n .ensures (a .metadata .now) (length (a .types .now)) (tablesOf (a .functions .now) (a .externs .now) (a .cases .now))),
     )
 
--- src/parts.rt:138:1
 same-length : tie.Need-same-length
 same-length c = search needs
 
--- src/parts.rt:138:1
 returns : tie.Need-returns
 returns c =
     let s = c .before .before .before .before .before .before .before .before .before .before .before .before .before .before .before .before in
     let a = s .args in
     tells-same _ (refused _ _) _ _ _ (checked-refused _ _ _ _ (loaded-branches (a .n) (a .code .now) (a .metadata .now) (sectionsIn (a .types .now) (a .constants .now) (a .functions .now) (a .externs .now) (a .cases .now)) (s .pre .0) (a .n - 0) (a .work64 .now) (omega arith) (s .pre .3) ∙ sym (c .before .before .before .check-branches .ensures (a .metadata .now)) ∙ c .before .k .given .1)) (tells-refused _ _ _ (a .out .now) refl)
 
--- src/parts.rt:138:1
 same-length-2 : tie.Need-same-length-2
 same-length-2 c = search needs
 
--- src/parts.rt:138:1
 same-length-3 : tie.Need-same-length-3
 same-length-3 c = search needs
 
--- src/parts.rt:138:1
 same-length-4 : tie.Need-same-length-4
 same-length-4 c = search needs
 
--- src/parts.rt:138:1
 returns-2 : tie.Need-returns-2
 returns-2 c =
     let s = c .before .before .before .before .before .before .before .before .before .before .before .before .before .before .before .before .before .before .before .before .before .before .before .before .before .before .before .before .before .before .before .before in

@@ -1,94 +1,70 @@
-use mathlib.Core.Path.{_≡_, refl, sym, ap, _∙_}
+use mathlib.Core.Path.{refl, sym, _∙_}
 use Prim.Native.Nat.{_-_}
 use native.Mathlib.Omega.{arith}
-use lib.ListN.{length}
-use Rattle.effects.specs.Shape.{tablesOf, Sections}
 use Rattle.answer.specs.Pass.{refused}
 use Rattle.optimize.specs.Parts.{tells-refused, tells-same, sectionsIn, optimized-steps}
 use Rattle.optimize.specs.Chain.{checked-refused, checked-passed, same-room, load-part, load-front, load-long, operands-asks, operands-answer}
 use borrow.Author.Needs.{needs}
 use Rattle.optimize.proofs.parts.optimize.Statement.{statement}
 use Rattle.optimize.proofs.parts.optimize.Tie as tie
-use Rattle.optimize.proofs.parts.optimize.Reads as reads
-use Rattle.optimize.proofs.parts.optimize.Lts as lts
-use Rattle.effects.proofs.operands.check_operands.Reads as check-operands-reads
-use Rattle.optimize.proofs.code.load.Reads as load-reads
-use Rattle.optimize.proofs.parts.after_operands.Reads as after-operands-reads
 
--- src/parts.rt:139:22
 sub-load : tie.Need-sub-load
 sub-load c = search needs
 
--- src/parts.rt:139:22
 part-load-start : tie.Need-part-load-start
 part-load-start c = search needs
 
--- src/parts.rt:139:22
 part-load-end : tie.Need-part-load-end
 part-load-end c = search needs
 
--- src/parts.rt:139:5
 load-requires : tie.Need-load-requires
 load-requires c κs = search needs
 
--- src/parts.rt:141:9
 sub-check-operands : tie.Need-sub-check-operands
 sub-check-operands c = search needs
 
--- src/parts.rt:141:9
 part-check-operands-start : tie.Need-part-check-operands-start
 part-check-operands-start c = search needs
 
--- src/parts.rt:141:9
 part-check-operands-end : tie.Need-part-check-operands-end
 part-check-operands-end c = search needs
 
--- src/parts.rt:140:11
 check-operands-requires : tie.Need-check-operands-requires
 check-operands-requires c κs =
     let s = c .before .before .before .before .before .before .before .before .before .before .before .before .before .before .before .before in
     let a = s .args in
     (operands-asks (a .n) (a .code .now) (a .metadata .now) _ (sectionsIn (a .types .now) (a .constants .now) (a .functions .now) (a .externs .now) (a .cases .now)) (s .pre .0) (load-part (a .n) (a .n - 0) (a .code .now) (a .work64 .now) (c .before .before .before .before .load .last .1 .0) (omega arith) (omega (arith, s .pre .1 .room64)) (c .before .before .before .before .load .ensures)))
 
--- src/parts.rt:148:24
 enum-known-k : tie.Need-enum-known-k
 enum-known-k c = search needs
 
--- src/parts.rt:150:74
 enum-told : tie.Need-enum-told
 enum-told c = search needs
 
--- src/parts.rt:149:26
 after-operands-requires : tie.Need-after-operands-requires
 after-operands-requires c κs =
     let s = c .before .before .before .before .before .before .before .before .before .before .before .before .before .before .before .before .before .before .before .before .before .before in
     let a = s .args in
     (s .pre .0, same-room _ _ _ _ _ _ _ (s .pre .1) refl (load-long (a .n) (a .n - 0) (a .code .now) (a .work64 .now) (c .before .before .before .before .before .before .before .before .before .before .load .last .1 .0) (omega arith) (omega (arith, s .pre .1 .room64)) (c .before .before .before .before .before .before .before .before .before .before .load .ensures)), (operands-answer (a .n) (a .code .now) (a .metadata .now) _ (sectionsIn (a .types .now) (a .constants .now) (a .functions .now) (a .externs .now) (a .cases .now)) (s .pre .0) (load-part (a .n) (a .n - 0) (a .code .now) (a .work64 .now) (c .before .before .before .before .before .before .before .before .before .before .load .last .1 .0) (omega arith) (omega (arith, s .pre .1 .room64)) (c .before .before .before .before .before .before .before .before .before .before .load .ensures))) ∙ sym (c .before .before .before .before .before .check-operands .ensures) ∙ c .before .before .before .enum-told .given .1, (load-front (a .n) (a .n - 0) (a .code .now) (a .work64 .now) (c .before .before .before .before .before .before .before .before .before .before .load .last .1 .0) (omega arith) (omega (arith, s .pre .1 .room64)) (c .before .before .before .before .before .before .before .before .before .before .load .ensures)))
 
--- src/parts.rt:123:1
 same-length : tie.Need-same-length
 same-length c = search needs
 
--- src/parts.rt:123:1
 returns : tie.Need-returns
 returns c =
     let s = c .before .before .before .before .before .before .before .before .before .before .before .before .before .before .before .before .before .before .before .before in
     let a = s .args in
     tells-same _ (refused _ _) _ _ _ (optimized-steps _ _ ∙ checked-refused _ _ _ _ ((operands-answer (a .n) (a .code .now) (a .metadata .now) _ (sectionsIn (a .types .now) (a .constants .now) (a .functions .now) (a .externs .now) (a .cases .now)) (s .pre .0) (load-part (a .n) (a .n - 0) (a .code .now) (a .work64 .now) (c .before .before .before .before .before .before .before .before .load .last .1 .0) (omega arith) (omega (arith, s .pre .1 .room64)) (c .before .before .before .before .before .before .before .before .load .ensures))) ∙ sym (c .before .before .before .check-operands .ensures) ∙ c .before .k .given .1)) (tells-refused _ _ _ (a .out .now) refl)
 
--- src/parts.rt:123:1
 same-length-2 : tie.Need-same-length-2
 same-length-2 c = search needs
 
--- src/parts.rt:123:1
 same-length-3 : tie.Need-same-length-3
 same-length-3 c = search needs
 
--- src/parts.rt:123:1
 same-length-4 : tie.Need-same-length-4
 same-length-4 c = search needs
 
--- src/parts.rt:123:1
 returns-2 : tie.Need-returns-2
 returns-2 c =
     let s = c .before .before .before .before .before .before .before .before .before .before .before .before .before .before .before .before .before .before .before .before .before .before .before .before .before .before .before .before .before in

@@ -1,4 +1,4 @@
-use mathlib.Core.Path.{_≡_, refl, sym, ap, _∙_}
+use mathlib.Core.Path.{refl, sym, ap, _∙_}
 use Rattle.unit.specs.declared.Header.{Header}
 use Rattle.unit.specs.Laws.{layout-unit, layout-refused}
 use Rattle.answer.specs.Pass.{refused}
@@ -7,45 +7,32 @@ use Rattle.optimize.specs.Whole.{pass-refused, pass-laid}
 use borrow.Author.Needs.{needs}
 use Rattle.optimize.proofs.pass.answer.Statement.{statement}
 use Rattle.optimize.proofs.pass.answer.Tie as tie
-use Rattle.optimize.proofs.pass.answer.Reads as reads
-use Rattle.optimize.proofs.pass.answer.Lts as lts
-use Rattle.optimize.proofs.pass.laid.Reads as laid-reads
-use Rattle.unit.proofs.parse.check.Reads as check-reads
 
--- src/pass.rt:93:11
 check-requires : tie.Need-check-requires
 check-requires c κs = search needs
 
--- src/pass.rt:94:25
 enum-known-k : tie.Need-enum-known-k
 enum-known-k c = search needs
 
--- src/pass.rt:95:22
 enum-known-h : tie.Need-enum-known-h
 enum-known-h c = search needs
 
--- src/pass.rt:95:28
 laid-requires : tie.Need-laid-requires
 laid-requires c κs = let e = layout-unit (c .before .before .before .before .before .before .before .before .before .before .before .args .unit .now) _ (sym (c .before .before .before .before .before .before .check .ensures) ∙ c .before .before .before .before .h .given .1) in (e .0, ap (λ (x : Header). x .counts) (e .1))
 
--- src/pass.rt:90:1
 returns : tie.Need-returns
 returns c = let e = layout-refused (c .before .before .before .before .before .before .before .before .args .unit .now) _ _ (sym (c .before .before .before .check .ensures) ∙ c .before .k .given .1) in
     tells-same _ (refused _ _) _ _ _ (pass-refused _ _ (e .0) ∙ rw (e .1, e .2)) (tells-refused _ _ _ (c .before .before .before .before .before .before .before .before .args .out .now) refl)
 
--- src/pass.rt:90:1
 same-length : tie.Need-same-length
 same-length c = search needs
 
--- src/pass.rt:90:1
 same-length-2 : tie.Need-same-length-2
 same-length-2 c = search needs
 
--- src/pass.rt:90:1
 same-length-3 : tie.Need-same-length-3
 same-length-3 c = search needs
 
--- src/pass.rt:90:1
 returns-2 : tie.Need-returns-2
 returns-2 c = let e = layout-unit (c .before .before .before .before .before .before .before .before .before .before .before .before .before .before .before .before .before .before .args .unit .now) _ (sym (c .before .before .before .before .before .before .before .before .before .before .before .before .before .check .ensures) ∙ c .before .before .before .before .before .before .before .before .before .before .before .h .given .1) in
     tells-same _ _ _ _ _ (pass-laid _ _ (e .0)) (c .before .before .before .before .before .before .laid .ensures)

@@ -1,23 +1,13 @@
 use lib.ListN.{length}
-use mathlib.Core.Path.{_≡_, refl, sym, ap, _∙_}
+use mathlib.Core.Path.{_≡_, sym, ap, _∙_}
 use native.Mathlib.Omega.{arith}
 use Rattle.unit.specs.declared.Counts.{Counts}
 use Rattle.unit.specs.Layout.{headerOf}
-use Rattle.optimize.specs.Parts.{tells-unchanged, tells-refused, tells-same}
+use Rattle.optimize.specs.Parts.{tells-refused, tells-same}
 use Rattle.optimize.specs.Whole.{counts-metadata, counts-types, counts-good, parts-given, parts-answer, lentOf}
 use borrow.Author.Needs.{needs}
 use Rattle.optimize.proofs.pass.counted.Statement.{statement}
 use Rattle.optimize.proofs.pass.counted.Tie as tie
-use Rattle.optimize.proofs.pass.counted.Reads as reads
-use Rattle.optimize.proofs.pass.counted.Lts as lts
-use Rattle.optimize.proofs.parts.optimize.Reads as optimize-reads
-use Rattle.unit.proofs.section.cases.Reads as cases-reads
-use Rattle.unit.proofs.section.code.Reads as code-reads
-use Rattle.unit.proofs.section.constants.Reads as constants-reads
-use Rattle.unit.proofs.section.externs.Reads as externs-reads
-use Rattle.unit.proofs.section.functions.Reads as functions-reads
-use Rattle.unit.proofs.section.metadata.Reads as metadata-reads
-use Rattle.unit.proofs.section.types.Reads as types-reads
 
 described : (s : tie.Start) → s .args .c .metadata ≡ s .args .c .instructions → headerOf (s .args .unit .now) .counts .metadata ≡ headerOf (s .args .unit .now) .counts .instructions
 described s e = sym (ap (λ (x : Counts). x .metadata) (s .pre .1)) ∙ e ∙ ap (λ (x : Counts). x .instructions) (s .pre .1)
@@ -25,62 +15,48 @@ described s e = sym (ap (λ (x : Counts). x .metadata) (s .pre .1)) ∙ e ∙ ap
 typed : (s : tie.Start) → s .args .c .types ≡ s .args .c .locals → headerOf (s .args .unit .now) .counts .types ≡ headerOf (s .args .unit .now) .counts .locals
 typed s e = sym (ap (λ (x : Counts). x .types) (s .pre .1)) ∙ e ∙ ap (λ (x : Counts). x .locals) (s .pre .1)
 
--- src/pass.rt:54:9
 returns : tie.Need-returns
 returns c = let s = c .before .before .before .before .before .before in tells-refused _ 3 0 (s .args .out .now) (counts-metadata (headerOf (s .args .unit .now)) _ (λ e. c .if1 .taken (ap (λ (x : Counts). x .metadata) (s .pre .1) ∙ e ∙ sym (ap (λ (x : Counts). x .instructions) (s .pre .1)))))
 
--- src/pass.rt:57:9
 returns-2 : tie.Need-returns-2
 returns-2 c = let s = c .before .before .before .before .before .before .before .before in tells-refused _ 4 0 (s .args .out .now) (counts-types (headerOf (s .args .unit .now)) _ (described s (c .before .before .if1 .left)) (λ e. c .if2 .taken (ap (λ (x : Counts). x .types) (s .pre .1) ∙ e ∙ sym (ap (λ (x : Counts). x .locals) (s .pre .1)))))
 
--- src/pass.rt:60:9
 code-requires : tie.Need-code-requires
 code-requires c κs = search needs
 
--- src/pass.rt:61:9
 metadata-requires : tie.Need-metadata-requires
 metadata-requires c κs = search needs
 
--- src/pass.rt:62:9
 types-requires : tie.Need-types-requires
 types-requires c κs = search needs
 
--- src/pass.rt:63:9
 constants-requires : tie.Need-constants-requires
 constants-requires c κs = search needs
 
--- src/pass.rt:64:9
 functions-requires : tie.Need-functions-requires
 functions-requires c κs = search needs
 
--- src/pass.rt:65:9
 externs-requires : tie.Need-externs-requires
 externs-requires c κs = search needs
 
--- src/pass.rt:66:9
 cases-requires : tie.Need-cases-requires
 cases-requires c κs = search needs
 
--- src/pass.rt:59:5
 optimize-requires : tie.Need-optimize-requires
 optimize-requires c κs = let s = c .before .before .before .before .before .before .before .before .before .before .before .before .before .before .before .before .before .before in
     parts-given (s .args .unit .now) (lentOf (length (s .args .out .now)) (length (s .args .work32 .now)) (length (s .args .work64 .now))) (s .pre .0) (s .pre .2) (s .pre .3)
     (described s (c .before .before .before .before .before .before .before .before .before .before .before .before .if1 .left)) (typed s (c .before .before .before .before .before .before .before .before .before .before .if2 .left)) (λ i. omega (arith, c .before .before .before .before .before .before .before .before .before .before .before .before .before .before .before .before .before .shared-slice-known .given i)) _ _ _ _ _ _ _ _
     (ap (λ (x : Counts). x .instructions) (s .pre .1)) (c .before .before .before .before .before .before .before .before .before .code .ensures) (c .before .before .before .before .before .before .before .before .metadata .ensures) (c .before .before .before .before .before .before .before .types .ensures) (c .before .before .before .before .before .before .constants .ensures) (c .before .before .before .before .before .functions .ensures) (c .before .before .before .before .externs .ensures) (c .before .before .before .cases .ensures)
 
--- src/pass.rt:48:1
 same-length : tie.Need-same-length
 same-length c = search needs
 
--- src/pass.rt:48:1
 same-length-2 : tie.Need-same-length-2
 same-length-2 c = search needs
 
--- src/pass.rt:48:1
 same-length-3 : tie.Need-same-length-3
 same-length-3 c = search needs
 
--- src/pass.rt:48:1
 returns-3 : tie.Need-returns-3
 returns-3 c =
     let s = c .before .before .before .before .before .before .before .before .before .before .before .before .before .before .before .before .before .before .before .before .before .before .before .before .before in

@@ -9,72 +9,56 @@ use Rattle.optimize.specs.Retained.{blocks-asks, stores-asks, stores-lea
 use borrow.Author.Needs.{needs}
 use Rattle.optimize.proofs.retain.drop_stores.Statement.{statement}
 use Rattle.optimize.proofs.retain.drop_stores.Tie as tie
-use Rattle.optimize.proofs.retain.drop_stores.Reads as reads
-use Rattle.optimize.proofs.retain.drop_stores.Lts as lts
 
--- src/retain.rt:40:14
 mul-at : tie.Need-mul-at
 mul-at c = search needs
 
--- src/retain.rt:40:14
 add-at : tie.Need-add-at
 add-at c = search needs
 
--- src/retain.rt:41:37
 sub-number-blocks : tie.Need-sub-number-blocks
 sub-number-blocks c = search needs
 
--- src/retain.rt:41:37
 part-number-blocks-start : tie.Need-part-number-blocks-start
 part-number-blocks-start c = search needs
 
--- src/retain.rt:41:37
 part-number-blocks-end : tie.Need-part-number-blocks-end
 part-number-blocks-end c = search needs
 
--- src/retain.rt:41:9
 number-blocks-requires : tie.Need-number-blocks-requires
-number-blocks-requires c κs = 
+number-blocks-requires c κs =
     let s = c .before .before .before .before .before .before .before .before in
     let a = s .args in
     blocks-asks (tablesOf (a .functions .now) (a .externs .now) (a .cases .now)) (a .n) (midOf 0 (a .n) (a .work64 .now)) (a .metadata .now) (a .types .now) (a .work32 .now) (length (a .work64 .now)) (s .pre)
     (mid-long (a .work64 .now) 0 (a .n) (omega (arith, s .pre .long64))) (3 * a .n + 1 - 0) (omega arith)
 
--- src/retain.rt:44:24
 add-drop-dead-stores : tie.Need-add-drop-dead-stores
 add-drop-dead-stores c = search needs
 
--- src/retain.rt:44:9
 sub-drop-dead-stores : tie.Need-sub-drop-dead-stores
 sub-drop-dead-stores c = search needs
 
--- src/retain.rt:44:9
 part-drop-dead-stores-start : tie.Need-part-drop-dead-stores-start
 part-drop-dead-stores-start c = search needs
 
--- src/retain.rt:44:9
 part-drop-dead-stores-end : tie.Need-part-drop-dead-stores-end
 part-drop-dead-stores-end c = search needs
 
--- src/retain.rt:42:5
 drop-dead-stores-requires : tie.Need-drop-dead-stores-requires
-drop-dead-stores-requires c κs = 
+drop-dead-stores-requires c κs =
     let s = c .before .before .before .before .before .before .before .before .before .before .before .before .before in
     let a = s .args in
     stores-asks (tablesOf (a .functions .now) (a .externs .now) (a .cases .now)) (a .n) (3 * a .n + 1 - 0) (3 * a .n + 1 + a .n - 0) (midOf 0 (a .n) (a .work64 .now)) (a .metadata .now) (a .types .now) (a .work32 .now) (length (a .work64 .now)) (omega arith) (omega arith) (s .pre)
     (mid-long (a .work64 .now) 0 (a .n) (omega (arith, s .pre .long64))) _ (c .before .before .before .before .number-blocks .last .0) (c .before .before .before .before .number-blocks .kept .0) (c .before .before .before .before .number-blocks .ensures .0) (c .before .before .before .before .number-blocks .ensures .1)
 
--- src/retain.rt:27:1
 same-length : tie.Need-same-length
 same-length c = search needs
 
--- src/retain.rt:27:1
 same-length-2 : tie.Need-same-length-2
 same-length-2 c = search needs
 
--- src/retain.rt:27:1
 returns : tie.Need-returns
-returns c = 
+returns c =
     let s = c .before .before .before .before .before .before .before .before .before .before .before .before .before .before .before .before .before .before in
     let a = s .args in
     λ constants.

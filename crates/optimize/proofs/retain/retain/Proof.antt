@@ -1,99 +1,84 @@
+use Prim.Native.Nat.{_-_}
+use native.Mathlib.Omega.{arith}
+use Rattle.optimize.specs.Retaining.{hints-retainable, jumps-asks, jumps-retained}
 use borrow.Author.Needs.{needs}
 use Rattle.optimize.proofs.retain.retain.Statement.{statement}
 use Rattle.optimize.proofs.retain.retain.Tie as tie
-use Rattle.optimize.proofs.retain.retain.Reads as reads
-use Rattle.optimize.proofs.retain.retain.Lts as lts
-use Rattle.optimize.proofs.jump.drop_jumps.Reads as drop-jumps-reads
-use Rattle.optimize.proofs.retain.drop_hints.Reads as drop-hints-reads
-use Rattle.optimize.proofs.retain.drop_stores.Reads as drop-stores-reads
 
--- src/retain.rt:69:14
 mul-at : tie.Need-mul-at
 mul-at c = search needs
 
--- src/retain.rt:69:14
 add-at : tie.Need-add-at
 add-at c = search needs
 
--- src/retain.rt:70:16
 sub-drop-hints : tie.Need-sub-drop-hints
 sub-drop-hints c = search needs
 
--- src/retain.rt:70:16
 part-drop-hints-start : tie.Need-part-drop-hints-start
 part-drop-hints-start c = search needs
 
--- src/retain.rt:70:16
 part-drop-hints-end : tie.Need-part-drop-hints-end
 part-drop-hints-end c = search needs
 
--- src/retain.rt:70:41
 mul-drop-hints : tie.Need-mul-drop-hints
 mul-drop-hints c = search needs
 
--- src/retain.rt:70:41
 sub-drop-hints-2 : tie.Need-sub-drop-hints-2
 sub-drop-hints-2 c = search needs
 
--- src/retain.rt:70:41
 part-drop-hints-start-2 : tie.Need-part-drop-hints-start-2
 part-drop-hints-start-2 c = search needs
 
--- src/retain.rt:70:41
 part-drop-hints-end-2 : tie.Need-part-drop-hints-end-2
 part-drop-hints-end-2 c = search needs
 
--- src/retain.rt:70:5
 drop-hints-requires : tie.Need-drop-hints-requires
 drop-hints-requires c κs = search needs
 
--- src/retain.rt:71:5
 drop-stores-requires : tie.Need-drop-stores-requires
-drop-stores-requires c κs = ?
+drop-stores-requires c κs =
+    let s = c .before .before .before .before .before .before .before .before .before .before .before .before .before .before .before in
+    let a = s .args in
+    hints-retainable (a .n) (a .n - 0) (a .metadata .now) (a .types .now) (a .functions .now) (a .externs .now) (a .cases .now) (a .work32 .now) (a .work64 .now) (c .before .before .before .before .drop-hints .last .1 .1 .0) (omega arith) (s .pre) (c .before .before .before .before .drop-hints .kept .1 .1 .0) (c .before .before .before .before .drop-hints .ensures)
 
--- src/retain.rt:74:22
 sub-drop-jumps : tie.Need-sub-drop-jumps
 sub-drop-jumps c = search needs
 
--- src/retain.rt:74:22
 part-drop-jumps-start : tie.Need-part-drop-jumps-start
 part-drop-jumps-start c = search needs
 
--- src/retain.rt:74:22
 part-drop-jumps-end : tie.Need-part-drop-jumps-end
 part-drop-jumps-end c = search needs
 
--- src/retain.rt:74:37
 mul-drop-jumps : tie.Need-mul-drop-jumps
 mul-drop-jumps c = search needs
 
--- src/retain.rt:74:37
 sub-drop-jumps-2 : tie.Need-sub-drop-jumps-2
 sub-drop-jumps-2 c = search needs
 
--- src/retain.rt:74:37
 part-drop-jumps-start-2 : tie.Need-part-drop-jumps-start-2
 part-drop-jumps-start-2 c = search needs
 
--- src/retain.rt:74:37
 part-drop-jumps-end-2 : tie.Need-part-drop-jumps-end-2
 part-drop-jumps-end-2 c = search needs
 
--- src/retain.rt:74:5
 drop-jumps-requires : tie.Need-drop-jumps-requires
-drop-jumps-requires c κs = ?
+drop-jumps-requires c κs =
+    let s = c .before .before .before .before .before .before .before .before .before .before .before .before .before .before .before .before .before .before .before .before .before .before .before in
+    let a = s .args in
+    jumps-asks (a .n) (a .n - 0) (a .metadata .now) (a .types .now) (a .functions .now) (a .externs .now) (a .cases .now) (a .work32 .now) (a .work64 .now) (c .before .before .before .before .before .before .before .before .before .before .before .before .drop-hints .last .1 .1 .0) (omega arith) (s .pre) (c .before .before .before .before .before .before .before .before .before .before .before .before .drop-hints .kept .1 .1 .0) (c .before .before .before .before .before .before .before .before .before .before .before .before .drop-hints .ensures) (c .before .before .before .before .before .before .before .drop-stores .last .1 .1 .1 .1 .1 .0) (c .before .before .before .before .before .before .before .drop-stores .last .1 .1 .1 .1 .1 .1 .0) (c .before .before .before .before .before .before .before .drop-stores .kept .1 .1 .1 .1 .1 .0) (c .before .before .before .before .before .before .before .drop-stores .kept .1 .1 .1 .1 .1 .1 .0) (c .before .before .before .before .before .before .before .drop-stores .ensures)
 
--- src/retain.rt:56:1
 same-length : tie.Need-same-length
 same-length c = search needs
 
--- src/retain.rt:56:1
 same-length-2 : tie.Need-same-length-2
 same-length-2 c = search needs
 
--- src/retain.rt:56:1
 returns : tie.Need-returns
-returns c = ?
+returns c =
+    let s = c .before .before .before .before .before .before .before .before .before .before .before .before .before .before .before .before .before .before .before .before .before .before .before .before .before .before in
+    let a = s .args in
+    jumps-retained (a .n) (a .n - 0) (a .metadata .now) (a .types .now) (a .functions .now) (a .externs .now) (a .cases .now) (a .work32 .now) (a .work64 .now) (c .before .before .before .before .before .before .before .before .before .before .before .before .before .before .before .drop-hints .last .1 .1 .0) (omega arith) (s .pre) (c .before .before .before .before .before .before .before .before .before .before .before .before .before .before .before .drop-hints .kept .1 .1 .0) (c .before .before .before .before .before .before .before .before .before .before .before .before .before .before .before .drop-hints .ensures) (c .before .before .before .before .before .before .before .before .before .before .drop-stores .last .1 .1 .1 .1 .1 .0) (c .before .before .before .before .before .before .before .before .before .before .drop-stores .last .1 .1 .1 .1 .1 .1 .0) (c .before .before .before .before .before .before .before .before .before .before .drop-stores .kept .1 .1 .1 .1 .1 .0) (c .before .before .before .before .before .before .before .before .before .before .drop-stores .kept .1 .1 .1 .1 .1 .1 .0) (c .before .before .before .before .before .before .before .before .before .before .drop-stores .ensures) (c .before .before .drop-jumps .last .1 .0) (c .before .before .drop-jumps .kept .1 .0) (c .before .before .drop-jumps .ensures)
 
 pub retain-spec : {M : Type 1} → statement M
 retain-spec =

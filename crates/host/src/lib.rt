@@ -1,0 +1,54 @@
+// The entries for a host program in C or Rust: include/lampruda.h declares them. They hold no state: threads may call them at once,
+// each with buffers of its own.
+ghost use mathlib.Core.Path.{_≡_};
+ghost use lib.ListN.{length, replicate};
+ghost use Rattle.answer.specs.Answer.{passAnswer};
+ghost use Rattle.run.specs.Returned.{RunsAlike};
+ghost use Rattle.optimize.specs.Parts.{told, written};
+ghost use Rattle.optimize.specs.Whole.{lentOf};
+ghost use Rattle.host.specs.Numbers.{numbersOf};
+use optimize::Answer;
+use optimize::pass;
+
+// An answer in numbers: kind 0 unchanged; 1 refused, with number and place; 2 rewritten, with the number of instructions.
+#[repr(C)]
+pub struct Numbers {
+    pub kind: u32,
+    pub number: u32,
+    pub place: u32,
+}
+
+fn in_numbers(a: Answer) -> Numbers
+    ensures { λ r. ⌜ r ≡ numbersOf a ⌝ }
+{
+    match a {
+        Answer::Unchanged => Numbers {
+            kind: 0,
+            number: 0,
+            place: 0,
+        },
+        Answer::Refused(k, p) => Numbers {
+            kind: 1,
+            number: k,
+            place: p,
+        },
+        Answer::Rewritten(n) => Numbers {
+            kind: 2,
+            number: n,
+            place: 0,
+        },
+    }
+}
+
+// One pass.
+#[no_mangle]
+pub extern "C" fn lampruda_pass(
+    unit: &[u8],
+    out: &mut [u8],
+    work32: &mut [u32],
+    work64: &mut [u64],
+) -> Numbers
+    ensures { λ r. ⌜ (r ≡ numbersOf (told (passAnswer (now (unit .entry)) (lentOf (length (now (out .entry))) (length (now (work32 .entry))) (length (now (work64 .entry))))))) × (now (out .exit) ≡ written (passAnswer (now (unit .entry)) (lentOf (length (now (out .entry))) (length (now (work32 .entry))) (length (now (work64 .entry))))) (now (out .entry))) × (now (work32 .exit) ≡ replicate (length (now (work32 .entry))) 0) × (now (work64 .exit) ≡ replicate (length (now (work64 .entry))) 0) × RunsAlike (now (unit .entry)) (passAnswer (now (unit .entry)) (lentOf (length (now (out .entry))) (length (now (work32 .entry))) (length (now (work64 .entry))))) ⌝ }
+{
+    in_numbers(pass::pass(unit, out, work32, work64))
+}
