@@ -15,10 +15,10 @@ use Rattle.effects.specs.Shape.{Sections}
 use Rattle.answer.specs.Answer.{sectionsOf}
 use Rattle.answer.specs.Clean.{Cleaned as Cleaning, cellsAfter, placedBy, afterPass, cleanFrom}
 use Rattle.answer.specs.Pass.{Outcome, unchanged, refused, rewritten, optimized, pass}
-use Rattle.clean.specs.declared.Answer.{Answer}
-use Rattle.clean.specs.declared.Answer.the-variants.{Unchanged, Refused, Rewritten}
+use Rattle.optimize.specs.declared.Answer.{Answer}
+use Rattle.optimize.specs.declared.Answer.the-variants.{Unchanged, Refused, Rewritten}
 use Rattle.clean.specs.declared.Cleaned.{Cleaned}
-use Rattle.clean.specs.Parts.{told, written, Tells}
+use Rattle.optimize.specs.Parts.{told, written, Tells}
 use Rattle.clean.specs.Reading.{AllFit, retainedIn}
 use Rattle.clean.specs.Fitting.{Again, placed-long, placed-fits}
 use Rattle.clean.specs.Ready.{Ready, placedOutcome, laterOutcome, before-long, ready-places, later-made, written-back, written-ready, casesIn}
@@ -71,6 +71,10 @@ module _ (S : Sections) (i j : ℕ) (before : List Retained) (to to₁ : List �
   pub from-refused : (k p : ℕ) → a ≡ Refused k p → cleanFrom S (suc i) j before ≡ stopped k p (suc j)
   unfolding afterPass
   from-refused k p e = from-step S i j before ∙ ap (afterPass (suc j) before (cleanFrom S i (suc j))) (told-refused (laterOutcome S before) k p (sym e ∙ w .0))
+
+-- lengths stay
+pub ready-as : {u from : List ℕ} {k t work32 work64 : ℕ} → Ready u from k t work32 work64 → (t′ a b : ℕ) → t′ ≡ t → a ≡ work32 → b ≡ work64 → Ready u from k t′ a b
+ready-as r t′ a b e f g = rw (e, f, g) r
 
 -- what comes of a pass that rewrote to j instructions
 pub record Next (u from to : List ℕ) (k j room32 room64 : ℕ) : Type 0 where

@@ -29,7 +29,7 @@ use Rattle.run.specs.Checked.{Well}
 use Rattle.run.specs.Given.{instruction-fields, constants-below}
 use Rattle.run.specs.Program.{Function}
 use Rattle.run.specs.Returned.{resultFunction}
-use Rattle.clean.specs.Parts.{Given, Room, sectionsIn, cellsIn, cells-in, written}
+use Rattle.optimize.specs.Parts.{Given, Room, sectionsIn, cellsIn, cells-in, written}
 use Rattle.clean.specs.Reading.{Sound, AllFit, placeSize, codeIn, metadataIn, placesIn, retainedIn, retainedAt, noRetained, code-in, metadata-in, places-in, metadata-back, place-back, retained-back}
 use Rattle.clean.specs.Fitting.{AllSound, Again, optimized-again, placed-long, placed-fits}
 use Rattle.clean.specs.Placing.{composed, composed-places}
@@ -91,7 +91,7 @@ cells-before k from b =
     ∙ ext-getD noCell (tabulate k _) (cellsAfter (retainedIn k from)) (length-tabulate k _ ∙ sym (cells-before-long k from))
     (λ p h. let l : p < k = rw (length-tabulate k _) at h in getD-tabulate k _ p noCell l ∙ sym (cell-before k from p l))
 
-metadata-fields : (l : List ℕ) (p : ℕ) → Bytes l → MetadataFields (metadataAt l p)
+pub metadata-fields : (l : List ℕ) (p : ℕ) → Bytes l → MetadataFields (metadataAt l p)
 unfolding metadataAt
 metadata-fields l p b =
     record {
@@ -102,6 +102,10 @@ metadata-fields l p b =
       second-fits = le-fits 4 l (metadataSize * p + 8) b;
       end-fits = le-fits 4 l (metadataSize * p + 12) b;
     }
+
+pub worked-on : (n : ℕ) → 1 < n → n ≤ maxInstructions → isWorkedOn n ≡ true
+unfolding isWorkedOn
+worked-on n h few = rw (lt-ltb 1 n h, le-ltb maxInstructions n few)
 
 -- the parts of a result between its sections' starts
 pub code-part : (from : List ℕ) (k a : ℕ) → a ≡ resultMetadataAt k → midOf resultHeaderSize (a - resultHeaderSize) from ≡ codeIn k from
@@ -176,8 +180,7 @@ module _ {u from : List ℕ} {k to work32 work64 : ℕ} (r : Ready u from k to w
   pass-small h = rw (cells-before-long k from, le-ltb 1 k (omega arith))
 
   worked : 2 ≤ k → isWorkedOn (length (cellsAfter before)) ≡ true
-  unfolding isWorkedOn
-  worked h = rw (cells-before-long k from, lt-ltb 1 k (omega arith), le-ltb maxInstructions k (r .few))
+  worked h = rw (cells-before-long k from) (worked-on k (omega arith) (r .few))
 
   pub pass-worked : 2 ≤ k → pass S (cellsAfter before) ≡ optimized S (cellsAfter before)
   unfolding pass

@@ -15,10 +15,10 @@ use Rattle.effects.specs.Shape.{Sections}
 use Rattle.answer.specs.Answer.{sectionsOf}
 use Rattle.answer.specs.Clean.{Cleaned as Cleaning, cellsAfter, placedBy, afterPass, cleanFrom}
 use Rattle.answer.specs.Pass.{Outcome, unchanged, refused, rewritten, optimized, pass}
-use Rattle.clean.specs.declared.Answer.{Answer}
-use Rattle.clean.specs.declared.Answer.the-variants.{Unchanged, Refused, Rewritten}
+use Rattle.optimize.specs.declared.Answer.{Answer}
+use Rattle.optimize.specs.declared.Answer.the-variants.{Unchanged, Refused, Rewritten}
 use Rattle.clean.specs.declared.Cleaned.{Cleaned}
-use Rattle.clean.specs.Parts.{told, written, Tells, tells-unchanged, tells-same}
+use Rattle.optimize.specs.Parts.{told, written, Tells, tells-unchanged, tells-same}
 use Rattle.clean.specs.Reading.{placeSize, placesIn, retainedIn, retainedAt, place-back, places-in}
 use Rattle.clean.specs.Fitting.{Again, placed-long, placed-fits}
 use Rattle.clean.specs.Placing.{composed, composed-places}

@@ -7,19 +7,26 @@ ghost use Rattle.unit.specs.Result.{resultPlacesAt};
 ghost use Rattle.answer.specs.Answer.{sectionsOf};
 ghost use Rattle.answer.specs.Clean.{cellsAfter};
 ghost use Rattle.answer.specs.Pass.{optimized};
-ghost use Rattle.clean.specs.Parts.{Tells};
+ghost use Rattle.optimize.specs.Parts.{Tells};
 ghost use Rattle.clean.specs.Reading.{placeSize, placesIn, retainedIn};
 ghost use Rattle.clean.specs.Placing.{composed};
 ghost use Rattle.clean.specs.Ready.{Ready, laterOutcome};
 ghost use Rattle.clean.specs.Told.{Placeable};
-use crate::Answer;
 use crate::buffer;
-use crate::parts;
+use optimize::Answer;
+use optimize::parts;
 use unit::result;
 use unit::section;
 
 // The pass on the code and metadata of a result, and the unit's other sections.
-fn work(unit: &[u8], from: &[u8], to: &mut [u8], work32: &mut [u32], work64: &mut [u64], k: usize) -> Answer
+fn work(
+    unit: &[u8],
+    from: &[u8],
+    to: &mut [u8],
+    work32: &mut [u32],
+    work64: &mut [u64],
+    k: usize,
+) -> Answer
     requires { ⌜ Ready (now unit) (now from) k (length (now to)) (length (now work32)) (length (now work64)) × (1 < k) ⌝ }
     ensures { λ r. ⌜ Tells (optimized (sectionsOf (now (unit .entry))) (cellsAfter (retainedIn k (now (from .entry))))) r (now (to .entry)) (now (to .exit)) ⌝ }
 {
@@ -51,7 +58,14 @@ fn place(from: &[u8], to: &mut [u8], k: usize, j: usize)
 }
 
 // "n under 2" is unchanged; what the pass rewrote has old places in the given unit.
-pub fn later(unit: &[u8], from: &[u8], to: &mut [u8], work32: &mut [u32], work64: &mut [u64], k: usize) -> Answer
+pub fn later(
+    unit: &[u8],
+    from: &[u8],
+    to: &mut [u8],
+    work32: &mut [u32],
+    work64: &mut [u64],
+    k: usize,
+) -> Answer
     requires { ⌜ Ready (now unit) (now from) k (length (now to)) (length (now work32)) (length (now work64)) ⌝ }
     ensures { λ r. ⌜ Tells (laterOutcome (sectionsOf (now (unit .entry))) (retainedIn k (now (from .entry)))) r (now (to .entry)) (now (to .exit)) ⌝ }
 {

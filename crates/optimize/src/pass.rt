@@ -45,7 +45,13 @@ pub fn has_room(n: usize, s: usize, out: usize, work32: usize, work64: usize) ->
 }
 
 // Refusals 3 and 4, then the pass on the unit's parts.
-pub fn counted(unit: &[u8], out: &mut [u8], work32: &mut [u32], work64: &mut [u64], c: Counts) -> Answer
+pub fn counted(
+    unit: &[u8],
+    out: &mut [u8],
+    work32: &mut [u32],
+    work64: &mut [u64],
+    c: Counts,
+) -> Answer
     requires { ⌜ (isUnit (now unit) ≡ true) × (c ≡ headerOf (now unit) .counts) × (isLeft (headerOf (now unit)) ≡ false) × (roomFor (headerOf (now unit)) (lentOf (length (now out)) (length (now work32)) (length (now work64))) ≡ true) ⌝ }
     ensures { λ r. ⌜ Tells (countsChecked (headerOf (now (unit .entry))) (optimized (sectionsOf (now (unit .entry))) (cellsOf (now (unit .entry))))) r (now (out .entry)) (now (out .exit)) ⌝ }
 {

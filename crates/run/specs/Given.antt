@@ -77,11 +77,11 @@ atom-below Missing v h e p = let z : _≡_ {A = ℕ} 0 1 = cc in absurd (omega a
 pub constants-below : (l : List ℕ) → Bytes l → (k : ℕ) (v : Atom) → constantAtom (constantAt l k) ≡ some v → (p : ℕ) → Below p v
 constants-below l b k v = atom-below (constantAt l k) v (constant-small l k b)
 
-cell-at : (u : List ℕ) (p : ℕ) → p < headerOf u .counts .instructions → cellAt (cellsOf u) p ≡ record { instruction = instructionAt (codeOf u) p; metadata = metadataAt (metadataOf u) p }
+pub cell-at : (u : List ℕ) (p : ℕ) → p < headerOf u .counts .instructions → cellAt (cellsOf u) p ≡ record { instruction = instructionAt (codeOf u) p; metadata = metadataAt (metadataOf u) p }
 unfolding cellsOf
 cell-at u p h = getD-tabulate (headerOf u .counts .instructions) _ p noCell h
 
-cells-long : (u : List ℕ) → length (cellsOf u) ≡ headerOf u .counts .instructions
+pub cells-long : (u : List ℕ) → length (cellsOf u) ≡ headerOf u .counts .instructions
 unfolding cellsOf
 cells-long u = length-tabulate (headerOf u .counts .instructions) _
 

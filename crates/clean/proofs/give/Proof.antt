@@ -1,3 +1,5 @@
+use mathlib.Core.Path.{refl, _∙_}
+use Rattle.clean.specs.Cleaning.{give-tells}
 use borrow.Author.Needs.{needs}
 use Rattle.clean.proofs.give.Statement.{statement}
 use Rattle.clean.proofs.give.Tie as tie
@@ -24,7 +26,7 @@ same-length c = search needs
 
 -- src/lib.rt:42:1
 returns : tie.Need-returns
-returns c = ?
+returns c = let s = c .before .before .before .before .before .before .before in give-tells (s .args .k) (s .args .passes) (s .args .from .now) (s .args .out .now) _ _ (s .pre .3) refl (c .before .before .copy .ensures ∙ rw (c .before .before .before .output-room .ensures))
 
 pub give-spec : {M : Type 1} → statement M
 give-spec = tie.close (tie.spec output-room-requires copy-requires cast-t9 same-length returns)

@@ -1,14 +1,14 @@
 use mathlib.Core.Path.{_≡_, refl, sym, ap, _∙_}
 use native.Mathlib.Omega.{arith}
 use Rattle.words.specs.Bytes.{Bytes}
-use Rattle.clean.specs.Parts.{tells-same}
+use Rattle.optimize.specs.Parts.{tells-same}
 use Rattle.clean.specs.Ready.{code-part, metadata-part, later-given, later-answer}
 use borrow.Author.Needs.{needs}
 use Rattle.clean.proofs.later.work.Statement.{statement}
 use Rattle.clean.proofs.later.work.Tie as tie
 use Rattle.clean.proofs.later.work.Reads as reads
 use Rattle.clean.proofs.later.work.Lts as lts
-use Rattle.clean.proofs.parts.optimize.Reads as optimize-reads
+use Rattle.optimize.proofs.parts.optimize.Reads as optimize-reads
 use Rattle.unit.proofs.result.metadata_at.Reads as metadata-at-reads
 use Rattle.unit.proofs.result.places_at.Reads as places-at-reads
 use Rattle.unit.proofs.section.cases.Reads as cases-reads
