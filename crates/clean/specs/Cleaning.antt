@@ -1,27 +1,24 @@
 -- The answers of the cleaning, pass by pass.
 -- Assumes nothing.
 use mathlib.Core.Path.{_≡_, refl, sym, ap, _∙_}
-use mathlib.Core.Bool.{Bool, true, false, cond, _&&_}
 use mathlib.Core.List.{List}
-use Prim.Native.Nat.{ℕ, zero, suc, _≤_, _<_}
+use Prim.Native.Nat.{ℕ, suc, _≤_}
 use native.Mathlib.Omega.{arith}
 use lib.ListN.{length}
 use borrow.Rule.Slice.PartMut.{midOf, putMid}
 use Rattle.words.specs.Bytes.{Bytes}
-use Rattle.unit.specs.Layout.{typesOf}
 use Rattle.unit.specs.Result.{Retained, resultBytes}
-use Rattle.unit.specs.Size.{resultSize, maxInstructions}
+use Rattle.unit.specs.Size.{resultSize}
 use Rattle.effects.specs.Shape.{Sections}
 use Rattle.answer.specs.Answer.{sectionsOf}
 use Rattle.answer.specs.Clean.{Cleaned as Cleaning, cellsAfter, placedBy, afterPass, cleanFrom}
-use Rattle.answer.specs.Pass.{Outcome, unchanged, refused, rewritten, optimized, pass}
+use Rattle.answer.specs.Pass.{Outcome, unchanged, refused, rewritten, pass}
 use Rattle.optimize.specs.declared.Answer.{Answer}
 use Rattle.optimize.specs.declared.Answer.the-variants.{Unchanged, Refused, Rewritten}
 use Rattle.clean.specs.declared.Cleaned.{Cleaned}
 use Rattle.optimize.specs.Parts.{told, written, Tells}
 use Rattle.clean.specs.Reading.{AllFit, retainedIn}
-use Rattle.clean.specs.Fitting.{Again, placed-long, placed-fits}
-use Rattle.clean.specs.Ready.{Ready, placedOutcome, laterOutcome, before-long, ready-places, later-made, written-back, written-ready, casesIn}
+use Rattle.clean.specs.Ready.{Ready, placedOutcome, laterOutcome, before-long, later-made, written-back, written-ready, casesIn}
 use Rattle.clean.specs.Told.{To, told-unchanged, told-refused, told-rewritten}
 
 -- document 01's answer of the cleaning as the value that is returned

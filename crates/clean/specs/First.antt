@@ -7,16 +7,16 @@ use Prim.Native.Nat.{ℕ, _*_, _≤_, _<_}
 use native.Mathlib.Omega.{arith}
 use lib.Dec.{eqb, leb}
 use lib.ListN.{length}
-use borrow.Author.Tests.{eqb-true, leb-true}
+use borrow.Author.Tests.{eqb-true}
 use borrow.Rule.Slice.PartMut.{putMid}
 use Rattle.words.specs.Bytes.{Bytes, bytes-mid}
 use Rattle.unit.specs.declared.Header.{Header}
-use Rattle.unit.specs.Layout.{headerOf, metadataOf, typesOf, isUnit}
+use Rattle.unit.specs.Layout.{headerOf, metadataOf, isUnit}
 use Rattle.unit.specs.Refusal.{notUnit, shortBuffer, metadataCount, typeCount}
 use Rattle.unit.specs.Result.{Retained, resultBytes}
 use Rattle.unit.specs.Size.{metadataSize, outputRoom, work32Room, work64Room, resultSize, maxInstructions}
 use Rattle.effects.specs.Operands.{left-true, right-true}
-use Rattle.effects.specs.Shape.{Sections, Cell, cellAt}
+use Rattle.effects.specs.Shape.{Sections}
 use Rattle.answer.specs.Answer.{Lent, cellsOf, sectionsOf, roomFor, isLeft, countsChecked}
 use Rattle.answer.specs.Clean.{Cleaned as Cleaning, cleanFrom, cleanedFirst, spareFor, cleanAnswer}
 use Rattle.answer.specs.Pass.{Outcome, unchanged, refused, rewritten, optimized}
@@ -24,7 +24,7 @@ use Rattle.run.specs.Given.{given-well, cell-at, cells-long}
 use Rattle.run.specs.Returned.{givenFunction}
 use Rattle.optimize.specs.declared.Answer.{Answer}
 use Rattle.optimize.specs.declared.Answer.the-variants.{Unchanged, Refused, Rewritten}
-use Rattle.optimize.specs.Parts.{Given, Room, Tells, told, written}
+use Rattle.optimize.specs.Parts.{Tells, told, written}
 use Rattle.optimize.specs.Whole.{lentOf, given-unit, room-for}
 use Rattle.optimize.specs.Whole as whole
 use Rattle.clean.specs.Reading.{AllFit, retainedIn}

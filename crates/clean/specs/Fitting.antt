@@ -1,25 +1,20 @@
 -- What a pass makes of code whose fields fit has fields that fit.
 -- Assumes nothing.
-use mathlib.Core.Path.{_≡_, refl, sym, ap, _∙_}
+use mathlib.Core.Path.{_≡_, refl, ap}
 use mathlib.Core.Logic.{inl, inr}
 use mathlib.Core.Bool.{Bool, true, false, cond}
-use mathlib.Core.List.{List, [], _∷_, map}
+use mathlib.Core.List.{List, [], _∷_}
 use mathlib.Core.Option.{Option, none, some}
 use Prim.Native.Nat.{ℕ, zero, suc, _+_, _^_, _≤_, _<_}
-use native.Mathlib.Nat.{add-zero, zero-add, add-suc, suc-add}
+use native.Mathlib.Nat.{zero-add}
 use native.Mathlib.Omega.{arith}
-use lib.ListN.{length, getD, length-map, List·getD-map}
+use lib.ListN.{length, length-map, List·getD-map}
 use Rattle.instruction.specs.Instruction.{Fields}
 use Rattle.unit.specs.Entry.{goodMetadata}
-use Rattle.unit.specs.Laws.{MetadataFields}
 use Rattle.unit.specs.Result.{Retained}
 use Rattle.unit.specs.Size.{maxInstructions}
-use Rattle.unit.specs.declared.Metadata.{Metadata}
-use Rattle.effects.specs.declared.Check.the-variants.{Passed}
-use Rattle.effects.specs.Check.{operandCheck}
 use Rattle.effects.specs.Shape.{Sections, Cell, cellAt}
 use Rattle.flow.specs.Block.{leaders}
-use Rattle.flow.specs.Branch.{branchCheck}
 use Rattle.flow.specs.Flags.{Flags}
 use Rattle.flow.specs.Loop.{reachedPlaces, anchors, isLoopHint}
 use Rattle.values.specs.Number.{numberCode}
@@ -28,7 +23,7 @@ use Rattle.liveness.specs.Live.{Row, liveRows}
 use Rattle.pc_map.specs.Boundary.{isKept}
 use Rattle.pc_map.specs.Boundaries.{boundary-most}
 use Rattle.pc_map.specs.Relocate.{relocate, retainFrom}
-use Rattle.pc_map.specs.Relocated.{movedEnd, moved-metadata}
+use Rattle.pc_map.specs.Relocated.{moved-metadata}
 use Rattle.answer.specs.Clean.{cellOf, cellsAfter, placedBy}
 use Rattle.answer.specs.Jump.{jumpRounds}
 use Rattle.answer.specs.Pass.{rewritten, isWorkedOn, optimized, usefulPlaces, keptPlaces}
@@ -42,7 +37,7 @@ use Rattle.run.specs.Program.{Function}
 use Rattle.run.specs.Relocated.{pick}
 use Rattle.run.specs.Retained.{Bits}
 use Rattle.run.specs.Returned.{resultFunction}
-use Rattle.clean.specs.Reading.{Sound, Fits, AllFit, retainedAt, noRetained}
+use Rattle.clean.specs.Reading.{Sound, AllFit, retainedAt, noRetained}
 
 abbrev pub AllSound : ℕ → List Cell → Type 0
 AllSound cases cells = (p : ℕ) → p < length cells → Sound cases (cellAt cells p .metadata)

@@ -3,16 +3,15 @@
 use mathlib.Core.Path.{_≡_, refl, sym, ap, _∙_}
 use mathlib.Core.List.{List, [], _∷_, _++_, append-nil}
 use Prim.Native.Nat.{ℕ, zero, suc, _+_, _*_, _^_, _≤_, _<_}
-use native.Mathlib.Nat.{add-zero, zero-add, mul-zero, mul-suc}
+use native.Mathlib.Nat.{zero-add, mul-suc}
 use native.Mathlib.Numerals.{add-one}
 use native.Mathlib.Omega.{arith}
-use lib.ListN.{length, getD, set, take, drop, length-append, List·getD-map}
+use lib.ListN.{length, getD, set, take, drop, length-append}
 use lib.Seq.{take-suc, take-length, drop-at, drop-length}
 use borrow.Rule.Slice.PartMut.{midOf, putMid}
 use Rattle.words.specs.Le.{fromLe, toLe, u32At, length-toLe}
 use Rattle.words.specs.Regions.{mid-long, mid-more, put-more, put-put}
 use Rattle.unit.specs.Result.{Retained, placeBytes}
-use Rattle.unit.specs.Laws.{place-bytes-long}
 use Rattle.answer.specs.Clean.{placedBy}
 use Rattle.pc_map.specs.Retaining.{place-section}
 use Rattle.clean.specs.Reading.{placeSize, retainedAt, noRetained, place-back}

@@ -1,17 +1,16 @@
 -- A result that lies at the front of a buffer is read back.
 -- Assumes nothing.
-use mathlib.Core.Path.{_≡_, refl, sym, ap, _∙_}
+use mathlib.Core.Path.{_≡_, sym, ap, _∙_}
 use mathlib.Core.Bool.{true}
 use mathlib.Core.List.{List, [], _∷_, _++_, append-assoc}
-use Prim.Native.Nat.{ℕ, suc, _+_, _*_, _^_, _≤_, _<_}
+use Prim.Native.Nat.{ℕ, suc, _+_, _*_, _^_, _<_}
 use native.Mathlib.Omega.{arith}
 use lib.ListN.{length, getD, take, drop, length-append}
 use lib.Seq.{split-at, append-snoc, take-at, drop-at, length-take-le, ext-getD}
 use borrow.Rule.Slice.PartMut.{midOf}
-use Rattle.words.specs.Inside.{mid-inside}
 use Rattle.words.specs.Le.{fromLe, toLe, u32At, from-to, length-toLe}
 use Rattle.words.specs.Lists.{tabulate, length-tabulate, getD-tabulate}
-use Rattle.instruction.specs.Instruction.{Fields, instructionAt, toWord}
+use Rattle.instruction.specs.Instruction.{Fields, instructionAt}
 use Rattle.instruction.specs.Laws.{read-back}
 use Rattle.unit.specs.Entry.{metadataAt, metadataBytes, goodMetadata}
 use Rattle.unit.specs.Laws.{MetadataFields, metadata-read-back, code-bytes-long, metadata-bytes-all-long, place-bytes-long, result-header-long}

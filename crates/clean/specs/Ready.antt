@@ -1,13 +1,12 @@
 -- Between two passes: a result at the front of a spare buffer, and what the next pass makes of it.
 -- Assumes nothing.
 use mathlib.Core.Path.{_≡_, refl, sym, ap, _∙_}
-use mathlib.Core.Bool.{Bool, true, false, cond, not, _&&_}
-use mathlib.Core.List.{List, [], _∷_, _++_, append-assoc, map}
-use Prim.Native.Nat.{ℕ, zero, suc, _+_, _-_, _*_, _/_, _^_, _≤_, _<_, min}
-use native.Mathlib.Nat.{mul-le-mul-left, zero-add}
+use mathlib.Core.Bool.{Bool, true, false, cond}
+use mathlib.Core.List.{List, [], _∷_, _++_, append-assoc}
+use Prim.Native.Nat.{ℕ, _+_, _-_, _*_, _/_, _^_, _≤_, _<_, min}
+use native.Mathlib.Nat.{mul-le-mul-left}
 use native.Mathlib.Omega.{arith}
-use lib.Dec.{ltb}
-use lib.ListN.{length, getD, take, drop, length-append, length-map, take-append-drop, List·getD-map}
+use lib.ListN.{length, take, drop, length-append, length-map, take-append-drop, List·getD-map}
 use lib.Seq.{ext-getD, take-at, drop-at}
 use borrow.Author.Tests.{lt-ltb, le-ltb}
 use borrow.Rule.Slice.PartMut.{midOf, putMid}
@@ -15,13 +14,13 @@ use Rattle.words.specs.Bytes.{Bytes, bytes-mid, le-fits}
 use Rattle.words.specs.Le.{u32At}
 use Rattle.words.specs.Lists.{tabulate, length-tabulate, getD-tabulate}
 use Rattle.words.specs.Regions.{mid-long}
-use Rattle.instruction.specs.Instruction.{Fields, instructionAt}
+use Rattle.instruction.specs.Instruction.{instructionAt}
 use Rattle.unit.specs.Entry.{metadataAt, goodMetadata}
 use Rattle.unit.specs.Laws.{MetadataFields, unit-laid, result-long, result-header-long, code-bytes-long, metadata-bytes-all-long, place-bytes-long}
 use Rattle.unit.specs.Layout.{headerOf, typesOf, constantsOf, functionsOf, externsOf, casesOf, isUnit}
 use Rattle.unit.specs.Result.{Retained, resultHeader, codeBytes, metadataBytesAll, placeBytes, resultBytes, resultMetadataAt, resultPlacesAt}
-use Rattle.unit.specs.Size.{instructionSize, metadataSize, constantSize, caseSize, resultHeaderSize, resultSize, setWords, maxSetWords, work64Room, maxInstructions}
-use Rattle.effects.specs.Shape.{Sections, Cell, cellAt, noCell}
+use Rattle.unit.specs.Size.{instructionSize, metadataSize, constantSize, caseSize, resultHeaderSize, resultSize, setWords, maxSetWords, maxInstructions}
+use Rattle.effects.specs.Shape.{Sections, cellAt, noCell}
 use Rattle.answer.specs.Answer.{sectionsOf}
 use Rattle.answer.specs.Clean.{cellOf, cellsAfter, placedBy}
 use Rattle.answer.specs.Pass.{Outcome, unchanged, refused, rewritten, isWorkedOn, optimized, pass}
@@ -29,10 +28,10 @@ use Rattle.run.specs.Checked.{Well}
 use Rattle.run.specs.Given.{instruction-fields, constants-below}
 use Rattle.run.specs.Program.{Function}
 use Rattle.run.specs.Returned.{resultFunction}
-use Rattle.optimize.specs.Parts.{Given, Room, sectionsIn, cellsIn, cells-in, written}
-use Rattle.clean.specs.Reading.{Sound, AllFit, placeSize, codeIn, metadataIn, placesIn, retainedIn, retainedAt, noRetained, code-in, metadata-in, places-in, metadata-back, place-back, retained-back}
+use Rattle.optimize.specs.Parts.{Given, Room, sectionsIn, cellsIn, cells-in}
+use Rattle.clean.specs.Reading.{AllFit, placeSize, codeIn, metadataIn, placesIn, retainedIn, retainedAt, noRetained, metadata-in, places-in, metadata-back, retained-back}
 use Rattle.clean.specs.Fitting.{AllSound, Again, optimized-again, placed-long, placed-fits}
-use Rattle.clean.specs.Placing.{composed, composed-places}
+use Rattle.clean.specs.Placing.{composed}
 
 -- room for n instructions is room for fewer
 pub room-fewer : (k n s out work32 work64 : ℕ) → k ≤ n → Room n s out work32 work64 → Room k s out work32 work64

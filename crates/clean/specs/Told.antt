@@ -2,27 +2,26 @@
 -- Assumes nothing.
 use mathlib.Core.Path.{_≡_, refl, sym, ap, _∙_}
 use mathlib.Core.List.{List}
-use Prim.Native.Nat.{ℕ, zero, suc, _+_, _-_, _*_, _^_, _≤_, _<_}
+use Prim.Native.Nat.{ℕ, _+_, _-_, _*_, _^_, _≤_, _<_}
 use native.Mathlib.Omega.{arith}
 use lib.ListN.{length}
 use borrow.Rule.Slice.PartMut.{midOf, putMid}
 use Rattle.words.specs.Bytes.{Bytes}
 use Rattle.words.specs.Le.{u32At}
 use Rattle.words.specs.Regions.{mid-long}
-use Rattle.unit.specs.Result.{Retained, placeBytes, resultBytes, resultPlacesAt}
+use Rattle.unit.specs.Result.{Retained, resultBytes, resultPlacesAt}
 use Rattle.unit.specs.Size.{resultSize, maxInstructions}
 use Rattle.effects.specs.Shape.{Sections}
 use Rattle.answer.specs.Answer.{sectionsOf}
-use Rattle.answer.specs.Clean.{Cleaned as Cleaning, cellsAfter, placedBy, afterPass, cleanFrom}
-use Rattle.answer.specs.Pass.{Outcome, unchanged, refused, rewritten, optimized, pass}
+use Rattle.answer.specs.Clean.{cellsAfter, placedBy}
+use Rattle.answer.specs.Pass.{Outcome, unchanged, refused, rewritten, optimized}
 use Rattle.optimize.specs.declared.Answer.{Answer}
 use Rattle.optimize.specs.declared.Answer.the-variants.{Unchanged, Refused, Rewritten}
-use Rattle.clean.specs.declared.Cleaned.{Cleaned}
 use Rattle.optimize.specs.Parts.{told, written, Tells, tells-unchanged, tells-same}
-use Rattle.clean.specs.Reading.{placeSize, placesIn, retainedIn, retainedAt, place-back, places-in}
-use Rattle.clean.specs.Fitting.{Again, placed-long, placed-fits}
+use Rattle.clean.specs.Reading.{placeSize, placesIn, retainedIn, retainedAt, place-back}
+use Rattle.clean.specs.Fitting.{Again, placed-long}
 use Rattle.clean.specs.Placing.{composed, composed-places}
-use Rattle.clean.specs.Ready.{Ready, placedOutcome, laterOutcome, before-long, ready-places, ready-again, ready-old, pass-small, pass-worked, written-places, written-long, written-back, written-ready, places-composed, casesIn}
+use Rattle.clean.specs.Ready.{Ready, placedOutcome, laterOutcome, before-long, ready-places, ready-again, ready-old, pass-small, pass-worked, written-places, written-long, places-composed, casesIn}
 
 -- ---- an answer's outcome
 

@@ -1,9 +1,9 @@
 use borrow.Author.Tests.{not-true, not-false}
-use mathlib.Core.Path.{_≡_, refl, sym, ap, _∙_}
+use mathlib.Core.Path.{_≡_, sym, ap, _∙_}
 use mathlib.Core.Bool.{Bool, true, false, _&&_}
 use native.Mathlib.Omega.{arith}
 use lib.ListN.{length}
-use Prim.Native.Nat.{ℕ, _<_, _≤_}
+use Prim.Native.Nat.{ℕ, _<_}
 use Rattle.unit.specs.declared.Counts.{Counts}
 use Rattle.unit.specs.declared.Header.{Header}
 use Rattle.unit.specs.Layout.{headerOf}
@@ -16,12 +16,6 @@ use Rattle.clean.specs.First.{unaltered-tells, clean-left, clean-short, 
 use borrow.Author.Needs.{needs}
 use Rattle.clean.proofs.laid.Statement.{statement}
 use Rattle.clean.proofs.laid.Tie as tie
-use Rattle.clean.proofs.laid.Reads as reads
-use Rattle.clean.proofs.laid.Lts as lts
-use Rattle.clean.proofs.first_pass.Reads as first-pass-reads
-use Rattle.clean.proofs.has_spare.Reads as has-spare-reads
-use Rattle.optimize.proofs.pass.has_room.Reads as has-room-reads
-use Rattle.optimize.proofs.pass.is_left.Reads as is-left-reads
 
 -- the tests, of the unit's header
 abbrev header : tie.Start → Header
@@ -46,54 +40,24 @@ room-as s a b t f g e = rw (← f (header s) (field s (λ x. x .instructions)) (
 few : (s : tie.Start) → isLeft (header s) ≡ false → s .args .c .instructions < 4294967296
 few s e = let few = worked-on (header s) e .1 in omega (arith, field s (λ x. x .instructions))
 
--- src/lib.rt:153:8
-is-left-requires : tie.Need-is-left-requires
-is-left-requires c κs = search needs
-
--- src/lib.rt:154:9
 returns : tie.Need-returns
 returns c = let s = c .before .before .before .before .before .before .before .before in tells-cleaned _ _ _ _ _ (clean-left _ _ _ _ (s .pre .0) (left-as (c .before .before .before .before .before .before .before .before) _ true (c .before .is-left .ensures) (c .if1 .taken))) (unaltered-tells (s .args .out .now))
 
--- src/lib.rt:159:10
 has-room-requires : tie.Need-has-room-requires
 has-room-requires c κs =
     let s = c .before .before .before .before .before .before .before .before in
     let locals = unit-laid (s .args .unit .now) (s .pre .0) .locals in
     (few s (left-as (c .before .before .before .before .before .before .before .before) _ false (c .before .is-left .ensures) (c .if1 .left)), omega (arith, field s (λ x. x .locals)))
 
--- src/lib.rt:160:11
 has-spare-requires : tie.Need-has-spare-requires
 has-spare-requires c κs = few (c .before .before .before .before .before .before .before .before .before) (left-as (c .before .before .before .before .before .before .before .before .before) _ false (c .before .before .is-left .ensures) (c .before .if1 .left))
 
--- src/lib.rt:162:9
 returns-2 : tie.Need-returns-2
 returns-2 c = let s = c .before .before .before .before .before .before .before .before .before .before .before in tells-cleaned _ _ _ _ _ (clean-short _ _ _ _ (s .pre .0) (left-as (c .before .before .before .before .before .before .before .before .before .before .before) _ false (c .before .before .before .before .is-left .ensures) (c .before .before .before .if1 .left)) (room-as (c .before .before .before .before .before .before .before .before .before .before .before) _ _ false (c .before .before .has-room .ensures) (c .before .has-spare .ensures) (not-true _ (c .if2 .taken)))) (stop-tells _ _ 1 (s .args .out .now))
 
--- src/lib.rt:167:5
 first-pass-requires : tie.Need-first-pass-requires
 first-pass-requires c κs = let s = c .before .before .before .before .before .before .before .before .before .before .before .before .before .before .before .before in (s .pre .0, s .pre .1, (left-as (c .before .before .before .before .before .before .before .before .before .before .before .before .before .before .before .before) _ false (c .before .before .before .before .before .before .before .before .before .is-left .ensures) (c .before .before .before .before .before .before .before .before .if1 .left)), (room-as (c .before .before .before .before .before .before .before .before .before .before .before .before .before .before .before .before) _ _ true (c .before .before .before .before .before .before .before .has-room .ensures) (c .before .before .before .before .before .before .has-spare .ensures) (not-false _ (c .before .before .before .before .before .if2 .left))))
 
--- src/lib.rt:140:1
-same-length : tie.Need-same-length
-same-length c = search needs
-
--- src/lib.rt:140:1
-same-length-2 : tie.Need-same-length-2
-same-length-2 c = search needs
-
--- src/lib.rt:140:1
-same-length-3 : tie.Need-same-length-3
-same-length-3 c = search needs
-
--- src/lib.rt:140:1
-same-length-4 : tie.Need-same-length-4
-same-length-4 c = search needs
-
--- src/lib.rt:140:1
-same-length-5 : tie.Need-same-length-5
-same-length-5 c = search needs
-
--- src/lib.rt:140:1
 returns-3 : tie.Need-returns-3
 returns-3 c = let s = c .before .before .before .before .before .before .before .before .before .before .before .before .before .before .before .before .before .before .before .before .before .before .before .before .before .before .before in tells-cleaned _ _ _ _ _ (clean-first _ _ _ _ (s .pre .0) (left-as (c .before .before .before .before .before .before .before .before .before .before .before .before .before .before .before .before .before .before .before .before .before .before .before .before .before .before .before) _ false (c .before .before .before .before .before .before .before .before .before .before .before .before .before .before .before .before .before .before .before .before .is-left .ensures) (c .before .before .before .before .before .before .before .before .before .before .before .before .before .before .before .before .before .before .before .if1 .left)) (room-as (c .before .before .before .before .before .before .before .before .before .before .before .before .before .before .before .before .before .before .before .before .before .before .before .before .before .before .before) _ _ true (c .before .before .before .before .before .before .before .before .before .before .before .before .before .before .before .before .before .before .has-room .ensures) (c .before .before .before .before .before .before .before .before .before .before .before .before .before .before .before .before .before .has-spare .ensures) (not-false _ (c .before .before .before .before .before .before .before .before .before .before .before .before .before .before .before .before .if2 .left)))) (c .before .before .before .before .before .before .before .before .before .before .first-pass .ensures)
 
@@ -101,15 +65,15 @@ pub laid-spec : {M : Type 1} → statement M
 laid-spec =
     tie.close
     (tie.spec
-    is-left-requires
+    (λ c κs. search needs)
     returns
     has-room-requires
     has-spare-requires
     returns-2
     first-pass-requires
-    same-length
-    same-length-2
-    same-length-3
-    same-length-4
-    same-length-5
+    (λ c. search needs)
+    (λ c. search needs)
+    (λ c. search needs)
+    (λ c. search needs)
+    (λ c. search needs)
     returns-3)

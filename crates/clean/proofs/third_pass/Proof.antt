@@ -7,94 +7,18 @@ use Rattle.clean.specs.Cleaning.{tells-cleaned, stop-tells, from-unchang
 use borrow.Author.Needs.{needs}
 use Rattle.clean.proofs.third_pass.Statement.{statement}
 use Rattle.clean.proofs.third_pass.Tie as tie
-use Rattle.clean.proofs.third_pass.Reads as reads
-use Rattle.clean.proofs.third_pass.Lts as lts
-use Rattle.clean.proofs.give.Reads as give-reads
-use Rattle.clean.proofs.later.later.Reads as later-reads
 
--- src/lib.rt:66:11
-later-requires : tie.Need-later-requires
-later-requires c κs = search needs
-
--- src/lib.rt:67:41
-enum-told : tie.Need-enum-told
-enum-told c = search needs
-
--- src/lib.rt:67:30
-give-requires : tie.Need-give-requires
-give-requires c κs = search needs
-
--- src/lib.rt:68:25
-enum-known-r : tie.Need-enum-known-r
-enum-known-r c = search needs
-
--- src/lib.rt:72:27
-enum-known-j : tie.Need-enum-known-j
-enum-known-j c = search needs
-
--- src/lib.rt:72:52
-cast-give : tie.Need-cast-give
-cast-give c = search needs
-
--- src/lib.rt:72:33
 give-requires-2 : tie.Need-give-requires-2
 give-requires-2 c κs =
     let n = next-ready (c .before .before .before .before .before .before .before .before .before .before .before .before .before .before .before .before .before .before .before .before .before .pre .0) (λ i. omega (arith, c .before .before .before .before .before .before .before .before .before .before .before .before .before .before .before .before .before .before .before .before .shared-slice-known .given i)) (λ i. omega (arith, c .before .before .before .before .before .before .before .before .before .before .before .before .before .before .before .before .shared-slice-known2 .given i)) (c .before .before .before .before .before .before .before .before .before .before .before .before .before .before .before .before .before .before .before .before .before .args .to .now) _ _ (c .before .before .before .before .before .before .before .before .before .before .before .later .ensures) refl _ (c .before .before .before .j .given .1) in
     (n .ready .few, n .ready .long, omega (arith, n .fewer, c .before .before .before .before .before .before .before .before .before .before .before .before .before .before .before .before .before .before .before .before .before .pre .1), n .ready .whole)
 
--- src/lib.rt:54:1
-same-length : tie.Need-same-length
-same-length c = search needs
-
--- src/lib.rt:54:1
-same-length-2 : tie.Need-same-length-2
-same-length-2 c = search needs
-
--- src/lib.rt:54:1
-same-length-3 : tie.Need-same-length-3
-same-length-3 c = search needs
-
--- src/lib.rt:54:1
-same-length-4 : tie.Need-same-length-4
-same-length-4 c = search needs
-
--- src/lib.rt:54:1
 returns : tie.Need-returns
 returns c = tells-cleaned _ _ _ _ _ (from-unchanged (sectionsOf (c .before .before .before .before .before .before .before .before .before .before .before .before .before .before .before .before .before .before .before .before .before .before .args .unit .now)) 0 2 (retainedIn (c .before .before .before .before .before .before .before .before .before .before .before .before .before .before .before .before .before .before .before .before .before .before .args .k) (c .before .before .before .before .before .before .before .before .before .before .before .before .before .before .before .before .before .before .before .before .before .before .args .from .now)) (c .before .before .before .before .before .before .before .before .before .before .before .before .before .before .before .before .before .before .before .before .before .before .args .to .now) _ _ (c .before .before .before .before .before .before .before .before .before .before .before .before .later .ensures) (c .before .before .before .before .enum-told .given .1)) (c .before .before .give .ensures)
 
--- src/lib.rt:54:1
-same-length-5 : tie.Need-same-length-5
-same-length-5 c = search needs
-
--- src/lib.rt:54:1
-same-length-6 : tie.Need-same-length-6
-same-length-6 c = search needs
-
--- src/lib.rt:54:1
-same-length-7 : tie.Need-same-length-7
-same-length-7 c = search needs
-
--- src/lib.rt:54:1
 returns-2 : tie.Need-returns-2
 returns-2 c = tells-cleaned _ _ _ _ _ (from-refused (sectionsOf (c .before .before .before .before .before .before .before .before .before .before .before .before .before .before .before .before .before .before .before .args .unit .now)) 0 2 (retainedIn (c .before .before .before .before .before .before .before .before .before .before .before .before .before .before .before .before .before .before .before .args .k) (c .before .before .before .before .before .before .before .before .before .before .before .before .before .before .before .before .before .before .before .args .from .now)) (c .before .before .before .before .before .before .before .before .before .before .before .before .before .before .before .before .before .before .before .args .to .now) _ _ (c .before .before .before .before .before .before .before .before .before .later .ensures) _ _ (c .before .r .given .1)) (stop-tells _ _ 3 (c .before .before .before .before .before .before .before .before .before .before .before .before .before .before .before .before .before .before .before .args .out .now))
 
--- src/lib.rt:54:1
-same-length-8 : tie.Need-same-length-8
-same-length-8 c = search needs
-
--- src/lib.rt:54:1
-same-length-9 : tie.Need-same-length-9
-same-length-9 c = search needs
-
--- src/lib.rt:54:1
-same-length-10 : tie.Need-same-length-10
-same-length-10 c = search needs
-
--- src/lib.rt:54:1
-same-length-11 : tie.Need-same-length-11
-same-length-11 c = search needs
-
--- src/lib.rt:54:1
 returns-3 : tie.Need-returns-3
 unfolding cleanFrom
 returns-3 c = tells-cleaned _ _ _ _ _ (from-rewritten (c .before .before .before .before .before .before .before .before .before .before .before .before .before .before .before .before .before .before .before .before .before .before .before .before .pre .0) (λ i. omega (arith, c .before .before .before .before .before .before .before .before .before .before .before .before .before .before .before .before .before .before .before .before .before .before .before .shared-slice-known .given i)) (λ i. omega (arith, c .before .before .before .before .before .before .before .before .before .before .before .before .before .before .before .before .before .before .before .shared-slice-known2 .given i)) (c .before .before .before .before .before .before .before .before .before .before .before .before .before .before .before .before .before .before .before .before .before .before .before .before .args .to .now) _ _ (c .before .before .before .before .before .before .before .before .before .before .before .before .before .before .later .ensures) refl _ (c .before .before .before .before .before .before .j .given .1) 0 2) (c .before .before .give2 .ensures)
@@ -103,24 +27,24 @@ pub third-pass-spec : {M : Type 1} → statement M
 third-pass-spec =
     tie.close
     (tie.spec
-    later-requires
-    enum-told
-    give-requires
-    enum-known-r
-    enum-known-j
-    cast-give
+    (λ c κs. search needs)
+    (λ c. search needs)
+    (λ c κs. search needs)
+    (λ c. search needs)
+    (λ c. search needs)
+    (λ c. search needs)
     give-requires-2
-    same-length
-    same-length-2
-    same-length-3
-    same-length-4
+    (λ c. search needs)
+    (λ c. search needs)
+    (λ c. search needs)
+    (λ c. search needs)
     returns
-    same-length-5
-    same-length-6
-    same-length-7
+    (λ c. search needs)
+    (λ c. search needs)
+    (λ c. search needs)
     returns-2
-    same-length-8
-    same-length-9
-    same-length-10
-    same-length-11
+    (λ c. search needs)
+    (λ c. search needs)
+    (λ c. search needs)
+    (λ c. search needs)
     returns-3)

@@ -1,17 +1,13 @@
-use mathlib.Core.Path.{_≡_, refl, sym, _∙_}
+use mathlib.Core.Path.{_≡_, refl, _∙_}
 use Prim.Native.Nat.{_-_, _*_, _≤_}
 use native.Mathlib.Omega.{arith}
 use lib.ListN.{length}
-use borrow.Rule.Slice.PartMut.{midOf, putMid}
+use borrow.Rule.Slice.PartMut.{putMid}
 use borrow.Author.Needs.{needs}
 use Rattle.clean.specs.Reading.{placeSize}
 use Rattle.clean.specs.Placing.{composed, place-left, compose-turn, compose-end}
 use Rattle.clean.proofs.buffer.compose.Statement.{statement}
 use Rattle.clean.proofs.buffer.compose.Tie as tie
-use Rattle.clean.proofs.buffer.compose.Reads as reads
-use Rattle.clean.proofs.buffer.compose.Lts as lts
-use Rattle.words.proofs.le.read_u32.Reads as read-u32-reads
-use Rattle.words.proofs.le.write_u32.Reads as write-u32-reads
 
 abbrev Inv-loop : tie.InvT-loop
 Inv-loop from to₀ k p₀ to p = (p ≤ k) × (length to ≡ length to₀) × (to ≡ putMid 0 (placeSize * p) to₀ (composed from to₀ p))
@@ -19,32 +15,13 @@ Inv-loop from to₀ k p₀ to p = (p ≤ k) × (length to ≡ length to₀) × (
 abbrev μ-loop : tie.MeasureT-loop
 μ-loop from to₀ k p₀ to p = k - p
 
--- src/buffer.rt:30:5
 loop-holds : tie.Need-loop-holds Inv-loop μ-loop
 unfolding composed
 loop-holds c = (omega arith, refl, refl)
 
--- src/buffer.rt:31:41
-mul-read-u32 : tie.Need-mul-read-u32 Inv-loop μ-loop
-mul-read-u32 c = search needs
-
--- src/buffer.rt:31:19
 read-u32-requires : tie.Need-read-u32-requires Inv-loop μ-loop
 read-u32-requires c κs = let l = c .before .before in omega (arith, l .loop .inv .1, l .before .before .before .pre .1)
 
--- src/buffer.rt:31:19
-cast-old : tie.Need-cast-old Inv-loop μ-loop
-cast-old c = search needs
-
--- src/buffer.rt:32:27
-mul-write-u32 : tie.Need-mul-write-u32 Inv-loop μ-loop
-mul-write-u32 c = search needs
-
--- src/buffer.rt:32:53
-mul-read-u32-2 : tie.Need-mul-read-u32-2 Inv-loop μ-loop
-mul-read-u32-2 c = search needs
-
--- src/buffer.rt:32:34
 read-u32-requires-2 : tie.Need-read-u32-requires-2 Inv-loop μ-loop
 read-u32-requires-2 c κs =
     let r = c .before in
@@ -53,19 +30,9 @@ read-u32-requires-2 c κs =
     let old = r .read-u32 .ensures ∙ place-left (s .args .from .now) (s .args .to .now) (l .loop .to) (l .loop .p) (l .loop .inv .2) in
     rw old (s .pre .2 (l .loop .p) (omega arith))
 
--- src/buffer.rt:32:9
 write-u32-requires : tie.Need-write-u32-requires Inv-loop μ-loop
 write-u32-requires c κs = let l = c .before .before .before .before .before in omega (arith, l .loop .inv .1, l .before .before .before .pre .1)
 
--- src/buffer.rt:33:9
-add-p : tie.Need-add-p Inv-loop μ-loop
-add-p c = search needs
-
--- src/buffer.rt:30:5
-loop-less : tie.Need-loop-less Inv-loop μ-loop
-loop-less c = search needs
-
--- src/buffer.rt:30:5
 loop-again : tie.Need-loop-again Inv-loop μ-loop
 loop-again c =
     let w = c .before .before in
@@ -79,11 +46,9 @@ loop-again c =
       compose-turn (s .args .from .now) (s .args .to .now) (l .loop .to) (l .loop .p) (l .loop .inv .2) _ (v .read-u322 .result) (omega (arith, s .pre .1)) (v .read-u322 .ensures ∙ rw old) (w .write-u32 .ensures),
     )
 
--- src/buffer.rt:25:1
 same-length : tie.Need-same-length Inv-loop μ-loop
 same-length c = c .before .loop .inv .1
 
--- src/buffer.rt:25:1
 returns : tie.Need-returns Inv-loop μ-loop
 returns c =
     let l = c .before in
@@ -98,15 +63,15 @@ compose-spec =
     Inv-loop
     μ-loop
     loop-holds
-    mul-read-u32
+    (λ c. search needs)
     read-u32-requires
-    cast-old
-    mul-write-u32
-    mul-read-u32-2
+    (λ c. search needs)
+    (λ c. search needs)
+    (λ c. search needs)
     read-u32-requires-2
     write-u32-requires
-    add-p
-    loop-less
+    (λ c. search needs)
+    (λ c. search needs)
     loop-again
     same-length
     returns)
