@@ -15,7 +15,7 @@ counted-requires c κs =
     let a = s .args in
     (s .pre .0, s .pre .1, s .pre .2, room-first (headerOf (a .unit .now)) (length (a .out .now)) (length (a .work32 .now)) (length (a .work64 .now)) (length (a .first .now)) (length (a .second .now)) (s .pre .3) .1)
 
--- what was given, before the call that most facts come from
+-- what was given, from the state after the pass
 abbrev start : tie.After-counted → tie.Start
 start l = l .before .before .before .before .before .before .before .before .before .before
 

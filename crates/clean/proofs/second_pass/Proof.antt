@@ -8,7 +8,7 @@ use borrow.Author.Needs.{needs}
 use Rattle.clean.proofs.second_pass.Statement.{statement}
 use Rattle.clean.proofs.second_pass.Tie as tie
 
--- what was given, before the call that most facts come from
+-- what was given, from the state after the pass
 abbrev start : tie.After-later → tie.Start
 start l = l .before .before .before .before .before .before .before .before .before .before .before
 

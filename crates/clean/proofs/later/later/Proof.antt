@@ -9,7 +9,7 @@ use Rattle.clean.proofs.later.later.Tie as tie
 returns : tie.Need-returns
 returns c = small-tells (c .before .before .before .before .before .before .pre) (λ i. omega (arith, c .before .before .before .before .before .shared-slice-known .given i)) (λ i. omega (arith, c .before .before .before .before .shared-slice-known2 .given i)) (c .if1 .taken) (c .before .before .before .before .before .before .args .to .now)
 
--- what was given, before the call that most facts come from
+-- what was given, from the state after the pass
 abbrev start : tie.After-work → tie.Start
 start l = l .before .before .before .before .before .before .before .before .before .before
 
