@@ -1,10 +1,22 @@
 -- Answers as numbers, for programs in other languages.
 -- Assumes nothing.
+use mathlib.Core.Path.{_≡_}
 use Rattle.optimize.specs.declared.Answer.{Answer}
 use Rattle.optimize.specs.declared.Answer.the-variants.{Unchanged, Refused, Rewritten}
+use Rattle.clean.specs.declared.Cleaned.{Cleaned}
 use Rattle.host.specs.declared.Numbers.{Numbers}
+use Rattle.host.specs.declared.CleanedNumbers.{CleanedNumbers}
 
 unfoldable pub numbersOf : Answer → Numbers
 numbersOf Unchanged = record { kind = 0; number = 0; place = 0 }
 numbersOf (Refused k p) = record { kind = 1; number = k; place = p }
 numbersOf (Rewritten n) = record { kind = 2; number = n; place = 0 }
+
+unfoldable pub cleanedNumbersOf : Cleaned → CleanedNumbers
+cleanedNumbersOf c =
+    let n = numbersOf (c .answer) in
+    record { kind = n .kind; number = n .number; place = n .place; passes = c .passes }
+
+pub cleaned-numbers : (c : Cleaned) (n : Numbers) → n ≡ numbersOf (c .answer) → _≡_ {A = CleanedNumbers} (record { kind = n .kind; number = n .number; place = n .place; passes = c .passes }) (cleanedNumbersOf c)
+unfolding cleanedNumbersOf
+cleaned-numbers c n e = rw e

@@ -3,10 +3,13 @@
 ghost use mathlib.Core.Path.{_≡_};
 ghost use lib.ListN.{length, replicate};
 ghost use Rattle.answer.specs.Answer.{passAnswer};
+ghost use Rattle.answer.specs.Clean.{cleanAnswer};
 ghost use Rattle.run.specs.Returned.{RunsAlike};
 ghost use Rattle.optimize.specs.Parts.{told, written};
 ghost use Rattle.optimize.specs.Whole.{lentOf};
-ghost use Rattle.host.specs.Numbers.{numbersOf};
+ghost use Rattle.clean.specs.Cleaning.{toldCleaned};
+ghost use Rattle.host.specs.Numbers.{numbersOf, cleanedNumbersOf};
+use clean::clean;
 use optimize::Answer;
 use optimize::pass;
 
@@ -16,6 +19,15 @@ pub struct Numbers {
     pub kind: u32,
     pub number: u32,
     pub place: u32,
+}
+
+// The same, and the number of the last pass run.
+#[repr(C)]
+pub struct CleanedNumbers {
+    pub kind: u32,
+    pub number: u32,
+    pub place: u32,
+    pub passes: u32,
 }
 
 fn in_numbers(a: Answer) -> Numbers
@@ -51,4 +63,28 @@ pub extern "C" fn lampruda_pass(
     ensures { λ r. ⌜ (r ≡ numbersOf (told (passAnswer (now (unit .entry)) (lentOf (length (now (out .entry))) (length (now (work32 .entry))) (length (now (work64 .entry))))))) × (now (out .exit) ≡ written (passAnswer (now (unit .entry)) (lentOf (length (now (out .entry))) (length (now (work32 .entry))) (length (now (work64 .entry))))) (now (out .entry))) × (now (work32 .exit) ≡ replicate (length (now (work32 .entry))) 0) × (now (work64 .exit) ≡ replicate (length (now (work64 .entry))) 0) × RunsAlike (now (unit .entry)) (passAnswer (now (unit .entry)) (lentOf (length (now (out .entry))) (length (now (work32 .entry))) (length (now (work64 .entry))))) ⌝ }
 {
     in_numbers(pass::pass(unit, out, work32, work64))
+}
+
+// Up to three passes.
+#[no_mangle]
+pub extern "C" fn lampruda_clean(
+    unit: &[u8],
+    out: &mut [u8],
+    work32: &mut [u32],
+    work64: &mut [u64],
+    first: &mut [u8],
+    second: &mut [u8],
+) -> CleanedNumbers
+    ensures { λ r. ⌜ (r ≡ cleanedNumbersOf (toldCleaned (cleanAnswer (now (unit .entry)) (lentOf (length (now (out .entry))) (length (now (work32 .entry))) (length (now (work64 .entry)))) (length (now (first .entry))) (length (now (second .entry)))))) × (now (out .exit) ≡ written (cleanAnswer (now (unit .entry)) (lentOf (length (now (out .entry))) (length (now (work32 .entry))) (length (now (work64 .entry)))) (length (now (first .entry))) (length (now (second .entry))) .outcome) (now (out .entry))) × (now (work32 .exit) ≡ replicate (length (now (work32 .entry))) 0) × (now (work64 .exit) ≡ replicate (length (now (work64 .entry))) 0) × (now (first .exit) ≡ replicate (length (now (first .entry))) 0) × (now (second .exit) ≡ replicate (length (now (second .entry))) 0) × RunsAlike (now (unit .entry)) (cleanAnswer (now (unit .entry)) (lentOf (length (now (out .entry))) (length (now (work32 .entry))) (length (now (work64 .entry)))) (length (now (first .entry))) (length (now (second .entry))) .outcome) ⌝ }
+{
+    let c = clean(unit, out, work32, work64, first, second);
+    let answer = c.answer;
+    let passes = c.passes;
+    let n = in_numbers(answer);
+    CleanedNumbers {
+        kind: n.kind,
+        number: n.number,
+        place: n.place,
+        passes,
+    }
 }
