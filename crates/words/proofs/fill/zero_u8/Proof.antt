@@ -12,7 +12,7 @@ abbrev μ-loop : tie.MeasureT-loop
 μ-loop d₀ i₀ d i = length d₀ - i
 
 loop-holds : tie.Need-loop-holds Inv-loop μ-loop
-loop-holds c = none-filled (c .args .d .now)
+loop-holds c = none-filled (c .args .bytes .now)
 
 loop-again : tie.Need-loop-again Inv-loop μ-loop
 loop-again c = more-filled _ _ _ (c .before .loop .inv) (c .loop-test .taken)
