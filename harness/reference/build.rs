@@ -31,7 +31,7 @@ const MODULES: [(&str, &str); 3] = [
 fn main() {
     let manifest = PathBuf::from(env::var_os("CARGO_MANIFEST_DIR").unwrap());
     let out = PathBuf::from(env::var_os("OUT_DIR").unwrap());
-    println!("cargo::rerun-if-env-changed={VARIABLE}");
+    println!("cargo:rerun-if-env-changed={VARIABLE}");
     let source = match env::var_os(VARIABLE) {
         Some(folder) => PathBuf::from(folder),
         None => manifest.join("../../../shared/docs/src"),
@@ -54,7 +54,7 @@ fn main() {
 }
 
 fn copy(from: &Path, to: &Path) {
-    println!("cargo::rerun-if-changed={}", from.display());
+    println!("cargo:rerun-if-changed={}", from.display());
     let written = fs::read(from).and_then(|bytes| fs::write(to, bytes));
     if let Err(error) = written {
         eprintln!("cannot copy {}: {error}", from.display());

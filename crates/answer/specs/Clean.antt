@@ -7,7 +7,7 @@ use lib.Dec.{leb}
 use lib.ListN.{length, getD}
 use Rattle.unit.specs.declared.Header.{Header}
 use Rattle.unit.specs.Refusal.{notUnit, shortBuffer}
-use Rattle.unit.specs.Size.{spareRoom}
+use Rattle.unit.specs.Size.{outputRoom}
 use Rattle.unit.specs.Layout.{headerOf, isUnit}
 use Rattle.unit.specs.Result.{Retained}
 use Rattle.effects.specs.Shape.{Sections, Cell}
@@ -51,13 +51,16 @@ cleanedFirst S unchanged = record { outcome = unchanged; passes = 1 }
 cleanedFirst S (refused k p) = record { outcome = refused k p; passes = 1 }
 cleanedFirst S (rewritten kept) = cleanFrom S 2 1 kept
 
--- the cleaning also needs spare bytes
-unfoldable pub cleanAnswer : List ℕ → Lent → ℕ → Cleaned
-cleanAnswer u l spare =
+-- "The three-pass cleaning also needs 2 × (16 + 28n) spare bytes": one buffer is read while the other is written
+unfoldable pub spareFor : Header → ℕ → ℕ → Bool
+spareFor h first second = leb (outputRoom (h .counts .instructions)) first && leb (outputRoom (h .counts .instructions)) second
+
+unfoldable pub cleanAnswer : List ℕ → Lent → ℕ → ℕ → Cleaned
+cleanAnswer u l first second =
     let h = headerOf u in
     let worked = optimized (sectionsOf u) (cellsOf u) in
     let counted = countsChecked h worked in
-    let room = roomFor h l && leb (spareRoom (h .counts .instructions)) spare in
+    let room = roomFor h l && spareFor h first second in
     let lent = cond room counted (refused shortBuffer 0) in
     let left = cond (isLeft h) unchanged lent in
     cleanedFirst (sectionsOf u) (cond (isUnit u) left (refused notUnit 0))

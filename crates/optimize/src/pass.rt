@@ -22,7 +22,7 @@ use unit::size;
 use words::fill;
 
 // "n under 2, above 65,536, or defer"
-fn is_left(n: usize, defer: usize) -> bool
+pub fn is_left(n: usize, defer: usize) -> bool
     ensures { λ r. ⌜ ((h : Header) → h .counts .instructions ≡ n → h .counts .defer ≡ defer → r ≡ isLeft h) ⌝ }
 {
     if n < 2 {
@@ -35,7 +35,7 @@ fn is_left(n: usize, defer: usize) -> bool
 }
 
 // Is each lent buffer as long as stated?
-fn has_room(n: usize, s: usize, out: usize, work32: usize, work64: usize) -> bool
+pub fn has_room(n: usize, s: usize, out: usize, work32: usize, work64: usize) -> bool
     requires { ⌜ (n < 2 ^ 32) × (s ≤ maxLocalSlots) ⌝ }
     ensures { λ r. ⌜ ((h : Header) → h .counts .instructions ≡ n → h .counts .locals ≡ s → r ≡ roomFor h (lentOf out work32 work64)) ⌝ }
 {
@@ -45,7 +45,13 @@ fn has_room(n: usize, s: usize, out: usize, work32: usize, work64: usize) -> boo
 }
 
 // Refusals 3 and 4, then the pass on the unit's parts.
-fn counted(unit: &[u8], out: &mut [u8], work32: &mut [u32], work64: &mut [u64], c: Counts) -> Answer
+pub fn counted(
+    unit: &[u8],
+    out: &mut [u8],
+    work32: &mut [u32],
+    work64: &mut [u64],
+    c: Counts,
+) -> Answer
     requires { ⌜ (isUnit (now unit) ≡ true) × (c ≡ headerOf (now unit) .counts) × (isLeft (headerOf (now unit)) ≡ false) × (roomFor (headerOf (now unit)) (lentOf (length (now out)) (length (now work32)) (length (now work64))) ≡ true) ⌝ }
     ensures { λ r. ⌜ Tells (countsChecked (headerOf (now (unit .entry))) (optimized (sectionsOf (now (unit .entry))) (cellsOf (now (unit .entry))))) r (now (out .entry)) (now (out .exit)) ⌝ }
 {

@@ -19,7 +19,7 @@ use Rattle.unit.specs.Entry.{metadataAt, constantOf, constantAt, constantKind, 
 use Rattle.unit.specs.Layout.{headerOf, codeOf, metadataOf, constantsOf, isUnit}
 use Rattle.unit.specs.Laws.{unit-laid}
 use Rattle.unit.specs.Result.{Retained}
-use Rattle.unit.specs.Size.{instructionSize, constantSize, spareRoom}
+use Rattle.unit.specs.Size.{instructionSize, constantSize}
 use Rattle.unit.specs.Refusal.{notUnit, shortBuffer, metadataCount, typeCount}
 use Rattle.effects.specs.Shape.{Sections, Cell, cellAt, noCell}
 use Rattle.values.specs.declared.Atom.{Atom}
@@ -27,7 +27,7 @@ use Rattle.values.specs.declared.Atom.the-variants.{Integer, Float, Definition}
 use Rattle.values.specs.Number.{constantAtom}
 use Rattle.answer.specs.Pass.{Outcome, unchanged, refused, rewritten, isWorkedOn, optimized, pass}
 use Rattle.answer.specs.Answer.{Lent, cellsOf, sectionsOf, roomFor, isLeft, countsChecked, passAnswer}
-use Rattle.answer.specs.Clean.{Cleaned, cellOf, cellsAfter, placedBy, afterPass, cleanFrom, cleanedFirst, cleanAnswer}
+use Rattle.answer.specs.Clean.{Cleaned, cellOf, cellsAfter, placedBy, afterPass, cleanFrom, cleanedFirst, spareFor, cleanAnswer}
 use Rattle.run.specs.Machine.{SameRuns, same-runs-refl, same-runs-trans}
 use Rattle.run.specs.Program.{Function, programOf}
 use Rattle.run.specs.Returned.{givenFunction, resultFunction, RunsAlike}
@@ -77,11 +77,11 @@ atom-below Missing v h e p = let z : _≡_ {A = ℕ} 0 1 = cc in absurd (omega a
 pub constants-below : (l : List ℕ) → Bytes l → (k : ℕ) (v : Atom) → constantAtom (constantAt l k) ≡ some v → (p : ℕ) → Below p v
 constants-below l b k v = atom-below (constantAt l k) v (constant-small l k b)
 
-cell-at : (u : List ℕ) (p : ℕ) → p < headerOf u .counts .instructions → cellAt (cellsOf u) p ≡ record { instruction = instructionAt (codeOf u) p; metadata = metadataAt (metadataOf u) p }
+pub cell-at : (u : List ℕ) (p : ℕ) → p < headerOf u .counts .instructions → cellAt (cellsOf u) p ≡ record { instruction = instructionAt (codeOf u) p; metadata = metadataAt (metadataOf u) p }
 unfolding cellsOf
 cell-at u p h = getD-tabulate (headerOf u .counts .instructions) _ p noCell h
 
-cells-long : (u : List ℕ) → length (cellsOf u) ≡ headerOf u .counts .instructions
+pub cells-long : (u : List ℕ) → length (cellsOf u) ≡ headerOf u .counts .instructions
 unfolding cellsOf
 cells-long u = length-tabulate (headerOf u .counts .instructions) _
 
@@ -188,12 +188,12 @@ module _ (F : Function) where
       go (rewritten next) q e ih = ih (placedBy before next) (placed-good before next g (pass-runs (resultFunction (F .sections) before) (g .well) next q)) e
 
 -- Demand 3 for cleaning.
-pub clean-alike : (u : List ℕ) (l : Lent) (spare : ℕ) → Bytes u → RunsAlike u (cleanAnswer u l spare .outcome)
+pub clean-alike : (u : List ℕ) (l : Lent) (first second : ℕ) → Bytes u → RunsAlike u (cleanAnswer u l first second .outcome)
 unfolding cleanAnswer cleanedFirst RunsAlike givenFunction
-clean-alike u l spare b = go (answer u b room) refl
+clean-alike u l first second b = go (answer u b room) refl
   where
     room : Bool
-    room = roomFor (headerOf u) l && leb (spareRoom (headerOf u .counts .instructions)) spare
+    room = roomFor (headerOf u) l && spareFor (headerOf u) first second
 
     later : (o : Outcome) (kept : List Retained) → Good (givenFunction u) kept → cleanFrom (sectionsOf u) 2 1 kept .outcome ≡ o → RunsAlike u o
     later unchanged kept g e = same-runs-refl (programOf (givenFunction u))

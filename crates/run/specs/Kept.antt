@@ -207,7 +207,7 @@ module _ (G : Function) (leaders : List ℕ) (N : Removing G leaders) where
         go true = refl
         go false = refl
 
-    keep-bits : Bits keep
+    pub keep-bits : Bits keep
     keep-bits p = elim (decLe n p) [
       | yes h ↦ (let l : length keep ≤ p = rw keep-long h in inl (List·getD-eq-default keep 0 l))
       | no h ↦ rw (stays-at S leaders useful code rows p (omega arith)) (go (remains p))

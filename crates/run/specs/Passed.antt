@@ -47,11 +47,11 @@ module _ (F : Function) (w : Well F) (worked : isWorkedOn (length (F .cells)) �
   abbrev cells : List Cell
   cells = F .cells
 
-  some-code : 0 < length cells
+  pub some-code : 0 < length cells
   unfolding isWorkedOn
   some-code = let h = ltb-true 1 (length cells) (and-left (ltb 1 (length cells)) (not (ltb maxInstructions (length cells))) worked) in omega arith
 
-  few : length cells ≤ 65536
+  pub few : length cells ≤ 65536
   unfolding isWorkedOn
   few = go (ltb maxInstructions (length cells)) refl (and-right (ltb 1 (length cells)) (not (ltb maxInstructions (length cells))) worked)
     where
@@ -83,13 +83,18 @@ module _ (F : Function) (w : Well F) (worked : isWorkedOn (length (F .cells)) �
         };
       }
 
-  pub optimized-runs : (kept : List Retained) → optimized S cells ≡ rewritten kept → Good F kept
+  -- what a rewriting went through
+  pub optimized-kept : (kept : List Retained) → optimized S cells ≡ rewritten kept
+      → (operandCheck (S .locals) (S .tables) cells ≡ Passed) × (branchCheck cells ≡ Passed) × (retainFrom keep 0 code ≡ kept)
   unfolding optimized removal
-  optimized-runs kept e =
+  optimized-kept kept e =
       let operands = passed-check (operandCheck (S .locals) (S .tables) cells) _ kept e in
       let branches = passed-check (branchCheck cells) _ kept (operands .1) in
       let loops = passed-check (loopCheck (reachedPlaces code) code) _ kept (branches .1) in
-      rw (← retained (sameCode cells code && allKept keep) kept (loops .1)) (good (operands .0) (branches .0))
+      (operands .0, branches .0, retained (sameCode cells code && allKept keep) kept (loops .1))
+
+  pub optimized-runs : (kept : List Retained) → optimized S cells ≡ rewritten kept → Good F kept
+  optimized-runs kept e = let k = optimized-kept kept e in rw (← k .2) (good (k .0) (k .1))
 
 pub pass-runs : (F : Function) → Well F → (kept : List Retained) → pass (F .sections) (F .cells) ≡ rewritten kept → Good F kept
 unfolding pass

@@ -52,10 +52,6 @@ maxSetWords = 2097152
 abbrev pub work64Room : ℕ → ℕ → ℕ
 work64Room n s = 24 * n + 4 * s + setWords s + 3 * setWords s * min n (maxSetWords / setWords s)
 
--- "The three-pass cleaning also needs 2 × (16 + 28n) spare bytes"
-abbrev pub spareRoom : ℕ → ℕ
-spareRoom n = 2 * resultSize n
-
 -- the largest function that is worked on, and the largest number of local slots
 abbrev pub maxInstructions : ℕ
 maxInstructions = 65536

@@ -1,7 +1,7 @@
 // The lengths of the buffers that a caller lends.
 ghost use mathlib.Core.Path.{_≡_};
 ghost use Prim.Native.Nat.{_^_, _≤_, _<_, min};
-ghost use Rattle.unit.specs.Size.{outputRoom, work32Room, setWords, work64Room, spareRoom, maxLocalSlots};
+ghost use Rattle.unit.specs.Size.{outputRoom, work32Room, setWords, work64Room, maxLocalSlots};
 
 pub fn output_room(n: usize) -> usize
     requires { ⌜ n < 2 ^ 32 ⌝ }
@@ -42,11 +42,4 @@ pub fn work64_room(n: usize, s: usize) -> usize
     } else {
         24 * n + 4 * s + w + 3 * w * lesser(n, 2097152 / w)
     }
-}
-
-pub fn spare_room(n: usize) -> usize
-    requires { ⌜ n < 2 ^ 32 ⌝ }
-    ensures { λ r. ⌜ r ≡ spareRoom n ⌝ }
-{
-    2 * output_room(n)
 }

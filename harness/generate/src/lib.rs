@@ -7,9 +7,13 @@ pub mod named;
 mod opcodes;
 mod profiles;
 mod rng;
+mod shapes;
+pub mod small_world;
 
 pub use profiles::{every_damage, every_opcode, many_blocks, slow_liveness, Profile, PROFILES};
 pub use rng::Rng;
+pub use shapes::{Shape, ONE_BUCKET, SHAPES};
+pub use small_world::SmallWorld;
 
 /// The survey's unit of this seed and index: a profile drawn by weight, and its unit.
 pub fn survey(seed: u64, index: u64) -> (&'static Profile, Vec<u8>) {

@@ -1,7 +1,8 @@
 //! Document 01's answers and their text forms.
 
+use crate::entries::Instruction;
 use crate::hex;
-use crate::result::Rewritten;
+use crate::result::{Retained, Rewritten};
 use std::fmt;
 
 /// The answer of one pass.
@@ -22,8 +23,38 @@ impl Answer {
     /// "refused 1, place 0: unit not as above"
     pub const NO_UNIT: Self = Self::Refused { number: 1, place: 0 };
 
+    /// "refused 2, place 0: a lent buffer shorter than stated"
+    pub const SHORT_BUFFER: Self = Self::Refused { number: 2, place: 0 };
+
     pub fn rewritten(result: &Rewritten) -> Self {
         Self::Rewritten { bytes: result.encode() }
+    }
+
+    /// What the listing program prints, "in decimal, the answer and then new place, old place, op, flags, a, b,
+    /// c".
+    pub fn listing(&self) -> String {
+        format!("{}\n{}", self.words(), self.lines())
+    }
+
+    /// The answer without its result.
+    fn words(&self) -> String {
+        match self {
+            Self::Rewritten { bytes } => format!("rewritten {}", retained(bytes)),
+            answer => answer.to_string(),
+        }
+    }
+
+    /// A line for each retained instruction.
+    fn lines(&self) -> String {
+        let Self::Rewritten { bytes } = self else {
+            return String::new();
+        };
+        let result = Rewritten::decode(bytes).expect("a rewritten answer has a result");
+        let line = |(place, entry): (usize, &Retained)| {
+            let Instruction { op, flags, a, b, c } = entry.instruction;
+            format!("{place} {} {op} {flags} {a} {b} {c}\n", entry.old_place)
+        };
+        result.retained.iter().enumerate().map(line).collect()
     }
 }
 
@@ -32,6 +63,13 @@ impl Answer {
 pub struct Cleaned {
     pub answer: Answer,
     pub pass: u32,
+}
+
+impl Cleaned {
+    /// The listing, with the number of the last pass run at the end of its first line.
+    pub fn listing(&self) -> String {
+        format!("{} {}\n{}", self.answer.words(), self.pass, self.answer.lines())
+    }
 }
 
 /// A rewritten answer's n', the first word of its bytes.

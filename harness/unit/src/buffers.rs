@@ -1,6 +1,10 @@
-//! The sizes of the lent buffers, for a function of n instructions and s local slots.
+//! The lengths of the lent buffers, for a function of n instructions and s local slots.
 
 use crate::result::{Retained, RESULT_HEADER_LEN};
+use std::ops::RangeInclusive;
+
+/// The numbers of instructions that are worked on: "unchanged: n under 2, above 65,536, or defer".
+pub const WORKED_ON: RangeInclusive<u32> = 2..=65_536;
 
 /// Dead stores are skipped "when w × blocks exceeds 2,097,152".
 pub const MAX_LIVENESS_WORDS: u64 = 2_097_152;
@@ -31,7 +35,41 @@ pub fn work64(n: u64, s: u64) -> u64 {
     24 * n + 4 * s + liveness
 }
 
-/// "The three-pass cleaning also needs 2 × (16 + 28n) spare bytes"
-pub fn spare(n: u64) -> u64 {
-    2 * output(n)
+/// The lengths of the buffers of one call, in elements. The last two are the cleaning's: "2 × (16 + 28n) spare
+/// bytes".
+#[derive(Clone, Copy, Debug, Default, Eq, PartialEq)]
+pub struct Lengths {
+    pub out: usize,
+    pub work32: usize,
+    pub work64: usize,
+    pub first: usize,
+    pub second: usize,
+}
+
+impl Lengths {
+    pub fn stated(n: u32, s: u32) -> Self {
+        let (n, s) = (u64::from(n), u64::from(s));
+        let [out, work32, work64] = [output(n), work32(n), work64(n, s)].map(|length| length as usize);
+        Self { out, work32, work64, first: out, second: out }
+    }
+
+    /// One pass is lent no spare memory.
+    pub fn of_one_pass(self) -> Self {
+        Self { first: 0, second: 0, ..self }
+    }
+
+    /// Whether no buffer is "shorter than stated".
+    pub fn suffice(&self, stated: &Self) -> bool {
+        self.lengths().into_iter().zip(stated.lengths()).all(|(lent, asked)| lent >= asked)
+    }
+
+    pub fn lengths(&self) -> [usize; 5] {
+        [self.out, self.work32, self.work64, self.first, self.second]
+    }
+}
+
+impl From<[usize; 5]> for Lengths {
+    fn from([out, work32, work64, first, second]: [usize; 5]) -> Self {
+        Self { out, work32, work64, first, second }
+    }
 }

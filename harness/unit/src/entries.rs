@@ -73,6 +73,11 @@ pub struct Instruction {
 
 impl Instruction {
     /// "`imm32` is b + 65,536 × c", here as its 32 bits.
+    pub fn imm32(&self) -> u32 {
+        u32::from(self.b) | u32::from(self.c) << 16
+    }
+
+    /// Sets it by its 32 bits.
     pub fn set_imm32(&mut self, value: u32) {
         self.b = value as u16;
         self.c = (value >> 16) as u16;

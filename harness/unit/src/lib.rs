@@ -11,6 +11,7 @@ mod result;
 mod section;
 
 pub use answer::{Answer, Cleaned};
+pub use buffers::Lengths;
 pub use entries::{Case, Constant, Entry, Function, Instruction, Kind, Metadata};
 pub use entries::{CONSTANT_BOOL, CONSTANT_FLOAT, CONSTANT_INT, CONSTANT_NIL, CONSTANT_STRING};
 pub use entries::{TYPE_FLOAT, TYPE_GC_BASE, TYPE_VALUE};

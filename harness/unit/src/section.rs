@@ -1,5 +1,6 @@
 //! The header, the sections and the check that bytes are a unit.
 
+use crate::buffers::{Lengths, WORKED_ON};
 use crate::entries::{Case, Constant, Entry, Function, Instruction, Kind, Metadata};
 use crate::entries::{CONSTANT_BOOL, CONSTANT_STRING, TYPE_FLOAT};
 
@@ -140,6 +141,16 @@ impl<'a> Unit<'a> {
 
     pub fn header(&self) -> &Header {
         &self.header
+    }
+
+    /// Whether the answer depends on the buffers: "unchanged: n under 2, above 65,536, or defer" comes before
+    /// every row but the first.
+    pub fn is_worked_on(&self) -> bool {
+        WORKED_ON.contains(&self.header.count(Section::Code)) && self.header.defer == 0
+    }
+
+    pub fn stated_lengths(&self) -> Lengths {
+        Lengths::stated(self.header.count(Section::Code), self.header.local_slots)
     }
 
     /// "Each section is handed back as a part of the unit itself."

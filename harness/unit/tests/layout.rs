@@ -1,6 +1,6 @@
 //! The unit's and the result's layout, byte by byte, and the sizes of the lent buffers.
 
-use unit::buffers;
+use unit::{buffers, Lengths};
 use unit::{
     Answer, Case, Cleaned, Constant, Function, Instruction, Kind, Metadata, Parts, Retained, Rewritten,
 };
@@ -160,7 +160,7 @@ fn texts() {
 fn sizes_of_buffers() {
     assert_eq!(buffers::output(3), 100);
     assert_eq!(buffers::work32(3), 64);
-    assert_eq!(buffers::spare(3), 200);
+    assert_eq!(Lengths::stated(3, 1).lengths(), [100, 64, 86, 100, 100]);
     assert_eq!(buffers::work64(3, 0), 72);
     // w = 1: 24 × 3 + 4 × 64 + 1 + 3 × 1 × 3
     assert_eq!(buffers::work64(3, 64), 338);

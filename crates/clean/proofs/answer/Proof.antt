@@ -1,0 +1,32 @@
+use mathlib.Core.Path.{sym, ap, _∙_}
+use Rattle.unit.specs.declared.Header.{Header}
+use Rattle.unit.specs.Laws.{layout-unit, layout-refused}
+use Rattle.clean.specs.Cleaning.{tells-cleaned, stop-tells, stopped}
+use Rattle.clean.specs.First.{clean-refused}
+use borrow.Author.Needs.{needs}
+use Rattle.clean.proofs.answer.Statement.{statement}
+use Rattle.clean.proofs.answer.Tie as tie
+
+laid-requires : tie.Need-laid-requires
+laid-requires c κs = let e = layout-unit (c .before .before .before .before .before .before .before .before .before .before .before .before .before .before .before .args .unit .now) _ (sym (c .before .before .before .before .before .before .before .before .check .ensures) ∙ c .before .before .before .before .before .before .h .given .1) in (e .0, ap (λ (x : Header). x .counts) (e .1))
+
+returns : tie.Need-returns
+returns c =
+    let e = layout-refused (c .before .before .before .before .before .before .before .before .before .before .args .unit .now) _ _ (sym (c .before .before .before .check .ensures) ∙ c .before .k .given .1) in
+    tells-cleaned _ (stopped _ _ 1) _ _ _ (clean-refused _ _ _ _ (e .0) ∙ rw (e .1, e .2)) (stop-tells _ _ 1 (c .before .before .before .before .before .before .before .before .before .before .args .out .now))
+
+pub answer-spec : {M : Type 1} → statement M
+answer-spec =
+    tie.close
+    (tie.spec
+    (λ c κs. search needs)
+    (λ c. search needs)
+    (λ c. search needs)
+    laid-requires
+    returns
+    (λ c. search needs)
+    (λ c. search needs)
+    (λ c. search needs)
+    (λ c. search needs)
+    (λ c. search needs)
+    (λ c. search needs))

@@ -1,0 +1,150 @@
+-- A result that lies at the front of a buffer is read back.
+-- Assumes nothing.
+use mathlib.Core.Path.{_≡_, sym, ap, _∙_}
+use mathlib.Core.Bool.{true}
+use mathlib.Core.List.{List, [], _∷_, _++_, append-assoc}
+use Prim.Native.Nat.{ℕ, suc, _+_, _*_, _^_, _<_}
+use native.Mathlib.Omega.{arith}
+use lib.ListN.{length, getD, take, drop, length-append}
+use lib.Seq.{split-at, append-snoc, take-at, drop-at, length-take-le, ext-getD}
+use borrow.Rule.Slice.PartMut.{midOf}
+use Rattle.words.specs.Le.{fromLe, toLe, u32At, from-to, length-toLe}
+use Rattle.words.specs.Lists.{tabulate, length-tabulate, getD-tabulate}
+use Rattle.instruction.specs.Instruction.{Fields, instructionAt}
+use Rattle.instruction.specs.Laws.{read-back}
+use Rattle.unit.specs.Entry.{metadataAt, metadataBytes, goodMetadata}
+use Rattle.unit.specs.Laws.{MetadataFields, metadata-read-back, code-bytes-long, metadata-bytes-all-long, place-bytes-long, result-header-long}
+use Rattle.unit.specs.Result.{Retained, resultHeader, codeBytes, metadataBytesAll, placeBytes, resultBytes, resultMetadataAt, resultPlacesAt}
+use Rattle.unit.specs.Size.{resultHeaderSize, instructionSize, metadataSize}
+use Rattle.unit.specs.declared.Metadata.{Metadata}
+use Rattle.effects.specs.Shape.{noCell}
+use Rattle.pc_map.specs.Retaining.{Section, code-section, metadata-section, place-section}
+
+-- bytes of one old place
+abbrev pub placeSize : ℕ
+placeSize = 4
+
+-- the sections of a result of k instructions
+abbrev pub codeIn : ℕ → List ℕ → List ℕ
+codeIn k b = midOf resultHeaderSize (instructionSize * k) b
+
+abbrev pub metadataIn : ℕ → List ℕ → List ℕ
+metadataIn k b = midOf (resultMetadataAt k) (metadataSize * k) b
+
+abbrev pub placesIn : ℕ → List ℕ → List ℕ
+placesIn k b = midOf (resultPlacesAt k) (placeSize * k) b
+
+-- its instructions
+unfoldable pub retainedIn : ℕ → List ℕ → List Retained
+retainedIn k b =
+    tabulate k
+    (λ p. record { instruction = instructionAt (codeIn k b) p; metadata = metadataAt (metadataIn k b) p; place = u32At (placesIn k b) (placeSize * p) })
+
+abbrev pub noRetained : Retained
+noRetained = record { instruction = noCell .instruction; metadata = noCell .metadata; place = 0 }
+
+abbrev pub retainedAt : List Retained → ℕ → Retained
+retainedAt kept p = getD kept p noRetained
+
+-- metadata whose fields fit their width, and that is as a unit's is
+pub record Sound (cases : ℕ) (d : Metadata) : Type 0 where
+  pub fits : MetadataFields d
+  pub good : goodMetadata cases d ≡ true
+
+-- an instruction of a result that can be read back, and be given to the next pass
+pub record Fits (cases : ℕ) (r : Retained) : Type 0 where
+  pub instruction : Fields (r .instruction)
+  pub metadata : Sound cases (r .metadata)
+  pub place : r .place < 2 ^ 32
+
+abbrev pub AllFit : ℕ → List Retained → Type 0
+AllFit cases kept = (p : ℕ) → p < length kept → Fits cases (retainedAt kept p)
+
+-- ---- the sections
+
+-- the middle of three parts
+middle : (a xs b : List ℕ) (i k : ℕ) → length a ≡ i → length xs ≡ k → midOf i k (a ++ xs ++ b) ≡ xs
+middle a xs b i k e f = ap (take k) (ap (drop i) (append-assoc a xs b) ∙ drop-at a (xs ++ b) i e) ∙ take-at xs b k f
+
+module _ (kept : List Retained) (rest : List ℕ) where
+  abbrev k : ℕ
+  k = length kept
+
+  abbrev header : List ℕ
+  header = resultHeader k
+
+  abbrev code : List ℕ
+  code = codeBytes kept
+
+  abbrev metadata : List ℕ
+  metadata = metadataBytesAll kept
+
+  abbrev places : List ℕ
+  places = placeBytes kept
+
+  front : length (header ++ code) ≡ resultMetadataAt k
+  front = simp (length-append, result-header-long, code-bytes-long)
+
+  pub code-in : codeIn k (resultBytes kept ++ rest) ≡ codeBytes kept
+  unfolding resultBytes
+  code-in =
+      let e : resultBytes kept ++ rest ≡ header ++ code ++ (metadata ++ (places ++ rest)) = simp append-assoc in
+      ap (codeIn k) e ∙ middle header code (metadata ++ (places ++ rest)) resultHeaderSize (instructionSize * k) (result-header-long k) (code-bytes-long kept)
+
+  pub metadata-in : metadataIn k (resultBytes kept ++ rest) ≡ metadataBytesAll kept
+  unfolding resultBytes
+  metadata-in =
+      let e : resultBytes kept ++ rest ≡ (header ++ code) ++ metadata ++ (places ++ rest) = simp append-assoc in
+      ap (metadataIn k) e ∙ middle (header ++ code) metadata (places ++ rest) (resultMetadataAt k) (metadataSize * k) front (metadata-bytes-all-long kept)
+
+  pub places-in : placesIn k (resultBytes kept ++ rest) ≡ placeBytes kept
+  unfolding resultBytes
+  places-in =
+      let long : length (header ++ code ++ metadata) ≡ resultPlacesAt k = length-append (header ++ code) metadata ∙ rw (front, metadata-bytes-all-long) in
+      middle (header ++ code ++ metadata) places rest (resultPlacesAt k) (placeSize * k) long (place-bytes-long kept)
+
+-- ---- their entries
+
+-- the bytes of one instruction lie between those before it and those after it
+module _ {size : ℕ} {bytes : List Retained → List ℕ} (s : Section size bytes) (kept : List Retained) (p : ℕ) (h : p < length kept) where
+  pub around : bytes kept ≡ bytes (take p kept) ++ bytes (retainedAt kept p ∷ []) ++ bytes (drop (suc p) kept)
+  around =
+      ap bytes (split-at kept p noRetained h ∙ sym (append-snoc (take p kept) (retainedAt kept p) (drop (suc p) kept)))
+      ∙ s .more (take p kept ++ (retainedAt kept p ∷ [])) (drop (suc p) kept)
+      ∙ ap (λ (l : List ℕ). l ++ bytes (drop (suc p) kept)) (s .more (take p kept) (retainedAt kept p ∷ []))
+
+  pub ahead-long : length (bytes (take p kept)) ≡ size * p
+  ahead-long = s .long (take p kept) ∙ ap (λ (n : ℕ). size * n) (length-take-le p kept (omega arith))
+
+module _ (kept : List Retained) (p : ℕ) (h : p < length kept) where
+  abbrev r : Retained
+  r = retainedAt kept p
+
+  pub instruction-back : Fields (r .instruction) → instructionAt (codeBytes kept) p ≡ r .instruction
+  unfolding codeBytes toLe
+  instruction-back f =
+      ap (λ (l : List ℕ). instructionAt l p) (around code-section kept p h)
+      ∙ read-back (codeBytes (take p kept)) (codeBytes (drop (suc p) kept)) p (r .instruction) (ahead-long code-section kept p h) f
+
+  pub metadata-back : MetadataFields (r .metadata) → metadataAt (metadataBytesAll kept) p ≡ r .metadata
+  unfolding metadataBytesAll metadataBytes toLe
+  metadata-back f =
+      ap (λ (l : List ℕ). metadataAt l p) (around metadata-section kept p h)
+      ∙ metadata-read-back (metadataBytesAll (take p kept)) (metadataBytesAll (drop (suc p) kept)) p (r .metadata) (ahead-long metadata-section kept p h) f
+
+  pub place-back : r .place < 2 ^ 32 → u32At (placeBytes kept) (placeSize * p) ≡ r .place
+  unfolding placeBytes toLe
+  place-back f =
+      ap (λ (l : List ℕ). u32At l (placeSize * p)) (around place-section kept p h)
+      ∙ ap fromLe (middle (placeBytes (take p kept)) (toLe 4 (r .place)) (placeBytes (drop (suc p) kept)) (placeSize * p) placeSize (ahead-long place-section kept p h) (length-toLe 4 (r .place)))
+      ∙ from-to 4 (r .place) f
+
+pub retained-back : (cases : ℕ) (kept : List Retained) (rest : List ℕ) → AllFit cases kept → retainedIn (length kept) (resultBytes kept ++ rest) ≡ kept
+unfolding retainedIn
+retained-back cases kept rest f =
+    rw (code-in kept rest, metadata-in kept rest, places-in kept rest)
+    (ext-getD noRetained (tabulate (length kept) _) kept (length-tabulate (length kept) _)
+    (λ p h.
+    let l : p < length kept = rw (length-tabulate (length kept) _) at h in
+    let fits = f p l in
+    getD-tabulate (length kept) _ p noRetained l ∙ rw (instruction-back kept p l (fits .instruction), metadata-back kept p l (fits .metadata .fits), place-back kept p l (fits .place))))

@@ -1,0 +1,201 @@
+// The cleaning: up to three passes. Each reads the code of the pass before from one spare buffer and writes to the other.
+ghost use mathlib.Core.Path.{_≡_};
+ghost use mathlib.Core.Bool.{true, false, _&&_};
+ghost use Prim.Native.Nat.{_^_, _≤_, _<_};
+ghost use lib.ListN.{length, replicate};
+ghost use borrow.Rule.Slice.PartMut.{midOf};
+ghost use Rattle.unit.specs.Layout.{headerOf, isUnit};
+ghost use Rattle.unit.specs.Result.{resultBytes};
+ghost use Rattle.unit.specs.Size.{resultSize, maxInstructions};
+ghost use Rattle.unit.specs.declared.Header.{Header};
+ghost use Rattle.answer.specs.Answer.{isLeft, roomFor, countsChecked, cellsOf, sectionsOf};
+ghost use Rattle.answer.specs.Clean.{cleanFrom, cleanedFirst, spareFor, cleanAnswer};
+ghost use Rattle.answer.specs.Pass.{optimized};
+ghost use Rattle.run.specs.Returned.{RunsAlike};
+ghost use Rattle.optimize.specs.Whole.{lentOf};
+ghost use Rattle.clean.specs.Reading.{retainedIn};
+ghost use Rattle.clean.specs.Ready.{Ready};
+ghost use Rattle.clean.specs.Cleaning.{TellsCleaned, finished};
+
+mod buffer;
+mod later;
+
+use optimize::Answer;
+use optimize::pass;
+use unit::Counts;
+use unit::Layout;
+use unit::parse;
+use unit::refusal;
+use unit::size;
+use words::fill;
+
+// What the cleaning answers, and the number of the last pass run.
+pub struct Cleaned {
+    pub answer: Answer,
+    pub passes: u32,
+}
+
+// "it gives the last rewritten code": the k instructions in a spare buffer.
+fn give(from: &[u8], out: &mut [u8], k: usize, passes: u32) -> Cleaned
+    requires { ⌜ (k ≤ maxInstructions) × (resultSize k ≤ length (now from)) × (resultSize k ≤ length (now out)) × (midOf 0 (resultSize k) (now from) ≡ resultBytes (retainedIn k (now from))) ⌝ }
+    ensures { λ r. ⌜ TellsCleaned (finished (retainedIn k (now (from .entry))) passes) r (now (out .entry)) (now (out .exit)) ⌝ }
+{
+    buffer::copy(from, out, size::output_room(k));
+    Cleaned {
+        answer: Answer::Rewritten(k as u32),
+        passes: passes,
+    }
+}
+
+// The third pass, where the second made k instructions.
+fn third_pass(
+    unit: &[u8],
+    out: &mut [u8],
+    work32: &mut [u32],
+    work64: &mut [u64],
+    from: &[u8],
+    to: &mut [u8],
+    k: usize,
+) -> Cleaned
+    requires { ⌜ Ready (now unit) (now from) k (length (now to)) (length (now work32)) (length (now work64)) × (resultSize k ≤ length (now out)) ⌝ }
+    ensures { λ r. ⌜ TellsCleaned (cleanFrom (sectionsOf (now (unit .entry))) 1 2 (retainedIn k (now (from .entry)))) r (now (out .entry)) (now (out .exit)) ⌝ }
+{
+    match later::later(unit, from, to, work32, work64, k) {
+        Answer::Unchanged => give(from, out, k, 3),
+        Answer::Refused(r, p) => Cleaned {
+            answer: Answer::Refused(r, p),
+            passes: 3,
+        },
+        Answer::Rewritten(j) => give(&to[..], out, j as usize, 3),
+    }
+}
+
+// The second pass, where the first made k instructions.
+fn second_pass(
+    unit: &[u8],
+    out: &mut [u8],
+    work32: &mut [u32],
+    work64: &mut [u64],
+    from: &mut [u8],
+    to: &mut [u8],
+    k: usize,
+) -> Cleaned
+    requires { ⌜ Ready (now unit) (now from) k (length (now to)) (length (now work32)) (length (now work64)) × (resultSize k ≤ length (now out)) ⌝ }
+    ensures { λ r. ⌜ TellsCleaned (cleanFrom (sectionsOf (now (unit .entry))) 2 1 (retainedIn k (now (from .entry)))) r (now (out .entry)) (now (out .exit)) ⌝ }
+{
+    match later::later(unit, &from[..], to, work32, work64, k) {
+        Answer::Unchanged => give(&from[..], out, k, 2),
+        Answer::Refused(r, p) => Cleaned {
+            answer: Answer::Refused(r, p),
+            passes: 2,
+        },
+        Answer::Rewritten(j) => { third_pass(unit, out, work32, work64, &to[..], from, j as usize) }
+    }
+}
+
+// The first pass, on the unit; refusals 3 and 4 come before it.
+fn first_pass(
+    unit: &[u8],
+    out: &mut [u8],
+    work32: &mut [u32],
+    work64: &mut [u64],
+    first: &mut [u8],
+    second: &mut [u8],
+    c: Counts,
+) -> Cleaned
+    requires { ⌜ (isUnit (now unit) ≡ true) × (c ≡ headerOf (now unit) .counts) × (isLeft (headerOf (now unit)) ≡ false) × ((roomFor (headerOf (now unit)) (lentOf (length (now out)) (length (now work32)) (length (now work64))) && spareFor (headerOf (now unit)) (length (now first)) (length (now second))) ≡ true) ⌝ }
+    ensures { λ r. ⌜ TellsCleaned (cleanedFirst (sectionsOf (now (unit .entry))) (countsChecked (headerOf (now (unit .entry))) (optimized (sectionsOf (now (unit .entry))) (cellsOf (now (unit .entry)))))) r (now (out .entry)) (now (out .exit)) ⌝ }
+{
+    match pass::counted(unit, first, work32, work64, c) {
+        Answer::Unchanged => Cleaned {
+            answer: Answer::Unchanged,
+            passes: 1,
+        },
+        Answer::Refused(r, p) => Cleaned {
+            answer: Answer::Refused(r, p),
+            passes: 1,
+        },
+        Answer::Rewritten(k) => {
+            second_pass(unit, out, work32, work64, first, second, k as usize)
+        }
+    }
+}
+
+// Is each spare buffer as long as stated?
+fn has_spare(n: usize, first: usize, second: usize) -> bool
+    requires { ⌜ n < 2 ^ 32 ⌝ }
+    ensures { λ r. ⌜ ((h : Header) → h .counts .instructions ≡ n → r ≡ spareFor h first second) ⌝ }
+{
+    let room = size::output_room(n);
+    (room <= first) & (room <= second)
+}
+
+// Unchanged as it is too small, too large or defers, or a buffer is too short.
+fn laid(
+    unit: &[u8],
+    out: &mut [u8],
+    work32: &mut [u32],
+    work64: &mut [u64],
+    first: &mut [u8],
+    second: &mut [u8],
+    c: Counts,
+) -> Cleaned
+    requires { ⌜ (isUnit (now unit) ≡ true) × (c ≡ headerOf (now unit) .counts) ⌝ }
+    ensures { λ r. ⌜ TellsCleaned (cleanAnswer (now (unit .entry)) (lentOf (length (now (out .entry))) (length (now (work32 .entry))) (length (now (work64 .entry)))) (length (now (first .entry))) (length (now (second .entry)))) r (now (out .entry)) (now (out .exit)) ⌝ }
+{
+    let n = c.instructions;
+    if pass::is_left(n, c.defer) {
+        return Cleaned {
+            answer: Answer::Unchanged,
+            passes: 1,
+        };
+    }
+    if !(pass::has_room(n, c.locals, out.len(), work32.len(), work64.len())
+        & has_spare(n, first.len(), second.len())) {
+        return Cleaned {
+            answer: Answer::Refused(refusal::SHORT_BUFFER, 0),
+            passes: 1,
+        };
+    }
+    first_pass(unit, out, work32, work64, first, second, c)
+}
+
+// The answer, the lent memory left as it comes.
+fn answer(
+    unit: &[u8],
+    out: &mut [u8],
+    work32: &mut [u32],
+    work64: &mut [u64],
+    first: &mut [u8],
+    second: &mut [u8],
+) -> Cleaned
+    ensures { λ r. ⌜ TellsCleaned (cleanAnswer (now (unit .entry)) (lentOf (length (now (out .entry))) (length (now (work32 .entry))) (length (now (work64 .entry)))) (length (now (first .entry))) (length (now (second .entry)))) r (now (out .entry)) (now (out .exit)) ⌝ }
+{
+    match parse::check(unit) {
+        Layout::Refused(k, p) => Cleaned {
+            answer: Answer::Refused(k, p),
+            passes: 1,
+        },
+        Layout::Unit(h) => laid(unit, out, work32, work64, first, second, h.counts),
+    }
+}
+
+// The cleaning of a unit: the answer that is defined, the output by its cases, the work and spare buffers zeroed; what is
+// returned runs as what was given.
+pub fn clean(
+    unit: &[u8],
+    out: &mut [u8],
+    work32: &mut [u32],
+    work64: &mut [u64],
+    first: &mut [u8],
+    second: &mut [u8],
+) -> Cleaned
+    ensures { λ r. ⌜ TellsCleaned (cleanAnswer (now (unit .entry)) (lentOf (length (now (out .entry))) (length (now (work32 .entry))) (length (now (work64 .entry)))) (length (now (first .entry))) (length (now (second .entry)))) r (now (out .entry)) (now (out .exit)) × (now (work32 .exit) ≡ replicate (length (now (work32 .entry))) 0) × (now (work64 .exit) ≡ replicate (length (now (work64 .entry))) 0) × (now (first .exit) ≡ replicate (length (now (first .entry))) 0) × (now (second .exit) ≡ replicate (length (now (second .entry))) 0) × RunsAlike (now (unit .entry)) (cleanAnswer (now (unit .entry)) (lentOf (length (now (out .entry))) (length (now (work32 .entry))) (length (now (work64 .entry)))) (length (now (first .entry))) (length (now (second .entry))) .outcome) ⌝ }
+{
+    let r = answer(unit, out, work32, work64, first, second);
+    fill::zero_u32(work32);
+    fill::zero_u64(work64);
+    fill::zero_u8(first);
+    fill::zero_u8(second);
+    r
+}

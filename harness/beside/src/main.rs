@@ -1,0 +1,40 @@
+//! The proved library beside the reference.
+
+mod arena;
+mod bench;
+mod chart;
+mod compare;
+mod fuzz;
+mod guarded;
+mod mutate;
+mod options;
+mod parallel;
+mod table;
+mod tally;
+
+use options::Options;
+use std::process::ExitCode;
+
+const USAGE: &str = "usage: beside compare [--seed S] [--count N] [--profile NAME] [--small-world]
+       beside bench [--seed S] [--longest N] [--svg FILE] | --unit FILE
+       beside fuzz [--seed S] [--count N] [--from INDEX] [--seconds T]";
+
+fn main() -> ExitCode {
+    let arguments: Vec<String> = std::env::args().skip(1).collect();
+    let done = match arguments.split_first() {
+        Some((command, rest)) => Options::parse(rest).and_then(|options| match command.as_str() {
+            "compare" => compare::run(options),
+            "bench" => bench::run(options),
+            "fuzz" => fuzz::run(options),
+            _ => Err(USAGE.into()),
+        }),
+        None => Err(USAGE.into()),
+    };
+    match done {
+        Ok(()) => ExitCode::SUCCESS,
+        Err(message) => {
+            eprintln!("{message}");
+            ExitCode::FAILURE
+        }
+    }
+}

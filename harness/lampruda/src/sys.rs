@@ -1,0 +1,59 @@
+//! The proved library's two functions, as `include/lampruda.h` declares them. Nothing checks one against the
+//! other.
+
+/// `lampruda_answer`
+#[repr(C)]
+#[derive(Clone, Copy, Debug, Eq, PartialEq)]
+pub struct Answer {
+    pub kind: u32,
+    pub number: u32,
+    pub place: u32,
+}
+
+/// `lampruda_cleaned`
+#[repr(C)]
+#[derive(Clone, Copy, Debug, Eq, PartialEq)]
+pub struct Cleaned {
+    pub kind: u32,
+    pub number: u32,
+    pub place: u32,
+    pub passes: u32,
+}
+
+impl Cleaned {
+    pub fn answer(self) -> Answer {
+        Answer { kind: self.kind, number: self.number, place: self.place }
+    }
+}
+
+pub const UNCHANGED: u32 = 0;
+pub const REFUSED: u32 = 1;
+pub const REWRITTEN: u32 = 2;
+
+extern "C" {
+    pub fn lampruda_pass(
+        unit: *const u8,
+        unit_length: usize,
+        out: *mut u8,
+        out_length: usize,
+        work32: *mut u32,
+        work32_length: usize,
+        work64: *mut u64,
+        work64_length: usize,
+    ) -> Answer;
+
+    pub fn lampruda_clean(
+        unit: *const u8,
+        unit_length: usize,
+        out: *mut u8,
+        out_length: usize,
+        work32: *mut u32,
+        work32_length: usize,
+        work64: *mut u64,
+        work64_length: usize,
+        first: *mut u8,
+        first_length: usize,
+        second: *mut u8,
+        second_length: usize,
+    ) -> Cleaned;
+}

@@ -1,0 +1,232 @@
+//! From units to text.
+
+use crate::names::{self, Form, CASES, CONSTANTS, LOOP_FLAGS, TYPES};
+use reference::Opcode;
+use std::collections::BTreeSet;
+use std::fmt::Write;
+use unit::{Case, Constant, Instruction, Kind, Metadata, Parts, Unit};
+use unit::{CONSTANT_BOOL, CONSTANT_FLOAT, CONSTANT_INT, TYPE_VALUE};
+
+/// A unit's text; `None` for bytes that are no unit.
+pub fn disassemble(bytes: &[u8]) -> Option<String> {
+    let parts = Parts::decode(&Unit::check(bytes)?);
+    let mut out = String::new();
+    directives(&parts, &mut out);
+    let lines = Lines::new(&parts);
+    for place in 0..parts.code.len() {
+        lines.label(place as i64, &mut out);
+        writeln!(out, "        {}", lines.instruction(place)).unwrap();
+    }
+    lines.label(parts.code.len() as i64, &mut out);
+    if parts.metadata.len() < parts.code.len() {
+        writeln!(out, ".metadata {}", parts.metadata.len()).unwrap();
+    }
+    for entry in parts.metadata.iter().skip(parts.code.len()) {
+        let kind = kind(*entry);
+        writeln!(out, ".extra {kind:?}{}{}", attributes(*entry), attribute("end", entry.end_pc)).unwrap();
+    }
+    Some(out)
+}
+
+fn directives(parts: &Parts, out: &mut String) {
+    writeln!(out, ".locals {}", parts.local_slots).unwrap();
+    if parts.types != vec![TYPE_VALUE; parts.local_slots as usize] {
+        writeln!(out, ".types{}", types(&parts.types)).unwrap();
+    }
+    if parts.defer != 0 {
+        writeln!(out, ".defer").unwrap();
+    }
+    for entry in &parts.constants {
+        writeln!(out, ".const {}", constant(entry)).unwrap();
+    }
+    for entry in &parts.functions {
+        writeln!(out, ".function {} {}", entry.param_slots, entry.ret_slots).unwrap();
+    }
+    for slots in &parts.externs {
+        writeln!(out, ".extern {slots}").unwrap();
+    }
+    for Case { kind, has_ok, queue, slot, elem_slots } in &parts.cases {
+        let kind = CASES[usize::from(*kind)];
+        let ok = attribute("ok", (*has_ok).into());
+        writeln!(out, ".case {kind} {queue} {slot} {elem_slots}{ok}").unwrap();
+    }
+}
+
+/// Equal types in a row are one word.
+fn types(types: &[u8]) -> String {
+    let mut words = String::new();
+    let mut rest = types;
+    while let Some(&first) = rest.first() {
+        let row = rest.iter().take_while(|&&other| other == first).count();
+        let count = if row == 1 { String::new() } else { format!("*{row}") };
+        write!(words, " {}{count}", TYPES[usize::from(first)]).unwrap();
+        rest = &rest[row..];
+    }
+    words
+}
+
+fn constant(entry: &Constant) -> String {
+    let name = CONSTANTS[usize::from(entry.kind)];
+    let mut unread = [0; 8];
+    unread[..7].copy_from_slice(&entry.unread);
+    let unread = match u64::from_le_bytes(unread) {
+        0 => String::new(),
+        bits => format!(" unread={bits:#x}"),
+    };
+    match entry.kind {
+        CONSTANT_BOOL => format!("{name} {}{unread}", entry.value != 0),
+        CONSTANT_INT => format!("{name} {}{unread}", entry.value as i64),
+        CONSTANT_FLOAT => {
+            let value = f64::from_bits(entry.value);
+            // Not every NaN has a text of its own.
+            if value.is_nan() {
+                format!("{name} {:#x}{unread}", entry.value)
+            } else {
+                format!("{name} {value:?}{unread}")
+            }
+        }
+        _ if entry.value == 0 => format!("{name}{unread}"),
+        _ => format!("{name} value={}{unread}", entry.value),
+    }
+}
+
+/// ` NAME=VALUE`, or nothing for 0.
+fn attribute(name: &str, value: u32) -> String {
+    if value == 0 {
+        String::new()
+    } else {
+        format!(" {name}={value}")
+    }
+}
+
+/// What a metadata entry has besides kind and end.
+fn attributes(entry: Metadata) -> String {
+    let Metadata { has_ok, array_len, first, second, .. } = entry;
+    [("first", first), ("second", second), ("array", array_len.into()), ("ok", has_ok.into())]
+        .map(|(name, value)| attribute(name, value))
+        .concat()
+}
+
+fn kind(entry: Metadata) -> Kind {
+    Kind::from_u8(entry.kind).expect("a checked unit has kinds 0 to 15")
+}
+
+fn is_loop(instruction: &Instruction) -> bool {
+    instruction.op == Opcode::Hint as u8 && instruction.flags == LOOP_FLAGS
+}
+
+/// Own place, and how far a branch goes from it.
+fn distance(instruction: &Instruction) -> Option<i64> {
+    match names::form(instruction.op) {
+        Form::Jump { .. } => Some(i64::from(instruction.imm32() as i32)),
+        Form::ForLoop => Some(i64::from(instruction.c as i16) + 1),
+        Form::Fields | Form::Value => None,
+    }
+}
+
+struct Lines<'p> {
+    parts: &'p Parts,
+    /// The places from 0 to n that a branch, a loop's end or its exit names.
+    labels: BTreeSet<i64>,
+}
+
+impl<'p> Lines<'p> {
+    fn new(parts: &'p Parts) -> Self {
+        let mut labels = BTreeSet::new();
+        for (place, instruction) in parts.code.iter().enumerate() {
+            labels.extend(distance(instruction).map(|distance| place as i64 + distance));
+            if is_loop(instruction) {
+                labels.insert(instruction.imm32().into());
+                let ends = parts.metadata.get(place).filter(|entry| entry.is(Kind::LoopEnd));
+                labels.extend(ends.map(|entry| i64::from(entry.end_pc)));
+            }
+        }
+        labels.retain(|place| (0..=parts.code.len() as i64).contains(place));
+        Self { parts, labels }
+    }
+
+    fn label(&self, place: i64, out: &mut String) {
+        if self.labels.contains(&place) {
+            writeln!(out, "L{place}:").unwrap();
+        }
+    }
+
+    /// A place by its label, if it has one.
+    fn place(&self, place: u32) -> String {
+        if self.labels.contains(&place.into()) {
+            format!("L{place}")
+        } else {
+            place.to_string()
+        }
+    }
+
+    fn target(&self, place: usize, distance: i64) -> String {
+        let target = place as i64 + distance;
+        if self.labels.contains(&target) {
+            format!("L{target}")
+        } else {
+            format!("{distance:+}")
+        }
+    }
+
+    fn instruction(&self, place: usize) -> String {
+        let instruction = &self.parts.code[place];
+        let Instruction { op, flags, a, b, c } = *instruction;
+        let metadata = self.parts.metadata.get(place).copied().unwrap_or_default();
+        let name = names::opcode(op);
+        if is_loop(instruction) {
+            let exit = self.place(instruction.imm32());
+            let (end, meta) = match kind(metadata) {
+                Kind::LoopEnd => (format!(" end={}", self.place(metadata.end_pc)), String::new()),
+                // An end alone would stand for LoopEnd.
+                Kind::None if metadata.end_pc == 0 => Default::default(),
+                kind => (attribute("end", metadata.end_pc), format!(" meta={kind:?}")),
+            };
+            return format!(
+                "Loop{end} exit={exit}{}{meta}{}",
+                attribute("a", a.into()),
+                attributes(metadata)
+            );
+        }
+        let head = match (names::form(op), distance(instruction)) {
+            (Form::Value, _) => format!("{name} {a} {}", instruction.imm32() as i32),
+            (Form::Jump { condition: true }, Some(distance)) => {
+                format!("{name} {a} {}", self.target(place, distance))
+            }
+            (Form::Jump { .. }, Some(distance)) => {
+                format!("{name} {}{}", self.target(place, distance), attribute("a", a.into()))
+            }
+            (_, Some(distance)) => format!("{name} {a} {b} {}", self.target(place, distance)),
+            (_, None) if op == Opcode::Hint as u8 && (a, b, c) == (0, 0, 0) => name,
+            (_, None) if c == 0 && has_two_operands(op) => format!("{name} {a} {b}"),
+            (_, None) => format!("{name} {a} {b} {c}"),
+        };
+        let meta = match kind(metadata) {
+            Kind::None => String::new(),
+            kind => format!(" meta={kind:?}"),
+        };
+        let flags = attribute("flags", flags.into());
+        format!("{head}{flags}{meta}{}{}", attributes(metadata), attribute("end", metadata.end_pc))
+    }
+}
+
+/// Opcodes that do not read c, among the pure ones and Return.
+fn has_two_operands(op: u8) -> bool {
+    use Opcode::*;
+    matches!(
+        Opcode::from_u8(op),
+        LoadConst
+            | Copy
+            | Return
+            | NegI
+            | Not
+            | BoolNot
+            | Trunc
+            | NegF
+            | NegF32
+            | ConvI2F
+            | ConvF2I
+            | ConvF64F32
+            | ConvF32F64
+    )
+}

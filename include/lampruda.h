@@ -1,0 +1,140 @@
+/*
+ * Lampruda: a proved optimizer for functions of bytecode, for hosts in C and C++.
+ *
+ * The functions stand in the static library that `rt staticlib host` writes to target/staticlib/libhost.a. They
+ * keep no state, allocate nothing and touch no memory but what they are lent, so any number of threads may call
+ * them at once, each with buffers of its own. They return for every content and every length.
+ */
+#ifndef LAMPRUDA_H
+#define LAMPRUDA_H
+
+#include <stddef.h>
+#include <stdint.h>
+
+#ifdef __cplusplus
+extern "C" {
+#endif
+
+/*
+ * The buffers
+ *
+ * A buffer is a pointer and a count of elements. No two buffers of a call overlap; a pointer is aligned for its
+ * elements and is never null, also where the count is 0.
+ *
+ * The lengths asked for follow from two words of the unit's header: n, its number of instructions (word 0), and s,
+ * its number of local slots (word 2). Longer buffers are as good. `lampruda_worked_on` and the functions after it,
+ * below, reckon them.
+ *
+ *   unit             the unit; only read
+ *   out              16 + 28 n bytes
+ *   work32           16 n + 16 numbers of 32 bits
+ *   work64           24 n + 4 s + w + 3 w min(n, 2097152 / w) numbers of 64 bits, the division rounded down, where
+ *                    w is s / 64 rounded up; 24 n where w is 0
+ *   first, second    16 + 28 n bytes each; lent to the cleaning alone
+ *
+ * After every answer each number of work32 and work64 and each byte of first and second is 0, over the whole length
+ * lent. They may hold anything before. The output is altered by a rewritten answer alone, and then in its first
+ * 16 + 28 n' bytes alone:
+ *
+ *   4 words          n', 16, 16 + 8 n', 16 + 24 n'
+ *   n' x 8 bytes     the retained instructions
+ *   n' x 16 bytes    their metadata
+ *   n' words         their places in the given unit
+ */
+
+/* What `kind` says of an answer. */
+enum {
+    LAMPRUDA_UNCHANGED = 0, /* the function given is the result; number and place are 0 */
+    LAMPRUDA_REFUSED = 1,   /* number says why, place where */
+    LAMPRUDA_REWRITTEN = 2  /* the result is in the output; number is n', place is 0 */
+};
+
+/*
+ * Why a unit is refused. The answers are tried in this order; between 1 and 2, a function of fewer than 2 or more
+ * than 65,536 instructions, or one with defer, is unchanged, whatever the other buffers. Between 9 and 10, a
+ * function of which nothing was altered and nothing removed is unchanged.
+ *
+ *   1   place 0      the bytes are no unit
+ *   2   place 0      a lent buffer is shorter than asked for
+ *   3   place 0      there is not one metadata entry for each instruction
+ *   4   place 0      there is not one type for each local slot
+ *   5   its place    an opcode that there is none of \
+ *   6   its place    an effect error                  } the lowest place of the three
+ *   7   its place    a slot at or past s             /
+ *   8   its place    the lowest branch that leaves the function, unreachable ones too
+ *   9   its place    the lowest reached loop hint that has no LoopEnd, or whose end lies outside
+ *   10  its place    the lowest kept loop hint whose end was removed, or whose exit is past n
+ *
+ * In the cleaning, the place is one of the pass that refuses.
+ */
+
+/* The answer of one pass. */
+typedef struct {
+    uint32_t kind, number, place;
+} lampruda_answer;
+
+/* The answer of the cleaning, and the number of the last pass run: 1 to 3, 1 where none ran. */
+typedef struct {
+    uint32_t kind, number, place, passes;
+} lampruda_cleaned;
+
+/* One pass over a unit. */
+lampruda_answer lampruda_pass(const uint8_t *unit, size_t unit_length, uint8_t *out, size_t out_length,
+                              uint32_t *work32, size_t work32_length, uint64_t *work64, size_t work64_length);
+
+/*
+ * Up to three passes, each over the result of the one before, until one does not rewrite. Unchanged if the first
+ * pass is; refused if any pass refuses; otherwise the last rewritten code, with places in the given unit.
+ */
+lampruda_cleaned lampruda_clean(const uint8_t *unit, size_t unit_length, uint8_t *out, size_t out_length,
+                                uint32_t *work32, size_t work32_length, uint64_t *work64, size_t work64_length,
+                                uint8_t *first, size_t first_length, uint8_t *second, size_t second_length);
+
+/* Word i of a unit's header. */
+static inline uint32_t lampruda_word(const uint8_t *unit, size_t i)
+{
+    const uint8_t *word = unit + 4 * i;
+    return (uint32_t)word[0] | (uint32_t)word[1] << 8 | (uint32_t)word[2] << 16 | (uint32_t)word[3] << 24;
+}
+
+/*
+ * Whether the answer can depend on the other buffers. Where it cannot (no unit by its header, too short, too long,
+ * defer), buffers of length 0 will do. A damaged header asks for no more memory than the largest function.
+ */
+static inline int lampruda_worked_on(const uint8_t *unit, size_t unit_length)
+{
+    uint32_t n;
+    if (unit_length < 64)
+        return 0;
+    n = lampruda_word(unit, 0);
+    return n >= 2 && n <= 65536 && (unit_length - 64) / 8 >= n && lampruda_word(unit, 2) <= 65535
+           && lampruda_word(unit, 4) == 0;
+}
+
+/* Bytes of the output, and of each spare buffer. */
+static inline size_t lampruda_out_length(uint32_t n)
+{
+    return 16 + 28 * (size_t)n;
+}
+
+/* Numbers of 32 bits. */
+static inline size_t lampruda_work32_length(uint32_t n)
+{
+    return 16 * (size_t)n + 16;
+}
+
+/* Numbers of 64 bits. */
+static inline size_t lampruda_work64_length(uint32_t n, uint32_t s)
+{
+    size_t w = ((size_t)s + 63) / 64, length = 24 * (size_t)n + 4 * (size_t)s, blocks;
+    if (w == 0)
+        return length;
+    blocks = 2097152 / w;
+    return length + w + 3 * w * (n < blocks ? n : blocks);
+}
+
+#ifdef __cplusplus
+}
+#endif
+
+#endif
