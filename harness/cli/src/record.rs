@@ -6,7 +6,7 @@ use std::fs;
 use std::path::Path;
 
 /// At the repository's root.
-const FILE: &str = concat!(env!("CARGO_MANIFEST_DIR"), "/../../vectors/answers.txt");
+const FILE: &str = concat!(env!("CARGO_MANIFEST_DIR"), "/../../crates/replay/data/answers.txt");
 
 const SEED: u64 = 2;
 
