@@ -80,10 +80,11 @@ fn all_zero(work32: &[u32], work64: &[u64]) -> bool {
     true
 }
 
-// Does the output hold the result that stands at a place of the text, and past it what it held before?
-fn output_agrees(out: &[u8], text: &[u8], at: usize) -> bool {
+// Does the output hold the result that is recorded, if one is, at a place of the text, and otherwise what it held before?
+fn output_agrees(out: &[u8], text: &[u8], kind: u32, at: usize) -> bool {
     let mut expected = [0xa5u8; 512];
-    text::hex(text, at, &mut expected);
+    let result = if kind == 2 { at } else { text.len() };
+    text::hex(text, result, &mut expected);
     same(out, &expected)
 }
 
@@ -93,16 +94,46 @@ fn pass_agrees(unit: &[u8], text: &[u8], r: Recorded) -> bool {
     let mut work32 = [0xa5u32; 512];
     let mut work64 = [0xa5u64; 1024];
     let answer = pass::pass(unit, &mut out, &mut work32, &mut work64);
-    let result = if r.kind == 2 { r.next } else { text.len() };
-    agrees(answer, r) & output_agrees(&out, text, result) & all_zero(&work32, &work64)
+    agrees(answer, r) & output_agrees(&out, text, r.kind, r.next) & all_zero(&work32, &work64)
+}
+
+// Does the cleaning? The number of the last pass is before the result.
+fn clean_agrees(unit: &[u8], text: &[u8], r: Recorded) -> bool {
+    let mut out = [0xa5u8; 512];
+    let mut work32 = [0xa5u32; 512];
+    let mut work64 = [0xa5u64; 1024];
+    let mut first = [0xa5u8; 512];
+    let mut second = [0xa5u8; 512];
+    let cleaned = clean::clean(
+        unit,
+        &mut out,
+        &mut work32,
+        &mut work64,
+        &mut first,
+        &mut second,
+    );
+    let answer = cleaned.answer;
+    let zeros = [0u8; 512];
+    agrees(answer, r)
+        & (cleaned.passes == text::number(text, r.next))
+        & output_agrees(&out, text, r.kind, text::skip(text, r.next, b' '))
+        & all_zero(&work32, &work64)
+        & same(&first, &zeros)
+        & same(&second, &zeros)
 }
 
 // Does the line at the start of the text agree?
 fn line_agrees(text: &[u8]) -> bool {
     let mut unit = [0u8; 512];
     let n = text::hex(text, 0, &mut unit);
-    let r = read_answer(text, text::skip(text, 0, b' '));
-    pass_agrees(&unit[..n], text, r)
+    let p = read_answer(text, text::skip(text, 0, b' '));
+    let next = if p.kind == 2 {
+        text::skip(text, p.next, b' ')
+    } else {
+        p.next
+    };
+    let c = read_answer(text, next);
+    pass_agrees(&unit[..n], text, p) & clean_agrees(&unit[..n], text, c)
 }
 
 // 1 for a unit that differs, which is told of, else 0.
