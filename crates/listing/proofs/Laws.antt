@@ -1,6 +1,6 @@
 -- Laws of the text: how long it is, and that the library's digits are those that are defined.
 -- Assumes nothing.
-use mathlib.Core.Path.{_≡_, refl, sym, ap, _∙_}
+use mathlib.Core.Path.{_≡_, ap, _∙_}
 use mathlib.Core.Bool.{Bool, true, false, cond}
 use mathlib.Core.List.{List, [], _∷_, _++_}
 use Prim.Native.Nat.{ℕ, zero, suc, _+_, _*_, _-_, _/_, _%_, _^_, _≤_, _<_}
@@ -12,18 +12,17 @@ use lib.Seq.{take-all}
 use borrow.Rule.Slice.PartMut.{midOf, postOf}
 use borrow.Author.Tests.{lt-ltb, le-ltb, le-leb, lt-leb}
 use Rattle.io.specs.Counts.{Counts}
-use Rattle.io.specs.Digits.{digits, glyph, Fewest}
+use Rattle.io.specs.Digits.{digits, Fewest}
 use Rattle.words.specs.Le.{u32At}
 use Rattle.instruction.specs.declared.Instruction.{Instruction}
 use Rattle.instruction.specs.Instruction.{instructionAt}
-use Rattle.unit.specs.Result.{resultPlacesAt}
-use Rattle.unit.specs.Result.{Retained, resultBytes}
+use Rattle.unit.specs.Result.{resultBytes, resultPlacesAt}
 use Rattle.unit.specs.Laws.{result-long}
 use Rattle.unit.specs.Size.{resultSize}
 use Rattle.answer.specs.Pass.{Outcome, unchanged, refused, rewritten}
 use Rattle.answer.specs.Answer.{Lent, passAnswer}
 use Rattle.optimize.specs.declared.Answer.{Answer}
-use Rattle.optimize.specs.declared.Answer.the-variants.{Unchanged, Refused, Rewritten}
+use Rattle.optimize.specs.declared.Answer.the-variants.{Refused}
 use Rattle.optimize.specs.Parts.{told, written}
 use Rattle.optimize.specs.Whole.{lentOf}
 use Rattle.listing.specs.Puts.{Puts, Fits, puts-one, puts-long, puts-then, puts-text}
@@ -38,23 +37,24 @@ unfolding decimal
 decimal-long zero v = omega arith
 decimal-long (suc k) v = simp length-append (omega (arith, cond-long (ltb v 10) k (decimal k (v / 10)) (decimal-long k (v / 10))))
 
+two-digits : (j n : ℕ) → Fewest 10 1 n (suc (suc j)) → 10 ^ j * 10 ≤ n
+two-digits j n f =
+    let exact : suc (suc j) - 1 ≡ suc j = omega arith in
+    rw (exact, pow-suc) at (f .2 (omega arith))
+
 -- the library's digits of a number, as many as it has
 digits-decimal : (k r n : ℕ) → n < 10 ^ suc k → Fewest 10 1 n r → digits 10 r n ≡ decimal (suc k) n
 unfolding decimal
 digits-decimal k zero n h f = absurd (omega arith)
 digits-decimal k (suc zero) n h f = rw (lt-ltb n 10 (f .1), lt-ltb (n % 10) 10 (omega arith))
-digits-decimal zero (suc (suc j)) n h f =
-    let least : 1 ≤ 10 ^ j = one-le-pow j 10 (lit< tt) in
-    let exact : suc (suc j) - 1 ≡ suc j = omega arith in
-    let most : 10 ^ j * 10 ≤ n = rw (exact, pow-suc) at (f .2 (omega arith)) in
-    absurd (omega arith)
+digits-decimal zero (suc (suc j)) n h f = absurd (omega (arith, two-digits j n f, one-le-pow j 10 (lit< tt)))
 digits-decimal (suc k) (suc (suc j)) n h f =
     let least : 1 ≤ 10 ^ j = one-le-pow j 10 (lit< tt) in
-    let exact : suc (suc j) - 1 ≡ suc j = omega arith in
-    let most : 10 ^ j * 10 ≤ n = rw (exact, pow-suc) at (f .2 (omega arith)) in
+    let most = two-digits j n f in
     let below : n < 10 ^ j * 10 * 10 = rw (pow-suc, pow-suc) at (f .1) in
     let fits : n < 10 ^ suc k * 10 = rw (pow-suc 10 (suc k)) at h in
-    let fewest : Fewest 10 1 (n / 10) (suc j) = (omega arith, rw pow-suc (omega arith), λ h. let one : suc j - 1 ≡ j = omega arith in rw one (omega arith)) in
+    let one : suc j - 1 ≡ j = omega arith in
+    let fewest : Fewest 10 1 (n / 10) (suc j) = (omega arith, rw pow-suc (omega arith), λ h. rw one (omega arith)) in
     rw (le-ltb n 10 (omega arith), lt-ltb (n % 10) 10 (omega arith))
     (ap (λ (l : List ℕ). l ++ ((48 + n % 10) ∷ [])) (digits-decimal k (suc j) (n / 10) (omega arith) fewest))
 
@@ -67,7 +67,7 @@ module _ (k : ℕ) {v : ℕ} {ds : List ℕ} (fits : v < 2 ^ 32) (f : Fewest 10 
   digits-long = rw is-decimal (decimal-long 10 v)
 
   -- and the byte after it
-  pub number-puts : (at e to : ℕ) (text text′ : List ℕ) → Puts at (ds) text text′ to → at + 11 ≤ length text
+  pub number-puts : (at e to : ℕ) (text text′ : List ℕ) → Puts at ds text text′ to → at + 11 ≤ length text
       → Puts at (ended v e) text (set text′ to e) (to + 1) × (to + 1 ≤ at + 11)
   unfolding ended
   number-puts at e to text text′ p room =

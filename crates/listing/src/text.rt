@@ -1,4 +1,4 @@
-// The text of an answer.
+// The text of an answer. Each function puts a text into the buffer from `at` on and gives the place after it.
 ghost use mathlib.Core.Path.{_≡_};
 ghost use Prim.Native.Nat.{_+_, _*_, _≤_, _<_};
 ghost use lib.ListN.{length};
@@ -21,6 +21,7 @@ fn put_bytes(text: &mut [u8], at: usize, s: &[u8]) -> usize
     at + i
 }
 
+// A number and the byte after it.
 fn put_number(text: &mut [u8], at: usize, v: u32, end: u8) -> usize
     requires { ⌜ at + 11 ≤ length (now text) ⌝ }
     ensures { λ r. ⌜ Puts at (ended v end) (now (text .entry)) (now (text .exit)) r × (r ≤ at + 11) ⌝ }
@@ -43,6 +44,7 @@ fn put_fields(text: &mut [u8], at: usize, i: Instruction) -> usize
     put_number(text, at, i.c as u32, b'\n')
 }
 
+// New place, old place and fields of the instruction at a place of the result.
 fn put_line(text: &mut [u8], at: usize, out: &[u8], n: usize, p: usize) -> usize
     requires { ⌜ Listed n (length (now out)) × (p < n) × (at + 77 ≤ length (now text)) ⌝ }
     ensures { λ r. ⌜ Puts at (line (now (out .entry)) n p) (now (text .entry)) (now (text .exit)) r × (r ≤ at + 77) ⌝ }
