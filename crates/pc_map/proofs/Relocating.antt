@@ -52,41 +52,42 @@ module _ (keep bounds : List ℕ) (m : Mapped keep bounds) where
   number p h = (mapped-at keep bounds m p (omega (arith, mapped-long keep bounds m)), boundary-most keep (m .flags) p)
 
   module _ (p : ℕ) (i : Instruction) (t : ℕ) (goal : t ≡ target p i) (near : t < length bounds) (small : length bounds ≤ 65537) where
-    pub jump-moved : (r : ℕ) (j : Instruction) → p < length bounds → r < 2 ^ 32 → (r + getD bounds p 0) % 2 ^ 32 ≡ getD bounds t 0 → j ≡ withImm32 i r → j ≡ movedJump keep p i
+    pub jump-moved : (u w r : ℕ) (j : Instruction) → p < length bounds → u ≡ getD bounds p 0 → w ≡ getD bounds t 0 → r < 2 ^ 32 → (r + u) % 2 ^ 32 ≡ w → j ≡ withImm32 i r
+        → j ≡ movedJump keep p i
     unfolding movedJump
-    jump-moved r j h fits e same =
+    jump-moved u w r j h here there fits e same =
         let bp = number p h in
         let bt = number t near in
         let v : (boundary keep t + (2 ^ 32 - boundary keep p)) % 2 ^ 32 ≡ r = omega arith in
         same ∙ ap (withImm32 i) (sym v) ∙ rw goal
 
-    pub for-loop-moved : (s r : ℕ) → p + 1 < length bounds → r < 2 ^ 32 → s ≡ (getD bounds p 0 + 1) % 2 ^ 32 → (r + s) % 2 ^ 32 ≡ getD bounds t 0
+    pub for-loop-moved : (u w s r : ℕ) → p + 1 < length bounds → u ≡ getD bounds p 0 → w ≡ getD bounds t 0 → r < 2 ^ 32 → s ≡ (u + 1) % 2 ^ 32 → (r + s) % 2 ^ 32 ≡ w
         → record { op = i .op; flags = i .flags; a = i .a; b = i .b; c = r % 65536 } ≡ movedForLoop keep p i
     unfolding movedForLoop
-    for-loop-moved s r h fits from e =
+    for-loop-moved u w s r h here there fits from e =
         let bp = number p (omega arith) in
         let bt = number t near in
         let one : s ≡ boundary keep p + 1 = omega arith in
-        let v = low (boundary keep t) (boundary keep p) r (omega arith) (omega arith) fits (rw (← one, ← bt .0) e) in
+        let v = low (boundary keep t) (boundary keep p) r (omega arith) (omega arith) fits (rw (← one, ← bt .0, ← there) e) in
         rw (← goal, v)
 
   module _ (i : Instruction) (h : Bool) (hint : h ≡ isLoopHint i) where
-    pub exit-moved : (x : ℕ) (j : Instruction) → h ≡ true → x ≡ imm32Unsigned i → x < length bounds → j ≡ withImm32 i (getD bounds x 0) → j ≡ movedExit keep i
-    exit-moved x j e f near same =
+    pub exit-moved : (x v : ℕ) (j : Instruction) → h ≡ true → x ≡ imm32Unsigned i → x < length bounds → v ≡ getD bounds x 0 → j ≡ withImm32 i v → j ≡ movedExit keep i
+    exit-moved x v j e f near there same =
         let b = number x near in
         let t : isLoopHint i ≡ true = cc in
-        rw t (same ∙ rw (b .0, f))
+        rw t (same ∙ rw (there, b .0, f))
 
     pub exit-none : h ≡ false → i ≡ movedExit keep i
     exit-none e = let t : isLoopHint i ≡ false = cc in rw t
 
     module _ (d : Metadata) (p : ℕ) where
-      pub end-moved : h ≡ true → d .end < length bounds
-          → record { kind = d .kind; ok = d .ok; array = d .array; first = d .first; second = d .second; end = getD bounds (d .end) 0 } ≡ relocate keep p (cell i d) .metadata
-      end-moved e near =
+      pub end-moved : (v : ℕ) → h ≡ true → d .end < length bounds → v ≡ getD bounds (d .end) 0
+          → record { kind = d .kind; ok = d .ok; array = d .array; first = d .first; second = d .second; end = v } ≡ relocate keep p (cell i d) .metadata
+      end-moved v e near there =
           let b = number (d .end) near in
           let t : isLoopHint i ≡ true = cc in
-          rw (b .0) (sym (moved-metadata keep p (cell i d) ∙ rw t))
+          rw (there, b .0) (sym (moved-metadata keep p (cell i d) ∙ rw t))
 
       pub end-none : h ≡ false → d ≡ relocate keep p (cell i d) .metadata
       end-none e = let t : isLoopHint i ≡ false = cc in sym (moved-metadata keep p (cell i d) ∙ rw t)

@@ -2,3 +2,4 @@
 pub mod boundary;
 pub mod relocation;
 pub mod retained;
+pub mod view;

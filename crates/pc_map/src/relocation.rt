@@ -14,6 +14,7 @@ ghost use Rattle.pc_map.specs.Boundary.{isKept};
 ghost use Rattle.pc_map.specs.Boundaries.{Mapped};
 ghost use Rattle.pc_map.specs.Relocate.{movedJump, movedForLoop, relocate, relocationCheck};
 ghost use Rattle.pc_map.specs.Relocated.{cell, movedExit, relocationTest};
+use crate::view;
 use effects::Check;
 use flow::branch;
 use flow::hint;
@@ -29,7 +30,9 @@ fn moved_jump(p: usize, i: Instruction, bounds: &[u32]) -> Instruction
     ensures { λ r. ⌜ ((keep : List ℕ) → Mapped keep (now (bounds .entry)) → r ≡ movedJump keep p i) ⌝ }
 {
     let t = branch::target(p, i) as usize;
-    i.with_imm32(std::num::wrapping_sub_u32(bounds[t], bounds[p]))
+    let to = view::boundary_of(bounds, t);
+    let from = view::boundary_of(bounds, p);
+    i.with_imm32(std::num::wrapping_sub_u32(to, from))
 }
 
 // ForLoop too, from the next place. Distances never grow, so that 16 bits are enough.
@@ -38,8 +41,8 @@ fn moved_for_loop(p: usize, i: Instruction, bounds: &[u32]) -> Instruction
     ensures { λ r. ⌜ ((keep : List ℕ) → Mapped keep (now (bounds .entry)) → r ≡ movedForLoop keep p i) ⌝ }
 {
     let t = branch::target(p, i) as usize;
-    let from = std::num::wrapping_add_u32(bounds[p], 1);
-    let distance = std::num::wrapping_sub_u32(bounds[t], from);
+    let from = std::num::wrapping_add_u32(view::boundary_of(bounds, p), 1);
+    let distance = std::num::wrapping_sub_u32(view::boundary_of(bounds, t), from);
     Instruction {
         op: i.op,
         flags: i.flags,
@@ -56,7 +59,7 @@ fn moved_hint(i: Instruction, bounds: &[u32]) -> Instruction
 {
     if hint::is_loop_hint(i) {
         let exit = i.imm32_unsigned() as usize;
-        return i.with_imm32(bounds[exit]);
+        return i.with_imm32(view::boundary_of(bounds, exit));
     }
     i
 }
@@ -88,7 +91,7 @@ pub fn relocate_metadata(i: Instruction, d: Metadata, bounds: &[u32]) -> Metadat
             array: d.array,
             first: d.first,
             second: d.second,
-            end: bounds[end],
+            end: view::boundary_of(bounds, end),
         };
     }
     d

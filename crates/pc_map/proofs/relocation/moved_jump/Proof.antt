@@ -9,17 +9,17 @@ returns c =
     let w = c .before in
     let t = w .before .before .before in
     let a = t .before .before .args in
-    λ keep m. jump-moved keep _ m (a .p) (a .i) _ (t .target .ensures) (omega (arith, t .target .ensures)) (omega arith) _ _ (omega arith) (omega arith) (w .wrapping-sub-u32 .ensures) (c .with-imm32 .ensures)
+    λ keep m.
+    jump-moved keep _ m (a .p) (a .i) _ (t .target .ensures) (omega (arith, t .target .ensures)) (omega arith) _ _ _ _ (omega arith) (w .before .boundary-of2 .ensures) (w .before .before .boundary-of .ensures) (omega arith)
+    (w .wrapping-sub-u32 .ensures) (c .with-imm32 .ensures)
 
 pub moved-jump-spec : {M : Type 1} → statement M
 moved-jump-spec =
     tie.close
     (tie.spec
     (λ c κs. search needs)
-    (λ c. search needs)
-    (λ c. search needs)
-    (λ c. search needs)
-    (λ c. search needs)
+    (λ c κs. search needs)
+    (λ c κs. search needs)
     (λ c κs. search needs)
     (λ c κs. search needs)
     returns)
