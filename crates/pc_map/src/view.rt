@@ -1,15 +1,15 @@
-// The map of old places to new ones: a view over the lent boundaries.
+// "The map is a small view over the lent boundary numbers". Functions over a struct that holds a slice are proved by hand: each
+// takes the struct apart, or makes it, and calls another.
 ghost use mathlib.Core.Path.{_≡_};
 ghost use Prim.Native.Nat.{_<_};
 ghost use lib.ListN.{length, getD};
 ghost use Rattle.pc_map.specs.View.{instructionIn};
 
-// A struct that holds a slice: each function over it is proved by hand.
 pub struct PcMap<'a> {
     pub boundaries: &'a [u32],
 }
 
-// Where an instruction went.
+// The new place of an instruction.
 pub enum Moved {
     To(u32),
     Removed,
@@ -22,7 +22,7 @@ fn boundary_in(boundaries: &[u32], pc: usize) -> u32
     boundaries[pc]
 }
 
-// Retained are the places whose next boundary is one more.
+// An instruction is retained where the next boundary is one more. The end is none.
 fn instruction_in(boundaries: &[u32], pc: usize) -> Moved
     ensures { λ r. ⌜ r ≡ instructionIn (now (boundaries .entry)) pc ⌝ }
 {
@@ -38,6 +38,7 @@ fn instruction_in(boundaries: &[u32], pc: usize) -> Moved
 }
 
 impl<'a> PcMap<'a> {
+    // The number of retained instructions before old place pc.
     pub fn boundary(self, pc: usize) -> u32
         requires { ⌜ pc < length (now (self .boundaries)) ⌝ }
         ensures { λ r. ⌜ r ≡ getD (now (self .entry .boundaries)) pc 0 ⌝ }
@@ -45,6 +46,7 @@ impl<'a> PcMap<'a> {
         boundary_in(self.boundaries, pc)
     }
 
+    // Where the instruction of old place pc went.
     pub fn instruction(self, pc: usize) -> Moved
         ensures { λ r. ⌜ r ≡ instructionIn (now (self .entry .boundaries)) pc ⌝ }
     {
@@ -52,6 +54,7 @@ impl<'a> PcMap<'a> {
     }
 }
 
+// The two look-ups for callers that have the slice: their proofs need no walk by hand.
 pub fn boundary_of(boundaries: &[u32], pc: usize) -> u32
     requires { ⌜ pc < length (now boundaries) ⌝ }
     ensures { λ r. ⌜ r ≡ getD (now (boundaries .entry)) pc 0 ⌝ }
