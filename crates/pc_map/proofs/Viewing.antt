@@ -45,20 +45,17 @@ use denote.Triple.Clauses.{Ended, Clauses, ensured, closing, lasts}
 use Rattle.pc_map.proofs.view.PcMap as T
 use Rattle.pc_map.proofs.view.PcMap.Laws as T′
 
--- the signature and the contract of a function of a value and a place
+-- the signature of a function of a value and a place, and its clauses
 module _ (S : Slot 1) (R : RattleType) where
-  abbrev pub looks : Ended
+  abbrev looks : Ended
   looks = record {
     signature = record { lifetimes = 1; outlives = []; params = S ∷ plain (λ κs. usize) ∷ []; result = plain (λ κs. R) };
     kept = (yes, (yes, tt));
   }
 
   module _ {M : Type 1} (𝓤 : URA M) (asks : (κs : Lfts 1) → S .row κs .Denot → ℕ → SProp 𝓤) (says : (κs : Lfts 1) → S .row κs .Denot → ℕ → R .Denot → SProp 𝓤) where
-    abbrev pub clauses : Clauses 𝓤 looks
+    abbrev clauses : Clauses 𝓤 looks
     clauses κs a = record { ghost = Unit {0}; requires = λ g. asks κs (a .0) (a .1 .0); ensures = λ g r e. says κs (a .0) (a .1 .0) r }
-
-    abbrev pub triple : (H : Heap 𝓤) → Atoms 𝓤 → Contract 𝓤
-    triple H A = tripleOf 𝓤 H A (looks .signature) (closing 𝓤 H A looks clauses)
 
 -- how the value is passed on: the MIR types of the parameter and of the local, the local's expression, the machine values of the
 -- two, and that what the first owns gives what the second owns
@@ -102,7 +99,7 @@ module _ {M : Type 1} (𝓤 : URA M) (H : Heap 𝓤) (𝓜 : Model 𝓤 H) (𝓖
     c = clauses S R 𝓤 (λ κs x. asks κs (h .to κs x)) (λ κs x. says κs (h .to κs x))
 
     abbrev Callee : Contract 𝓤
-    Callee = triple S′ R 𝓤 asks says H A
+    Callee = tripleOf 𝓤 H A (looks S′ R .signature) (closing 𝓤 H A (looks S′ R) (clauses S′ R 𝓤 asks says))
 
     abbrev stayed : Stays (looks S R .signature .params) (looks S R .kept)
     stayed = (stay-dropped S yes, (stay-dropped (plain (λ κs. usize)) yes, tt))
