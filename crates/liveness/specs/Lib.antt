@@ -2,6 +2,7 @@ pub mod Live
 pub mod Dead
 pub mod Sets
 pub mod Touched
+pub mod Plain
 pub mod Only
 pub mod Wordwise
 pub mod Through
