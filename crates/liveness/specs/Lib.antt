@@ -2,7 +2,6 @@ pub mod Live
 pub mod Dead
 pub mod Sets
 pub mod Touched
-pub mod Plain
 pub mod Only
 pub mod Wordwise
 pub mod Through
@@ -15,6 +14,7 @@ pub mod Memory
 pub mod Rounding
 pub mod Solving
 pub mod Unread
+pub mod Plain
 pub mod Sweeping
 pub mod Sweep
 pub mod Droppable

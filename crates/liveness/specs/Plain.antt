@@ -1,7 +1,7 @@
 -- Plain instructions: the opcode's row tells the single slots that they read, two at most, and whether they write a.
 -- Assumes nothing.
-use mathlib.Core.Path.{_≡_, refl, sym, ap, _∙_}
-use mathlib.Core.Bool.{Bool, true, false, _&&_, _||_}
+use mathlib.Core.Path.{_≡_, refl, ap, _∙_}
+use mathlib.Core.Bool.{Bool, true, false, cond, not, _&&_, _||_, false≢true}
 use mathlib.Core.List.{List}
 use Prim.Native.Nat.{ℕ, zero, suc, _+_, _*_, _/_, _%_, _^_, _≤_, _<_}
 use native.Mathlib.Nat.{div-one, div-div-eq-div-mul}
@@ -9,17 +9,24 @@ use native.Mathlib.Omega.{arith}
 use lib.Dec.{eqb, ltb}
 use lib.ListN.{length, getD, List·getD-eq-default}
 use borrow.Author.Tests.{ltb-true, ltb-false}
+use Rattle.words.specs.Lists.{every, every-at}
 use Rattle.instruction.specs.Opcode as op
-use Rattle.instruction.specs.Instruction.{ofWord}
+use Rattle.instruction.specs.declared.Instruction.{Instruction}
+use Rattle.instruction.specs.declared.Class.{Class}
+use Rattle.instruction.specs.declared.Class.the-variants.{Hint, LoadInt, LoadConst, Copy, CopyN, Unary, Binary, Jump, JumpIf, JumpIfNot, ForLoop, Return, Panic, Outside, Invalid}
+use Rattle.instruction.specs.Class.{single, classOf, numberOf, isPure, class-past}
+use Rattle.instruction.specs.Instruction.{ofWord, class}
 use Rattle.effects.specs.declared.Range.{Range}
 use Rattle.effects.specs.Shape.{Tables, Cell}
 use Rattle.effects.specs.Effects.{allReads, writes, rangeHas, rangeWithin}
 use Rattle.effects.specs.Form.{emptyRange, rows, rowOf, demandRows}
 use Rattle.effects.specs.Plain.{slotOf, isPlain, Plain, plain-row, slot-form}
 use Rattle.effects.specs.Ranges.{read-count-row, read-at-row, write-count-row, write-at-row}
+use Rattle.effects.specs.Sound.{writesByClass}
 use Rattle.unit.specs.declared.Metadata.{Metadata}
 use Rattle.liveness.specs.Sets.{Put, range, put-more, put-as, has-none, has-one, within-end}
-use Rattle.liveness.specs.Touched.{reading, writing, Within, Fits, Before, before, within-at, touches-one, touches-two}
+use Rattle.liveness.specs.Touched.{reading, writing, Within, Fits, within-at, touches-one, touches-two}
+use Rattle.liveness.specs.Unread.{freeSlot, deadBy, one-free, Spans}
 
 -- an opcode past the valid ones writes a and reads nothing, and is plain too
 plain-any : (o row : ℕ) → row ≡ rowOf o → isPlain o row ≡ true → Plain o row
@@ -144,3 +151,53 @@ module _ {count w row : ℕ} (p : PlainFits count w row) where
     put-plain-reads l l₁ l₂ a b d e q s =
         put-more true (λ t. ltb 0 (row % 16) && eqb t a) (λ t. ltb 1 (row % 16) && eqb t b) (reading T (cell w m)) l l₁ l₂ q s
         (λ t. rw (d, e) (plain-reading T (cell w m) row (p .known) (p .plain) t))
+
+-- ---- dead stores: CopyN is not plain, and every other pure instruction writes a alone
+
+pure-slot : (k : Class) (i : Instruction) → isPure k ≡ true → not (eqb (numberOf k) 4) ≡ true → getD (writesByClass k i) 0 emptyRange ≡ range (i .a) 1
+unfolding isPure numberOf writesByClass
+pure-slot Hint i e n = absurd (false≢true e)
+pure-slot LoadInt i e n = refl
+pure-slot LoadConst i e n = refl
+pure-slot Copy i e n = refl
+pure-slot CopyN i e n = absurd (false≢true n)
+pure-slot Unary i e n = refl
+pure-slot Binary i e n = refl
+pure-slot Jump i e n = absurd (false≢true e)
+pure-slot JumpIf i e n = absurd (false≢true e)
+pure-slot JumpIfNot i e n = absurd (false≢true e)
+pure-slot ForLoop i e n = absurd (false≢true e)
+pure-slot Return i e n = absurd (false≢true e)
+pure-slot Panic i e n = absurd (false≢true e)
+pure-slot Outside i e n = absurd (false≢true e)
+pure-slot Invalid i e n = absurd (false≢true e)
+
+not-copies : every 136 (λ o. cond (isPlain o (rowOf o)) (not (eqb (numberOf (classOf o)) 4)) true) ≡ true
+unfolding every classOf single numberOf
+not-copies = refl
+
+plain-slot : (o : ℕ) (i : Instruction) → isPlain o (rowOf o) ≡ true → isPure (classOf o) ≡ true → getD (writesByClass (classOf o) i) 0 emptyRange ≡ range (i .a) 1
+unfolding numberOf
+plain-slot o i p e = pure-slot (classOf o) i e (go (ltb o 136) refl)
+  where
+    go : (t : Bool) → ltb o 136 ≡ t → not (eqb (numberOf (classOf o)) 4) ≡ true
+    go true q = rw p at (every-at 136 (λ o. cond (isPlain o (rowOf o)) (not (eqb (numberOf (classOf o)) 4)) true) not-copies o (ltb-true o 136 q))
+    go false q = rw (class-past o (ltb-false o 136 q))
+
+module _ (types row : List ℕ) (w : ℕ) (p : isPlain (w % 256) (rowOf (w % 256)) ≡ true) where
+  abbrev i : Instruction
+  i = ofWord w
+
+  module _ (e : isPure (classOf (w % 256)) ≡ true) where
+    here : getD (writesByClass (class i) i) 0 emptyRange ≡ range (i .a) 1
+    unfolding ofWord
+    here = plain-slot (w % 256) i p e
+
+    pub plain-dead : deadBy types row i ≡ freeSlot types row (slotOf 0 i)
+    unfolding ofWord
+    plain-dead = rw (e, here) (one-free types row (range (i .a) 1) refl)
+
+    pub plain-spans : Spans types row (getD (writesByClass (class i) i) 0 emptyRange) → (slotOf 0 i < length types) × (slotOf 0 i < 64 * length row)
+    plain-spans s =
+        let t = rw here at s in
+        (omega (arith, within-end (length types) (range (i .a) 1) (t .typed) (omega arith)), omega (arith, within-end (64 * length row) (range (i .a) 1) (t .inside) (omega arith)))

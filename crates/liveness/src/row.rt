@@ -40,7 +40,7 @@ fn slot_if(t: usize, when: bool) -> usize
     if when { t } else { 0 }
 }
 
-// Puts a slot in, or takes it out, if it is to be done. There is no branch: else no bit of the first word changes.
+// Puts a slot in, or takes it out, if it is to be done. This takes no branch: if not, the first word is written as it was.
 pub fn put_if(row: &mut [u64], t: usize, when: bool, on: bool)
     requires { ⌜ (0 < length (now row)) × (when ≡ true → t < 64 * length (now row)) ⌝ }
     ensures { λ _. ⌜ Put on (λ k. when && eqb k t) (now (row .entry)) (now (row .exit)) ⌝ }
