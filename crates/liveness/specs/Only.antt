@@ -110,6 +110,13 @@ both-lent m a b k xs ys m₁ h g e ly lx =
       was = rw part (same-mid (At b k) m m₁ (y .0) a k (omega arith) (λ j i n. omega (arith, i .1, n .0)));
     }
 
+-- the second part's length
+pub second-long : (m : List ℕ) (a b k : ℕ) (ys : List ℕ) → a + k ≤ b → b + k ≤ length m → length ys ≡ length (midOf b (b + k - b) m)
+    → length (midOf a (a + k - a) (putMid b (b + k - b) m ys)) ≡ k
+second-long m a b k ys h g e =
+    let room : a + k ≤ length (putMid b (b + k - b) m ys) = omega (arith, lent m b k ys g e .0 .long) in
+    lent-long (putMid b (b + k - b) m ys) a k room
+
 -- the whole, of the region that changed
 pub put-only : (a k : ℕ) (m m′ : List ℕ) → Only (At a k) m m′ → a + k ≤ length m → m′ ≡ putMid a k m (midOf a k m′)
 put-only a k m m′ o h = ext-getD 0 m′ (putMid a k m (midOf a k m′)) (o .long ∙ sym (other .long)) each

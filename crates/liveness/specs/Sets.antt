@@ -3,12 +3,16 @@
 use mathlib.Core.Path.{_≡_, refl, sym, ap, _∙_}
 use mathlib.Core.Bool.{Bool, true, false, cond, not, _&&_, _||_, false≢true}
 use mathlib.Core.List.{List, [], _∷_}
-use Prim.Native.Nat.{ℕ, zero, suc, _+_, _*_, _≤_, _<_}
+use Prim.Native.Nat.{ℕ, zero, suc, _+_, _*_, _-_, _/_, _%_, _^_, _≤_, _<_}
+use native.Mathlib.Nat.{mod-eq-of-lt}
 use native.Mathlib.Omega.{arith}
 use lib.Dec.{eqb, leb, ltb}
-use lib.ListN.{length, getD}
+use lib.ListN.{length, getD, set}
+use lib.Seq.{set-getD}
+use lib.Bits.{bitAnd, bitOr, or-zero-r, and-mask}
+use mir.Val.{boolByte}
 use borrow.Author.Tests.{eqb-true, eqb-false, leb-true, leb-false, ltb-true, ltb-false, lt-ltb, le-ltb}
-use Rattle.words.specs.Bits.{member, inserted, removed, member-inserted, member-removed}
+use Rattle.words.specs.Bits.{member, inserted, removed, one-shl, member-inserted, member-removed}
 use Rattle.effects.specs.declared.Range.{Range}
 use Rattle.effects.specs.Effects.{rangeHas, rangeWithin, anyOf, allOf}
 use Rattle.effects.specs.Form.{emptyRange}
@@ -40,6 +44,25 @@ put-in b l l′ i o h e t = rw (e, o) (member-inserted l i h t)
 
 pub put-out : (b : Bool) (l l′ : List ℕ) (i : ℕ) → b ≡ false → i < 64 * length l → l′ ≡ removed l i → Put b (λ t. eqb t i) l l′
 put-out b l l′ i o h e t = rw (e, o) (member-removed l i h t)
+
+-- one slot if it is to be put, and else nothing: the first word stays
+pub if-inside : (when : Bool) (t n : ℕ) → 0 < n → (when ≡ true → t < 64 * n) → cond when t 0 / 64 < n
+if-inside true t n some h = let g : t < 64 * n = h refl in omega arith
+if-inside false t n some h = omega arith
+
+module _ (l : List ℕ) (t : ℕ) where
+  abbrev withBit : Bool → ℕ → ℕ → ℕ
+  withBit on x m = cond on (bitOr x m) (bitAnd x (2 ^ 64 - 1 - m))
+
+  pub put-if : (when on : Bool) (at v : ℕ) → (when ≡ true → t < 64 * length l) → at ≡ cond when t 0 → getD l (at / 64) 0 < 2 ^ 64
+      → v ≡ withBit on (getD l (at / 64) 0) (boolByte when * 2 ^ (at % 64) % 2 ^ 64) → Put on (λ k. when && eqb k t) l (set l (at / 64) v)
+  unfolding inserted removed
+  put-if true true at v h a f e = rw (e, a, one-shl (t % 64) (omega arith)) (put-in true l (inserted l t) t refl (h refl) refl)
+  put-if true false at v h a f e = rw (e, a, one-shl (t % 64) (omega arith)) (put-out false l (removed l t) t refl (h refl) refl)
+  put-if false true at v h a f e = rw (e, a, or-zero-r (getD l 0 0), set-getD l 0 0) (λ k. refl)
+  put-if false false at v h a f e =
+      let g : getD l 0 0 < 2 ^ 64 = rw a at f in
+      rw (e, a, and-mask (getD l 0 0) 64, mod-eq-of-lt g, set-getD l 0 0) (λ k. refl)
 
 -- ---- ranges
 

@@ -3,12 +3,16 @@
 use mathlib.Core.Path.{_≡_, refl, sym, _∙_}
 use mathlib.Core.Bool.{Bool, true, false, false≢true}
 use mathlib.Core.List.{List}
-use Prim.Native.Nat.{ℕ}
-use lib.ListN.{set}
+use Prim.Native.Nat.{ℕ, _+_, _-_, _≤_}
+use native.Mathlib.Omega.{arith}
+use lib.ListN.{length, set}
+use borrow.Rule.Slice.PartMut.{midOf, putMid}
 use Rattle.instruction.specs.declared.Instruction.{Instruction}
 use Rattle.effects.specs.Shape.{Tables, Cell}
 use Rattle.liveness.specs.Touched.{Before}
+use Rattle.liveness.specs.Only.{At, Only, only-none, lent}
 use Rattle.liveness.specs.Out.{OutOf}
+use Rattle.liveness.specs.Unread.{deadBy}
 
 -- at a block's last place the row becomes what is live at its end, and else it stays
 pub record Entered (last : Bool) (w : ℕ) (live blocks : List ℕ) (n p : ℕ) (i : Instruction) (row row′ : List ℕ) : Type 0 where
@@ -37,3 +41,18 @@ module _ (T : Tables) (kept dead : Bool) (x : Cell) (p : ℕ) (keep row : List �
 
   pub swept-on : (row′ : List ℕ) → kept ≡ true → dead ≡ false → Before T x row row′ → Swept T kept dead x p keep keep row row′
   swept-on row′ e d b = record { off = λ q. absurd (false≢true (sym q ∙ e)); gone = λ q r. absurd (false≢true (sym d ∙ r)); on = λ q r. (refl, b) }
+
+-- a kept place, the row being lent: to the test alone, or then to what makes it the row before
+module _ (T : Tables) (x : Cell) (kept : Bool) (e : kept ≡ true) (p : ℕ) (keep types m : List ℕ) (a k : ℕ) (r : Bool) (told : r ≡ deadBy types (midOf a (a + k - a) m) (x .instruction)) where
+  answer : deadBy types (midOf a k m) (x .instruction) ≡ r
+  answer = let part : a + k - a ≡ k = omega arith in sym (rw part at told)
+
+  pub lent-gone : r ≡ true → Swept T kept (deadBy types (midOf a k m) (x .instruction)) x p keep (set keep p 0) (midOf a k m) (midOf a k m) × Only (At a k) m m
+  lent-gone d = (swept-gone T kept (deadBy types (midOf a k m) (x .instruction)) x p keep (midOf a k m) e (answer ∙ d), only-none (At a k) m)
+
+  pub lent-on : r ≡ false → a + k ≤ length m → (ys : List ℕ) → length ys ≡ length (midOf a (a + k - a) m) → Before T x (midOf a (a + k - a) m) ys
+      → Swept T kept (deadBy types (midOf a k m) (x .instruction)) x p keep keep (midOf a k m) (midOf a k (putMid a (a + k - a) m ys)) × Only (At a k) m (putMid a (a + k - a) m ys)
+  lent-on d h ys l b =
+      let part : a + k - a ≡ k = omega arith in
+      let y = lent m a k ys h l in
+      (rw (y .1) (swept-on T kept (deadBy types (midOf a k m) (x .instruction)) x p keep (midOf a k m) ys e (answer ∙ d) (rw part at b)), y .0)

@@ -7,10 +7,12 @@ use mathlib.Core.List.{List, [], _∷_}
 use Prim.Native.Nat.{ℕ, zero, suc, _+_, _*_, _-_, _≤_, _<_}
 use native.Mathlib.Omega.{arith}
 use lib.ListN.{length, getD, replicate}
+use borrow.Rule.Slice.PartMut.{midOf, putMid}
 use Rattle.words.specs.Bits.{member}
 use Rattle.effects.specs.Shape.{Tables, Cell, cellAt}
 use Rattle.effects.specs.Cells.{cellOf}
 use Rattle.pc_map.specs.Boundary.{isKept}
+use Rattle.liveness.specs.Only.{At, Either, Only, both-lent}
 use Rattle.liveness.specs.Sets.{Put}
 use Rattle.liveness.specs.Touched.{reading, writing, Fits, Before}
 use Rattle.liveness.specs.Wordwise.{none-in, all-in}
@@ -34,6 +36,16 @@ placed T kept x u v u′ v′ k p b = record { used = λ t. rw k (b t); left = �
 
 pub not-placed : (T : Tables) (kept : Bool) (x : Cell) (u v : List ℕ) → kept ≡ false → Placed T kept x u v u v
 not-placed T kept x u v k = record { used = λ t. rw k; left = λ t. rw k }
+
+-- a kept place, the two sets being lent one after the other
+pub lent-placed : (T : Tables) (x : Cell) (kept : Bool) → kept ≡ true → (m : List ℕ) (a b k : ℕ) (xs ys : List ℕ) → a + k ≤ b → b + k ≤ length m
+    → length ys ≡ length (midOf b (b + k - b) m) → length xs ≡ length (midOf a (a + k - a) (putMid b (b + k - b) m ys))
+    → Put false (writing T x) (midOf b (b + k - b) m) ys → Before T x (midOf a (a + k - a) (putMid b (b + k - b) m ys)) xs
+    → (m′ : List ℕ) → m′ ≡ putMid a (a + k - a) (putMid b (b + k - b) m ys) xs → Placed T kept x (midOf a k m) (midOf b k m) (midOf a k m′) (midOf b k m′) × Only (Either (At a k) (At b k)) m m′
+lent-placed T x kept e m a b k xs ys h g ly lx p q m′ d =
+    let z = both-lent m a b k xs ys (putMid b (b + k - b) m ys) h g refl ly lx in
+    let part : b + k - b ≡ k = omega arith in
+    rw (d, z .low, z .high) (placed T kept x (midOf a k m) (midOf b k m) xs ys e (rw part at p) (rw (z .was) at q), z .only)
 
 -- the sets tell what is live at the start
 pub record Summary (T : Tables) (keep : List ℕ) (cells : List Cell) (uses preserved : List ℕ) (p k : ℕ) : Type 0 where

@@ -120,8 +120,8 @@ module _ {s : Layout} {T : Tables} {memory metadata types table : List ℕ} (g :
 
     pub summarizable : (keep′ starts′ : List ℕ) → keep′ ≡ keep → starts′ ≡ starts
         → Laid s (length m) × (s .count < length starts′) × Rising starts′ (s .count) n × (metadataSize * n ≤ length metadata) × (length keep′ ≡ n)
-        × ((p : ℕ) → p < n → Fits (s .width) T (cellOf metadata p (getD m p 0)))
-    summarizable keep′ starts′ a b = rw (a, b) (rw long (g .laid), few-starts, starts-rise (g .known) (g .width), g .known .entries, g .known .long-keep, fits-in)
+        × ((p : ℕ) → p < n → Fits (s .width) T (cellOf metadata p (getD m p 0))) × (0 < s .width)
+    summarizable keep′ starts′ a b = rw (a, b) (rw long (g .laid), few-starts, starts-rise (g .known) (g .width), g .known .entries, g .known .long-keep, fits-in, g .some)
 
     pub ready : (blocks′ starts′ : List ℕ) → blocks′ ≡ blocks → starts′ ≡ starts → Ready s m blocks′ starts′
     ready blocks′ starts′ a b = rw (a, b) (record { coded = coded; long-starts = few-starts; rising = starts-rise (g .known) (g .width) })

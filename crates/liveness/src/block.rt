@@ -15,9 +15,11 @@ ghost use Rattle.liveness.specs.Visit.{Rising, Summed};
 use crate::Layout;
 use crate::row;
 use crate::touch;
+use effects::plain;
+use effects::table;
 use instruction::Instruction;
 
-// A place more, before those that the two sets of w words are of.
+// A place more, before those that the two sets of w words are of. Most instructions are plain, and their opcode's row tells all.
 fn summarize_place(
     memory: &mut [u64],
     uses: usize,
@@ -30,13 +32,21 @@ fn summarize_place(
     cases: &[u8],
     p: usize,
 )
-    requires { ⌜ (p < uses) × (uses + w ≤ preserved) × (preserved + w ≤ length (now memory)) × (metadataSize * p + metadataSize ≤ length (now metadata)) × (p < length (now keep)) × Fits w (tablesOf (now functions) (now externs) (now cases)) (cellOf (now metadata) p (getD (now memory) p 0)) ⌝ }
+    requires { ⌜ (p < uses) × (uses + w ≤ preserved) × (preserved + w ≤ length (now memory)) × (metadataSize * p + metadataSize ≤ length (now metadata)) × (p < length (now keep)) × Fits w (tablesOf (now functions) (now externs) (now cases)) (cellOf (now metadata) p (getD (now memory) p 0)) × (0 < w) ⌝ }
     ensures { λ _. ⌜ Placed (tablesOf (now (functions .entry)) (now (externs .entry)) (now (cases .entry))) (isKept (now (keep .entry)) p) (cellOf (now (metadata .entry)) p (getD (now (memory .entry)) p 0)) (midOf uses w (now (memory .entry))) (midOf preserved w (now (memory .entry))) (midOf uses w (now (memory .exit))) (midOf preserved w (now (memory .exit))) × Only (Either (At uses w) (At preserved w)) (now (memory .entry)) (now (memory .exit)) ⌝ }
 {
     if keep[p] != 1 {
         return;
     }
-    let i = Instruction::from_word(memory[p]);
+    let word = memory[p];
+    let op = (word % 256) as u8;
+    let r = table::row(op);
+    if plain::is_plain(op, r) {
+        touch::take_plain_write(&mut memory[preserved..preserved + w], word, r);
+        touch::plain_before(&mut memory[uses..uses + w], word, r);
+        return;
+    }
+    let i = Instruction::from_word(word);
     touch::put_writes(
         &mut memory[preserved..preserved + w],
         false,
@@ -72,7 +82,7 @@ fn summarize_block(
     start: usize,
     end: usize,
 )
-    requires { ⌜ (end ≤ uses) × (uses + w ≤ preserved) × (preserved + w ≤ length (now memory)) × (start ≤ end) × (metadataSize * end ≤ length (now metadata)) × (end ≤ length (now keep)) × ((p : ℕ) → p < end → Fits w (tablesOf (now functions) (now externs) (now cases)) (cellOf (now metadata) p (getD (now memory) p 0))) ⌝ }
+    requires { ⌜ (end ≤ uses) × (uses + w ≤ preserved) × (preserved + w ≤ length (now memory)) × (start ≤ end) × (metadataSize * end ≤ length (now metadata)) × (end ≤ length (now keep)) × ((p : ℕ) → p < end → Fits w (tablesOf (now functions) (now externs) (now cases)) (cellOf (now metadata) p (getD (now memory) p 0))) × (0 < w) ⌝ }
     ensures { λ _. ⌜ ((n : ℕ) → end ≤ n → n ≤ uses → Summary (tablesOf (now (functions .entry)) (now (externs .entry)) (now (cases .entry))) (now (keep .entry)) (cellsBy (midOf 0 n (now (memory .entry))) (now (metadata .entry))) (midOf uses w (now (memory .exit))) (midOf preserved w (now (memory .exit))) start (end - start)) × Only (Either (At uses w) (At preserved w)) (now (memory .entry)) (now (memory .exit)) ⌝ }
 {
     row::fill(&mut memory[preserved..preserved + w], u64::MAX);
@@ -106,7 +116,7 @@ pub fn summarize(
     cases: &[u8],
     starts: &[u32],
 )
-    requires { ⌜ Laid sets (length (now memory)) × (sets .count < length (now starts)) × Rising (now starts) (sets .count) (sets .code) × (metadataSize * sets .code ≤ length (now metadata)) × (length (now keep) ≡ sets .code) × ((p : ℕ) → p < sets .code → Fits (sets .width) (tablesOf (now functions) (now externs) (now cases)) (cellOf (now metadata) p (getD (now memory) p 0))) ⌝ }
+    requires { ⌜ Laid sets (length (now memory)) × (sets .count < length (now starts)) × Rising (now starts) (sets .count) (sets .code) × (metadataSize * sets .code ≤ length (now metadata)) × (length (now keep) ≡ sets .code) × ((p : ℕ) → p < sets .code → Fits (sets .width) (tablesOf (now functions) (now externs) (now cases)) (cellOf (now metadata) p (getD (now memory) p 0))) × (0 < sets .width) ⌝ }
     ensures { λ _. ⌜ Summed (tablesOf (now (functions .entry)) (now (externs .entry)) (now (cases .entry))) (now (keep .entry)) (cellsBy (codeOf sets (now (memory .entry))) (now (metadata .entry))) (sets .width) (now (starts .entry)) (usesOf sets (now (memory .exit))) (preservedOf sets (now (memory .exit))) (sets .count) × (codeOf sets (now (memory .exit)) ≡ codeOf sets (now (memory .entry))) × (liveOf sets (now (memory .exit)) ≡ liveOf sets (now (memory .entry))) ⌝ }
 {
     let mut b: usize = 0;

@@ -1,8 +1,9 @@
 // Sets of slots: slot t is bit t % 64 of word t / 64.
 ghost use mathlib.Core.Path.{_≡_};
-ghost use Prim.Native.Nat.{ℕ, _+_, _*_, _≤_, _<_};
-ghost use mathlib.Core.Bool.{true, _&&_, _||_};
+ghost use Prim.Native.Nat.{ℕ, _+_, _*_, _-_, _^_, _≤_, _<_};
+ghost use mathlib.Core.Bool.{true, cond, _&&_, _||_};
 ghost use lib.Dec.{eqb};
+ghost use lib.Bits.{bitAnd, bitOr};
 ghost use lib.ListN.{length, replicate};
 ghost use borrow.Rule.Slice.PartMut.{midOf};
 ghost use Rattle.words.specs.Bits.{member};
@@ -23,6 +24,32 @@ pub fn put(row: &mut [u64], t: usize, on: bool)
     } else {
         bits::remove(row, t);
     }
+}
+
+// The word x with the bits of m put in, or taken out.
+fn masked(x: u64, m: u64, on: bool) -> u64
+    ensures { λ r. ⌜ r ≡ cond on (bitOr x m) (bitAnd x (2 ^ 64 - 1 - m)) ⌝ }
+{
+    if on { x | m } else { x & !m }
+}
+
+// The slot, or 0.
+fn slot_if(t: usize, when: bool) -> usize
+    ensures { λ r. ⌜ r ≡ cond when t 0 ⌝ }
+{
+    if when { t } else { 0 }
+}
+
+// Puts a slot in, or takes it out, if it is to be done. This takes no branch: if not, the first word is written as it was.
+pub fn put_if(row: &mut [u64], t: usize, when: bool, on: bool)
+    requires { ⌜ (0 < length (now row)) × (when ≡ true → t < 64 * length (now row)) ⌝ }
+    ensures { λ _. ⌜ Put on (λ k. when && eqb k t) (now (row .entry)) (now (row .exit)) ⌝ }
+{
+    let at = slot_if(t, when);
+    let bit: u64 = when as u64;
+    let k = at / 64;
+    let x = row[k];
+    row[k] = masked(x, bit << (at % 64), on);
 }
 
 // The slots of a range one after another.

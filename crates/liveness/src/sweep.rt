@@ -23,6 +23,8 @@ use crate::Layout;
 use crate::dead;
 use crate::out;
 use crate::touch;
+use effects::plain;
+use effects::table;
 use instruction::Instruction;
 
 // Is p the last place of its block?
@@ -58,7 +60,7 @@ fn sweep_place(
     cases: &[u8],
     p: usize,
 )
-    requires { ⌜ Laid sets (length (now memory)) × (p < sets .code) × (metadataSize * sets .code ≤ length (now metadata)) × (length (now keep) ≡ sets .code) × Spans (now types) (rowOf sets (now memory)) (getD (writesByClass (class (ofWord (getD (now memory) p 0))) (ofWord (getD (now memory) p 0))) 0 emptyRange) × Fits (sets .width) (tablesOf (now functions) (now externs) (now cases)) (cellOf (now metadata) p (getD (now memory) p 0)) ⌝ }
+    requires { ⌜ Laid sets (length (now memory)) × (p < sets .code) × (metadataSize * sets .code ≤ length (now metadata)) × (length (now keep) ≡ sets .code) × Spans (now types) (rowOf sets (now memory)) (getD (writesByClass (class (ofWord (getD (now memory) p 0))) (ofWord (getD (now memory) p 0))) 0 emptyRange) × Fits (sets .width) (tablesOf (now functions) (now externs) (now cases)) (cellOf (now metadata) p (getD (now memory) p 0)) × (0 < sets .width) ⌝ }
     ensures { λ _. ⌜ Swept (tablesOf (now (functions .entry)) (now (externs .entry)) (now (cases .entry))) (isKept (now (keep .entry)) p) (deadBy (now (types .entry)) (rowOf sets (now (memory .entry))) (ofWord (getD (now (memory .entry)) p 0))) (cellOf (now (metadata .entry)) p (getD (now (memory .entry)) p 0)) p (now (keep .entry)) (now (keep .exit)) (rowOf sets (now (memory .entry))) (rowOf sets (now (memory .exit))) × Only (At (sets .row) (sets .width)) (now (memory .entry)) (now (memory .exit)) ⌝ }
 {
     if keep[p] != 1 {
@@ -66,7 +68,18 @@ fn sweep_place(
     }
     let start = sets.row;
     let end = start + sets.width;
-    let i = Instruction::from_word(memory[p]);
+    let word = memory[p];
+    let op = (word % 256) as u8;
+    let r = table::row(op);
+    if plain::is_plain(op, r) {
+        if dead::is_plain_dead(types, &memory[start..end], word) {
+            keep[p] = 0;
+            return;
+        }
+        touch::plain_before(&mut memory[start..end], word, r);
+        return;
+    }
+    let i = Instruction::from_word(word);
     if dead::is_dead(types, &memory[start..end], i) {
         keep[p] = 0;
         return;
@@ -94,7 +107,7 @@ pub fn sweep(
     externs: &[u8],
     cases: &[u8],
 )
-    requires { ⌜ Sweepable sets (tablesOf (now functions) (now externs) (now cases)) (now memory) (now metadata) (now types) (now table) ⌝ }
+    requires { ⌜ Sweepable sets (tablesOf (now functions) (now externs) (now cases)) (now memory) (now metadata) (now types) (now table) × (0 < sets .width) ⌝ }
     ensures { λ _. ⌜ ((locals : ℕ) (constants : List ℕ) (rows : List Row) → Grounds (sections locals (now (types .entry)) constants (tablesOf (now (functions .entry)) (now (externs .entry)) (now (cases .entry)))) (leadersOf (sets .code) (now (table .entry))) (flagsOf (sets .code) (now (table .entry))) (cellsBy (codeOf sets (now (memory .entry))) (now (metadata .entry))) rows (sets .width) (blocksOf (sets .code) (now (table .entry))) (liveOf sets (now (memory .entry))) → flagsOf (sets .code) (now (table .exit)) ≡ sweepFrom (sections locals (now (types .entry)) constants (tablesOf (now (functions .entry)) (now (externs .entry)) (now (cases .entry)))) (length (cellsBy (codeOf sets (now (memory .entry))) (now (metadata .entry)))) (leadersOf (sets .code) (now (table .entry))) (flagsOf (sets .code) (now (table .entry))) rows 0 (cellsBy (codeOf sets (now (memory .entry))) (now (metadata .entry))) .keep) × (now (table .exit) ≡ putMid (flagsAt (sets .code)) (sets .code) (now (table .entry)) (flagsOf (sets .code) (now (table .exit)))) × (codeOf sets (now (memory .exit)) ≡ codeOf sets (now (memory .entry))) ⌝ }
 {
     let n = sets.code;

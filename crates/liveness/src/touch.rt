@@ -1,17 +1,21 @@
 // What an instruction reads and writes, as sets of slots.
 ghost use mathlib.Core.Path.{_≡_};
-ghost use mathlib.Core.Bool.{true};
-ghost use Prim.Native.Nat.{_+_, _*_, _≤_};
+ghost use mathlib.Core.Bool.{true, false};
+ghost use Prim.Native.Nat.{_+_, _*_, _≤_, _<_};
 ghost use lib.ListN.{length, getD};
+ghost use Rattle.instruction.specs.Instruction.{ofWord};
+ghost use Rattle.unit.specs.declared.Metadata.{Metadata};
 ghost use Rattle.unit.specs.Entry.{metadataAt};
 ghost use Rattle.unit.specs.Size.{metadataSize};
-ghost use Rattle.effects.specs.Shape.{tablesOf};
+ghost use Rattle.effects.specs.Shape.{Tables, tablesOf};
 ghost use Rattle.effects.specs.Effects.{allReads, writes};
 ghost use Rattle.effects.specs.Form.{emptyRange};
+ghost use Rattle.effects.specs.Plain.{slotOf};
 ghost use Rattle.effects.specs.Ranges.{CasesInside};
 ghost use Rattle.effects.specs.Sound.{isOutside, readsByClass, writesByClass};
 ghost use Rattle.liveness.specs.Sets.{Put};
 ghost use Rattle.liveness.specs.Touched.{Within, reading, writing, Fits, Before};
+ghost use Rattle.liveness.specs.Plain.{PlainFits};
 use crate::row;
 use effects::Range;
 use effects::ranges;
@@ -164,6 +168,32 @@ pub fn put_writes(
         return;
     }
     row::put_range(row, write(c, i), on);
+}
+
+// One of the fields a, b and c of an instruction's word.
+pub fn field(w: u64, form: u64) -> usize
+    requires { ⌜ form < 3 ⌝ }
+    ensures { λ r. ⌜ r ≡ slotOf form (ofWord w) ⌝ }
+{
+    ((w >> (16 + 16 * form)) % 65536) as usize
+}
+
+// Takes out what a plain instruction writes, of its word and its opcode's row.
+pub fn take_plain_write(row: &mut [u64], w: u64, r: u64)
+    requires { ⌜ PlainFits (length (now row)) w r ⌝ }
+    ensures { λ _. ⌜ ((T : Tables) (m : Metadata) → Put false (writing T (record { instruction = ofWord w; metadata = m })) (now (row .entry)) (now (row .exit))) ⌝ }
+{
+    row::put_if(row, field(w, 0), r / 16 % 16 > 0, false);
+}
+
+// What is live before a plain instruction, of what is live after it.
+pub fn plain_before(row: &mut [u64], w: u64, r: u64)
+    requires { ⌜ PlainFits (length (now row)) w r ⌝ }
+    ensures { λ _. ⌜ ((T : Tables) (m : Metadata) → Before T (record { instruction = ofWord w; metadata = m }) (now (row .entry)) (now (row .exit))) ⌝ }
+{
+    take_plain_write(row, w, r);
+    row::put_if(row, field(w, r / 256 % 256), r % 16 > 0, true);
+    row::put_if(row, field(w, r / 65536), r % 16 > 1, true);
 }
 
 // What is live before the instruction at place p, of what is live after it.

@@ -62,6 +62,7 @@ summarize-block-requires c κs =
       omega (arith, rise .1),
       rw (s .pre .4) (rise .1),
       λ p h. let q : p < s .args .sets .code = omega (arith, rise .1) in rw (same-word (s .args .sets) _ _ _ (l .inv .2) (past-sums (s .args .sets) _ d) p q) (s .pre .5 p q),
+      s .pre .6,
     )
 
 loop-again : tie.Need-loop-again Inv-loop μ-loop

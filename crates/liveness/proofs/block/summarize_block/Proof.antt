@@ -45,7 +45,7 @@ summarize-place-requires c κs =
     let x = both-lent m (s .args .uses) (s .args .preserved) (s .args .w) (u .last .0) (v .last .0) _ (s .pre .1) (s .pre .2) refl (v .kept .0) (u .kept .0) in
     let o = only-both _ _ _ _ (x .only) (l .inv .3) in
     let same = o .same (l .p - 1) (⊎-elim (λ i. omega (arith, i .0)) (λ i. omega (arith, i .0))) in
-    (omega arith, s .pre .1, rw (o .long) (s .pre .2), omega arith, omega arith, rw same (s .pre .6 (l .p - 1) (omega arith)))
+    (omega arith, s .pre .1, rw (o .long) (s .pre .2), omega arith, omega arith, rw same (s .pre .6 (l .p - 1) (omega arith)), s .pre .7)
 
 loop-again : tie.Need-loop-again Inv-loop μ-loop
 loop-again c =

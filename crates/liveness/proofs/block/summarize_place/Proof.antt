@@ -1,11 +1,11 @@
-use mathlib.Core.Path.{_≡_, refl}
-use Prim.Native.Nat.{_+_, _-_, _≤_}
-use native.Mathlib.Omega.{arith}
-use lib.ListN.{length}
+use mathlib.Core.Path.{refl, sym, _∙_}
+use lib.ListN.{getD}
 use borrow.Author.Tests.{eq-eqb, ne-eqb}
-use borrow.Rule.Slice.PartMut.{putMid}
-use Rattle.liveness.specs.Only.{only-none, lent, lent-long, both-lent}
-use Rattle.liveness.specs.Through.{placed, not-placed}
+use Rattle.effects.specs.Shape.{Tables, Cell, tablesOf}
+use Rattle.effects.specs.Cells.{cellOf}
+use Rattle.liveness.specs.Only.{only-none, lent-long, second-long}
+use Rattle.liveness.specs.Plain.{PlainFits, plain-fits}
+use Rattle.liveness.specs.Through.{not-placed, lent-placed}
 use borrow.Author.Needs.{needs}
 use Rattle.liveness.proofs.block.summarize_place.Statement.{statement}
 use Rattle.liveness.proofs.block.summarize_place.Tie as tie
@@ -13,28 +13,50 @@ use Rattle.liveness.proofs.block.summarize_place.Tie as tie
 returns : tie.Need-returns
 returns c = (not-placed _ _ _ _ _ (ne-eqb _ _ (c .if1 .taken)), only-none _ _)
 
+abbrev tables : tie.Start → Tables
+tables s = tablesOf (s .args .functions .now) (s .args .externs .now) (s .args .cases .now)
+
+abbrev cell : tie.Start → Cell
+cell s = cellOf (s .args .metadata .now) (s .args .p) (getD (s .args .memory .now) (s .args .p) 0)
+
+-- a plain instruction's slots are in the sets
+fits : (c : tie.Then2) → PlainFits (c .before .before .before .before .before .before .before .before .before .before .before .before .args .w) (getD (c .before .before .before .before .before .before .before .before .before .before .before .before .args .memory .now) (c .before .before .before .before .before .before .before .before .before .before .before .before .args .p) 0) (c .before .before .row .result)
+fits c =
+    let s = c .before .before .before .before .before .before .before .before .before .before .before .before in
+    plain-fits _ _ _ (tables s) (cell s .metadata) (s .pre .6) (c .before .before .row .ensures) (sym (c .before .is-plain .ensures) ∙ c .if2 .taken) (s .pre .5)
+
+take-plain-write-requires : tie.Need-take-plain-write-requires
+take-plain-write-requires c κs = let s = c .before .before .before .before .before .before .before .before .before .before .before .before .before in rw (lent-long _ _ _ (s .pre .2)) (fits (c .before))
+
+plain-before-requires : tie.Need-plain-before-requires
+plain-before-requires c κs =
+    let s = c .before .before .before .before .before .before .before .before .before .before .before .before .before .before .before .before .before in
+    rw (second-long _ _ _ _ _ (s .pre .1) (s .pre .2) (c .before .before .before .take-plain-write .kept .0)) (fits (c .before .before .before .before .before))
+
+returns-2 : tie.Need-returns-2
+returns-2 c =
+    let s = c .before .before .before .before .before .before .before .before .before .before .before .before .before .before .before .before .before .before .before .before in
+    let v = c .before .before .before .before .before .before .take-plain-write in
+    let u = c .before .before .plain-before in
+    lent-placed (tables s) (cell s) _ (eq-eqb _ _ (c .before .before .before .before .before .before .before .before .before .before .before .before .if1 .left)) _ _ _ _ _ _ (s .pre .1) (s .pre .2) (v .kept .0) (u .kept .0) (v .ensures _ _) (u .ensures _ _) _ refl
+
 put-writes-requires : tie.Need-put-writes-requires
 put-writes-requires c κs =
-    let s = c .before .before .before .before .before .before .before .before .before .before .before in
+    let s = c .before .before .before .before .before .before .before .before .before .before .before .before .before .before in
     rw (c .before .from-word .ensures, lent-long (s .args .memory .now) (s .args .preserved) (s .args .w) (s .pre .2)) (s .pre .3, s .pre .5)
 
 live-before-requires : tie.Need-live-before-requires
 live-before-requires c κs =
-    let s = c .before .before .before .before .before .before .before .before .before .before .before .before .before .before .before in
-    let x = lent (s .args .memory .now) (s .args .preserved) (s .args .w) (c .before .before .before .put-writes .last .0) (s .pre .2) (c .before .before .before .put-writes .kept .0) in
-    let m = putMid (s .args .preserved) (s .args .preserved + s .args .w - s .args .preserved) (s .args .memory .now) (c .before .before .before .put-writes .last .0) in
-    let room : s .args .uses + s .args .w ≤ length m = rw (x .0 .long) (omega arith) in
-    rw (c .before .before .before .before .before .from-word .ensures, lent-long m (s .args .uses) (s .args .w) room) (s .pre .3, s .pre .5)
-
-returns-2 : tie.Need-returns-2
-returns-2 c =
     let s = c .before .before .before .before .before .before .before .before .before .before .before .before .before .before .before .before .before .before in
-    let i = c .before .before .before .before .before .before .before .before .from-word in
+    rw (c .before .before .before .before .before .from-word .ensures, second-long (s .args .memory .now) (s .args .uses) (s .args .preserved) (s .args .w) _ (s .pre .1) (s .pre .2) (c .before .before .before .put-writes .kept .0)) (s .pre .3, s .pre .5)
+
+returns-3 : tie.Need-returns-3
+returns-3 c =
+    let s = c .before .before .before .before .before .before .before .before .before .before .before .before .before .before .before .before .before .before .before .before .before in
+    let i = c .before .before .before .before .before .before .before .before .from-word .ensures in
     let v = c .before .before .before .before .before .before .put-writes in
     let u = c .before .before .live-before in
-    let x = both-lent (s .args .memory .now) (s .args .uses) (s .args .preserved) (s .args .w) (u .last .0) (v .last .0) _ (s .pre .1) (s .pre .2) refl (v .kept .0) (u .kept .0) in
-    let part : s .args .preserved + s .args .w - s .args .preserved ≡ s .args .w = omega arith in
-    (rw (x .low, x .high) (placed _ _ _ _ _ _ _ (eq-eqb _ _ (c .before .before .before .before .before .before .before .before .before .before .if1 .left)) (rw (i .ensures, part) at (v .ensures)) (rw (i .ensures, x .was) at (u .ensures))), x .only)
+    lent-placed (tables s) (cell s) _ (eq-eqb _ _ (c .before .before .before .before .before .before .before .before .before .before .before .before .before .if1 .left)) _ _ _ _ _ _ (s .pre .1) (s .pre .2) (v .kept .0) (u .kept .0) (rw i at (v .ensures)) (rw i at (u .ensures)) _ refl
 
 pub summarize-place-spec : {M : Type 1} → statement M
 summarize-place-spec =
@@ -45,6 +67,23 @@ summarize-place-spec =
     returns
     (λ c. search needs)
     (λ c. search needs)
+    (λ c. search needs)
+    (λ c κs. search needs)
+    (λ c κs. search needs)
+    (λ c. search needs)
+    (λ c. search needs)
+    (λ c. search needs)
+    (λ c. search needs)
+    (λ c. search needs)
+    take-plain-write-requires
+    (λ c. search needs)
+    (λ c. search needs)
+    (λ c. search needs)
+    (λ c. search needs)
+    (λ c. search needs)
+    plain-before-requires
+    (λ c. search needs)
+    returns-2
     (λ c κs. search needs)
     (λ c. search needs)
     (λ c. search needs)
@@ -59,4 +98,4 @@ summarize-place-spec =
     (λ c. search needs)
     live-before-requires
     (λ c. search needs)
-    returns-2)
+    returns-3)

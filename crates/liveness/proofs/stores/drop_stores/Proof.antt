@@ -39,7 +39,7 @@ sweep-requires c κs =
     let g = c .before .before .before .before .before .before .before .before .before .before .before .before .before .before .before .before .before .before .before .before .before .before .before .before .before .before .before .before .before .pre in
     let b = began (c .before .before .before .before .before .before .before .before .before .before .before .before) in
     let x = c .before .before .before .before .before .solve in
-    sweepable g _ (x .kept .0 ∙ b .long) (x .ensures .1 ∙ b .same)
+    (sweepable g _ (x .kept .0 ∙ b .long) (x .ensures .1 ∙ b .same), g .some)
 
 returns-2 : tie.Need-returns-2
 returns-2 c =

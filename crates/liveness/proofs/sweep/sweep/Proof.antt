@@ -28,7 +28,7 @@ loop-holds : tie.Need-loop-holds Inv-loop μ-loop
 loop-holds c =
     let s = c .before .before .before .before .before .before .before in
     let m = s .args .memory .now in
-    let l = s .pre .coded .laid in
+    let l = s .pre .0 .coded .laid in
     let long : length (codeOf (s .args .sets) m) ≡ s .args .sets .code = mid-long m 0 (s .args .sets .code) (omega (arith, l .row, row-inside _ _ l)) in
     (omega arith, refl, refl, only-none _ _, only-none _ _, λ locals constants rows g. sweep-begin _ _ _ _ rows _ _ _ g _ _ (sym (cells-long (codeOf (s .args .sets) m) (s .args .metadata .now) ∙ long)))
 
@@ -37,7 +37,7 @@ enter-place-requires c κs =
     let s = c .before .before .before .before .before .before .before .before .before .before .before .before .before in
     let l = c .before .before .before .before .before .loop in
     let t = s .args .sets in
-    let r = s .pre in
+    let r = s .pre .0 in
     let part : t .code + t .code - t .code ≡ t .code = omega arith in
     let whole : t .code - 0 ≡ t .code = omega arith in
     let room : 0 + t .code ≤ length (l .table) = omega (arith, l .inv .2, r .long-table) in
@@ -49,14 +49,14 @@ sweep-place-requires c κs =
     let l = c .before .before .before .before .before .before .before .before .before .before .loop in
     let x = c .before .before .before .before .enter-place in
     let t = s .args .sets in
-    let r = s .pre in
+    let r = s .pre .0 in
     let d = r .coded .laid in
     let h : l .p - 1 < t .code = omega (arith, c .before .before .before .before .before .before .before .before .before .loop-test .taken, l .inv .0) in
     let o = only-both _ _ _ _ (l .inv .3) (x .ensures .1) in
     let same = same-word t _ _ _ o (λ j i. omega (arith, i .0, d .row)) (l .p - 1) h in
     let laid = rw (← o .long) at d in
     let long : length (rowOf t (x .last .0)) ≡ t .width = mid-long (x .last .0) (t .row) (t .width) (row-inside _ _ laid) in
-    (laid, h, r .entries, lent-long (l .table) (flagsAt (t .code)) (t .code) (rw (l .inv .2) (r .long-table)), rw same (record { few = rw long (r .few); typed = r .typed (l .p - 1) h; inside = rw long (r .held (l .p - 1) h) }), rw same (r .fits (l .p - 1) h))
+    (laid, h, r .entries, lent-long (l .table) (flagsAt (t .code)) (t .code) (rw (l .inv .2) (r .long-table)), rw same (record { few = rw long (r .few); typed = r .typed (l .p - 1) h; inside = rw long (r .held (l .p - 1) h) }), rw same (r .fits (l .p - 1) h), s .pre .1)
 
 loop-again : tie.Need-loop-again Inv-loop μ-loop
 loop-again c =
@@ -67,7 +67,7 @@ loop-again c =
     let t = s .args .sets in
     let n = t .code in
     let m = s .args .memory .now in
-    let r = s .pre in
+    let r = s .pre .0 in
     let d = r .coded .laid in
     let h : l .p - 1 < n = omega (arith, c .before .before .before .before .before .before .before .before .before .before .before .before .before .before .loop-test .taken, l .inv .0) in
     let e : l .p ≡ suc (l .p - 1) = omega (arith, c .before .before .before .before .before .before .before .before .before .before .before .before .before .before .loop-test .taken) in
@@ -103,10 +103,10 @@ returns c =
     let s = c .before .before .before .before .before .before .before .before .before in
     let l = c .before .loop in
     let t = s .args .sets in
-    let d = s .pre .coded .laid in
+    let d = s .pre .0 .coded .laid in
     let end : l .p ≡ 0 = omega arith in (
       λ locals constants rows g. sweep-end _ _ _ _ rows _ _ _ g _ (rowOf t (l .memory)) (rw end at (l .inv .5 locals constants rows g)),
-      put-only (flagsAt (t .code)) (t .code) _ _ (l .inv .4) (s .pre .long-table),
+      put-only (flagsAt (t .code)) (t .code) _ _ (l .inv .4) (s .pre .0 .long-table),
       same-code t _ _ _ (l .inv .3) (λ j i. omega (arith, i .0, d .row)) d,
     )
 

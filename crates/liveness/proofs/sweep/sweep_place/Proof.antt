@@ -1,59 +1,82 @@
 use mathlib.Core.Path.{_≡_, sym, _∙_}
-use Prim.Native.Nat.{_+_, _*_, _-_, _≤_}
+use mathlib.Core.Bool.{true}
+use Prim.Native.Nat.{_+_, _*_, _-_, _%_, _≤_}
 use native.Mathlib.Omega.{arith}
 use lib.ListN.{length, getD}
 use borrow.Author.Tests.{eq-eqb, ne-eqb}
 use Rattle.unit.specs.Size.{metadataSize}
 use Rattle.effects.specs.Shape.{Tables, Cell, tablesOf}
 use Rattle.effects.specs.Cells.{cellOf}
+use Rattle.effects.specs.Plain.{isPlain}
 use Rattle.liveness.specs.Memory.{rowOf, row-inside}
-use Rattle.liveness.specs.Only.{only-none, lent, lent-long}
+use Rattle.liveness.specs.Only.{only-none, lent-long}
+use Rattle.liveness.specs.Plain.{plain-fits}
 use Rattle.liveness.specs.Unread.{deadBy}
-use Rattle.liveness.specs.Sweeping.{swept-off, swept-gone, swept-on}
+use Rattle.liveness.specs.Sweeping.{swept-off, lent-gone, lent-on}
 use borrow.Author.Needs.{needs}
 use Rattle.liveness.proofs.sweep.sweep_place.Statement.{statement}
 use Rattle.liveness.proofs.sweep.sweep_place.Tie as tie
 
+abbrev tables : tie.Start → Tables
+tables s = tablesOf (s .args .functions .now) (s .args .externs .now) (s .args .cases .now)
+
+abbrev cell : tie.Start → Cell
+cell s = cellOf (s .args .metadata .now) (s .args .p) (getD (s .args .memory .now) (s .args .p) 0)
+
 returns : tie.Need-returns
 returns c =
-    let s = c .before .before .before .before .before .before .before .before .before .args in
-    let T : Tables = tablesOf (s .functions .now) (s .externs .now) (s .cases .now) in
-    let x : Cell = cellOf (s .metadata .now) (s .p) (getD (s .memory .now) (s .p) 0) in
-    let dead = deadBy (s .types .now) (rowOf (s .sets) (s .memory .now)) (x .instruction) in
-    (swept-off T _ dead x (s .p) _ _ (ne-eqb _ _ (c .if1 .taken)), only-none _ _)
+    let s = c .before .before .before .before .before .before .before .before .before in
+    let dead = deadBy (s .args .types .now) (rowOf (s .args .sets) (s .args .memory .now)) (cell s .instruction) in
+    (swept-off (tables s) _ dead (cell s) (s .args .p) _ _ (ne-eqb _ _ (c .if1 .taken)), only-none _ _)
 
-is-dead-requires : tie.Need-is-dead-requires
-is-dead-requires c κs =
-    let s = c .before .before .before .before .before .before .before .before .before .before .before .before .before .before in
+plain : (c : tie.Then2) → isPlain (getD (c .before .before .before .before .before .before .before .before .before .before .before .before .before .before .args .memory .now) (c .before .before .before .before .before .before .before .before .before .before .before .before .before .before .args .p) 0 % 256) (c .before .before .row .result) ≡ true
+plain c = sym (c .before .is-plain .ensures) ∙ c .if2 .taken
+
+is-plain-dead-requires : tie.Need-is-plain-dead-requires
+is-plain-dead-requires c κs =
+    let s = c .before .before .before .before .before .before .before .before .before .before .before .before .before .before .before .before in
     let part : s .args .sets .row + s .args .sets .width - s .args .sets .row ≡ s .args .sets .width = omega arith in
-    rw (part, c .before .before .from-word .ensures) (s .pre .4)
+    (rw (← c .before .before .before .before .row .ensures) (plain (c .before .before)), rw part (s .pre .4))
 
 returns-2 : tie.Need-returns-2
 returns-2 c =
-    let s = c .before .before .before .before .before .before .before .before .before .before .before .before .before .before .before .before .args in
-    let T : Tables = tablesOf (s .functions .now) (s .externs .now) (s .cases .now) in
-    let x : Cell = cellOf (s .metadata .now) (s .p) (getD (s .memory .now) (s .p) 0) in
-    let dead = deadBy (s .types .now) (rowOf (s .sets) (s .memory .now)) (x .instruction) in
-    let part : s .sets .row + s .sets .width - s .sets .row ≡ s .sets .width = omega arith in
-    (swept-gone T _ dead x (s .p) _ _ (eq-eqb _ _ (c .before .before .before .before .before .before .before .if1 .left)) (sym (rw (part, c .before .before .before .before .from-word .ensures) at (c .before .is-dead .ensures)) ∙ c .if2 .taken), only-none _ _)
+    let s = c .before .before .before .before .before .before .before .before .before .before .before .before .before .before .before .before .before .before in
+    lent-gone (tables s) (cell s) _ (eq-eqb _ _ (c .before .before .before .before .before .before .before .before .before .if1 .left)) (s .args .p) _ (s .args .types .now) _ _ _ _ (c .before .is-plain-dead .ensures) (c .if3 .taken)
 
-live-before-requires : tie.Need-live-before-requires
-live-before-requires c κs =
-    let s = c .before .before .before .before .before .before .before .before .before .before .before .before .before .before .before .before .before in
-    let room : metadataSize * s .args .p + metadataSize ≤ length (s .args .metadata .now) = omega arith in
-    rw (c .before .before .before .before .before .from-word .ensures, lent-long (s .args .memory .now) (s .args .sets .row) (s .args .sets .width) (row-inside _ _ (s .pre .0))) (room, s .pre .5)
+plain-before-requires : tie.Need-plain-before-requires
+plain-before-requires c κs =
+    let s = c .before .before .before .before .before .before .before .before .before .before .before .before .before .before .before .before .before .before .before in
+    rw (lent-long _ _ _ (row-inside _ _ (s .pre .0))) (plain-fits _ _ _ (tables s) (cell s .metadata) (s .pre .6) (c .before .before .before .before .before .before .before .row .ensures) (plain (c .before .before .before .before .before)) (s .pre .5))
 
 returns-3 : tie.Need-returns-3
 returns-3 c =
-    let s = c .before .before .before .before .before .before .before .before .before .before .before .before .before .before .before .before .before .before .before .before .args in
-    let T : Tables = tablesOf (s .functions .now) (s .externs .now) (s .cases .now) in
-    let x : Cell = cellOf (s .metadata .now) (s .p) (getD (s .memory .now) (s .p) 0) in
-    let dead = deadBy (s .types .now) (rowOf (s .sets) (s .memory .now)) (x .instruction) in
+    let s = c .before .before .before .before .before .before .before .before .before .before .before .before .before .before .before .before .before .before .before .before .before .before in
+    let b = c .before .before .plain-before in
+    lent-on (tables s) (cell s) _ (eq-eqb _ _ (c .before .before .before .before .before .before .before .before .before .before .before .before .before .if1 .left)) (s .args .p) _ (s .args .types .now) _ _ _ _ (c .before .before .before .before .before .is-plain-dead .ensures) (c .before .before .before .before .if3 .left) (row-inside _ _ (s .pre .0)) _ (b .kept .0) (b .ensures (tables s) (cell s .metadata))
+
+is-dead-requires : tie.Need-is-dead-requires
+is-dead-requires c κs =
+    let s = c .before .before .before .before .before .before .before .before .before .before .before .before .before .before .before .before .before in
+    let part : s .args .sets .row + s .args .sets .width - s .args .sets .row ≡ s .args .sets .width = omega arith in
+    rw (part, c .before .before .from-word .ensures) (s .pre .4)
+
+returns-4 : tie.Need-returns-4
+returns-4 c =
+    let s = c .before .before .before .before .before .before .before .before .before .before .before .before .before .before .before .before .before .before .before in
+    lent-gone (tables s) (cell s) _ (eq-eqb _ _ (c .before .before .before .before .before .before .before .before .before .before .if1 .left)) (s .args .p) _ (s .args .types .now) _ _ _ _ (rw (c .before .before .before .before .from-word .ensures) at (c .before .is-dead .ensures)) (c .if4 .taken)
+
+live-before-requires : tie.Need-live-before-requires
+live-before-requires c κs =
+    let s = c .before .before .before .before .before .before .before .before .before .before .before .before .before .before .before .before .before .before .before .before in
+    let room : metadataSize * s .args .p + metadataSize ≤ length (s .args .metadata .now) = omega arith in
+    rw (c .before .before .before .before .before .from-word .ensures, lent-long (s .args .memory .now) (s .args .sets .row) (s .args .sets .width) (row-inside _ _ (s .pre .0))) (room, s .pre .5)
+
+returns-5 : tie.Need-returns-5
+returns-5 c =
+    let s = c .before .before .before .before .before .before .before .before .before .before .before .before .before .before .before .before .before .before .before .before .before .before .before in
     let i = c .before .before .before .before .before .before .before .before .from-word .ensures in
     let b = c .before .before .live-before in
-    let part : s .sets .row + s .sets .width - s .sets .row ≡ s .sets .width = omega arith in
-    let y = lent (s .memory .now) (s .sets .row) (s .sets .width) (b .last .0) (row-inside _ _ (c .before .before .before .before .before .before .before .before .before .before .before .before .before .before .before .before .before .before .before .before .pre .0)) (b .kept .0) in
-    (rw (y .1) (swept-on T _ dead x (s .p) _ _ _ (eq-eqb _ _ (c .before .before .before .before .before .before .before .before .before .before .before .if1 .left)) (sym (rw (part, i) at (c .before .before .before .before .before .is-dead .ensures)) ∙ c .before .before .before .before .if2 .left) (rw (part, i) at (b .ensures))), y .0)
+    lent-on (tables s) (cell s) _ (eq-eqb _ _ (c .before .before .before .before .before .before .before .before .before .before .before .before .before .before .if1 .left)) (s .args .p) _ (s .args .types .now) _ _ _ _ (rw i at (c .before .before .before .before .before .is-dead .ensures)) (c .before .before .before .before .if4 .left) (row-inside _ _ (s .pre .0)) _ (b .kept .0) (rw i at (b .ensures))
 
 pub sweep-place-spec : {M : Type 1} → statement M
 sweep-place-spec =
@@ -65,6 +88,26 @@ sweep-place-spec =
     (λ c. search needs)
     (λ c. search needs)
     (λ c. search needs)
+    (λ c. search needs)
+    (λ c κs. search needs)
+    (λ c κs. search needs)
+    (λ c. search needs)
+    (λ c. search needs)
+    (λ c. search needs)
+    (λ c. search needs)
+    is-plain-dead-requires
+    (λ c. search needs)
+    (λ c. search needs)
+    (λ c. search needs)
+    (λ c. search needs)
+    returns-2
+    (λ c. search needs)
+    (λ c. search needs)
+    (λ c. search needs)
+    (λ c. search needs)
+    plain-before-requires
+    (λ c. search needs)
+    returns-3
     (λ c κs. search needs)
     (λ c. search needs)
     (λ c. search needs)
@@ -75,11 +118,11 @@ sweep-place-spec =
     (λ c. search needs)
     (λ c. search needs)
     (λ c. search needs)
-    returns-2
+    returns-4
     (λ c. search needs)
     (λ c. search needs)
     (λ c. search needs)
     (λ c. search needs)
     live-before-requires
     (λ c. search needs)
-    returns-3)
+    returns-5)
