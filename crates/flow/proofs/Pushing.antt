@@ -1,11 +1,12 @@
 -- The calls of a walk's turn, put together.
 -- Assumes nothing.
-use mathlib.Core.Path.{_≡_}
-use mathlib.Core.Bool.{Bool, true, false, cond, _&&_}
+use mathlib.Core.Path.{_≡_, sym, _∙_}
+use mathlib.Core.Bool.{Bool, true, false, cond, not, _&&_}
 use mathlib.Core.List.{List, [], _∷_}
 use Prim.Native.Nat.{ℕ, _+_}
 use native.Mathlib.Numerals.{add-one}
 use lib.Dec.{eqb, ltb}
+use borrow.Author.Tests.{not-true}
 use Rattle.instruction.specs.declared.Instruction.{Instruction}
 use Rattle.instruction.specs.declared.Class.{Class}
 use Rattle.instruction.specs.Instruction.{class, ofWord, imm32Unsigned}
@@ -13,6 +14,7 @@ use Rattle.unit.specs.declared.Metadata.{Metadata}
 use Rattle.unit.specs.Entry.{kindLoopEnd, metadataAt}
 use Rattle.effects.specs.Cells.{cellOf}
 use Rattle.flow.specs.Branch.{falls, branches, target}
+use Rattle.flow.specs.Block.{endsBlock, no-branch}
 use Rattle.flow.specs.Loop.{isLoopHint, successors}
 use Rattle.flow.specs.Stack.{Pushed, push-none, push-then}
 use Rattle.flow.specs.Successors.{nearSuccessors, loopSuccessorsOf}
@@ -21,6 +23,13 @@ module _ (n sp p : ℕ) (i : Instruction) (st : List ℕ) where
   pub push-near : (t : ℕ) (x : Class) (a b : Bool) {st₁ st₂ : List ℕ} {r₁ r₂ : ℕ} → x ≡ class i → a ≡ falls x → Pushed n sp (cond a ((p + 1) ∷ []) []) st st₁ r₁
       → b ≡ branches x → t ≡ target p i → Pushed n r₁ (cond b (t ∷ []) []) st₁ st₂ r₂ → Pushed n sp (nearSuccessors p i) st st₂ r₂
   push-near t x a b e f one g h two = push-then n sp st (rw (f, e, add-one p) at one) (rw (g, e, h) at two)
+
+  -- the block goes on: no branch
+  pub push-next : (x : Class) (a e : Bool) {st₁ : List ℕ} {r₁ : ℕ} → x ≡ class i → a ≡ falls x → Pushed n sp (cond a ((p + 1) ∷ []) []) st st₁ r₁
+      → e ≡ endsBlock x → not e ≡ true → Pushed n sp (nearSuccessors p i) st st₁ r₁
+  push-next x a e k f one g h =
+      let ends : endsBlock (class i) ≡ false = rw k at (sym g ∙ not-true e h) in
+      rw (no-branch (class i) ends) (push-then n sp st (rw (f, k, add-one p) at one) (push-none n _ _))
 
   module _ (metadata : List ℕ) (h : Bool) (hint : h ≡ isLoopHint i) where
     pub push-no-hint : h ≡ false → Pushed n sp (loopSuccessorsOf n i metadata p) st st sp

@@ -33,14 +33,17 @@ pub fn ends_block(c: Class) -> bool
     }
 }
 
-// Marks the leaders that the instruction at place p makes: its target, and the place after it.
+// Marks the leaders that the instruction at place p makes: its target, and the place after it. A branch ends its block.
 fn mark_starts(marks: &mut [u32], p: usize, i: Instruction)
     requires { ⌜ p < maxInstructions ⌝ }
     ensures { λ _. ⌜ now (marks .exit) ≡ markAll (now (marks .entry)) (starts p i) ⌝ }
 {
     let c = i.class();
+    if !ends_block(c) {
+        return;
+    }
     mark::mark_if(marks, branch::branches(c), branch::target(p, i));
-    mark::mark_if(marks, ends_block(c), p as u64 + 1);
+    mark::mark_if(marks, true, p as u64 + 1);
 }
 
 // Marks each place where a block starts. The metadata of the cells plays no part.

@@ -10,6 +10,7 @@ ghost use Rattle.effects.specs.Cells.{cellOf, cellsBy};
 ghost use Rattle.flow.specs.Loop.{successors, reachedPlaces};
 ghost use Rattle.flow.specs.Stack.{Pushed};
 ghost use Rattle.flow.specs.Successors.{nearSuccessors, loopSuccessorsOf};
+use crate::block;
 use crate::branch;
 use crate::hint;
 use instruction::Instruction;
@@ -37,6 +38,9 @@ fn push_near(stack: &mut [u32], n: usize, sp: usize, p: usize, i: Instruction) -
 {
     let c = i.class();
     let next = push_if(stack, n, sp, branch::falls(c), p as u64 + 1);
+    if !block::ends_block(c) {
+        return next;
+    }
     push_if(stack, n, next, branch::branches(c), branch::target(p, i))
 }
 

@@ -1,13 +1,14 @@
-use mathlib.Core.Path.{_≡_, sym}
-use mathlib.Core.Bool.{Bool, cond}
+use mathlib.Core.Path.{_≡_, refl, sym, _∙_}
+use mathlib.Core.Bool.{Bool, true, false, cond, not}
 use mathlib.Core.List.{List, [], _∷_}
 use Prim.Native.Nat.{ℕ, suc, _+_}
 use native.Mathlib.Numerals.{add-one}
+use borrow.Author.Tests.{not-true, not-false}
 use Rattle.instruction.specs.declared.Instruction.{Instruction}
 use Rattle.instruction.specs.declared.Class.{Class}
 use Rattle.instruction.specs.Instruction.{class}
 use Rattle.flow.specs.Branch.{branches, target}
-use Rattle.flow.specs.Block.{endsBlock}
+use Rattle.flow.specs.Block.{endsBlock, no-branch}
 use Rattle.flow.specs.Leaders.{starts}
 use Rattle.flow.specs.Marking.{mark-append}
 use Rattle.flow.specs.Reach.{markAll}
@@ -15,21 +16,33 @@ use borrow.Author.Needs.{needs}
 use Rattle.flow.proofs.block.mark_starts.Statement.{statement}
 use Rattle.flow.proofs.block.mark_starts.Tie as tie
 
+-- the block goes on
+no-marks : (m : List ℕ) (p : ℕ) (i : Instruction) (x : Class) (e : Bool) → x ≡ class i → e ≡ endsBlock x → not e ≡ true → m ≡ markAll m (starts p i)
+unfolding markAll
+no-marks m p i x e k f g =
+    let ends : endsBlock (class i) ≡ false = rw k at (sym f ∙ not-true e g) in
+    rw (no-branch (class i) ends, ends)
+
 -- the answers of the calls, put together
 two-marks : (m m₁ m₂ : List ℕ) (p t : ℕ) (i : Instruction) (x : Class) (b e : Bool) → x ≡ class i → b ≡ branches x → t ≡ target p i
-    → m₁ ≡ markAll m (cond b (t ∷ []) []) → e ≡ endsBlock x → m₂ ≡ markAll m₁ (cond e ((p + 1) ∷ []) []) → m₂ ≡ markAll m (starts p i)
-two-marks m m₁ m₂ p t i x b e k f g h j l =
-    rw (l, h, j, f, g, k, add-one p) (sym (mark-append m (cond (branches (class i)) (target p i ∷ []) []) (cond (endsBlock (class i)) (suc p ∷ []) [])))
+    → m₁ ≡ markAll m (cond b (t ∷ []) []) → e ≡ endsBlock x → not e ≡ false → m₂ ≡ markAll m₁ ((p + 1) ∷ []) → m₂ ≡ markAll m (starts p i)
+two-marks m m₁ m₂ p t i x b e k f g h j n l =
+    let ends : endsBlock (class i) ≡ true = rw k at (sym j ∙ not-false e n) in
+    rw (l, h, f, g, k, add-one p, ends) (sym (mark-append m (cond (branches (class i)) (target p i ∷ []) []) (suc p ∷ [])))
 
 returns : tie.Need-returns
-returns c =
+returns c = no-marks _ _ _ _ _ (c .before .before .class .ensures) (c .before .ends-block .ensures) (c .if1 .taken)
+
+returns-2 : tie.Need-returns-2
+returns-2 c =
     let second = c .before .before in
-    let ends = second .before in
-    let first = ends .before .before .before .before in
+    let first = second .before .before .before .before in
     let t = first .before in
     let b = t .before in
-    let k = b .before .before in
-    two-marks _ _ _ _ _ _ _ _ _ (k .class .ensures) (b .branches .ensures) (t .target .ensures) (first .mark-if .ensures) (ends .ends-block .ensures) (second .mark-if2 .ensures)
+    let test = b .before .before in
+    let ends = test .before in
+    let k = ends .before in
+    two-marks _ _ _ _ _ _ _ _ _ (k .class .ensures) (b .branches .ensures) (t .target .ensures) (first .mark-if .ensures) (ends .ends-block .ensures) (test .if1 .left) (second .mark-if2 .ensures)
 
 pub mark-starts-spec : {M : Type 1} → statement M
 mark-starts-spec =
@@ -37,10 +50,11 @@ mark-starts-spec =
     (tie.spec
     (λ c κs. search needs)
     (λ c κs. search needs)
+    returns
     (λ c κs. search needs)
     (λ c κs. search needs)
     (λ c κs. search needs)
     (λ c. search needs)
     (λ c κs. search needs)
     (λ c. search needs)
-    returns)
+    returns-2)
