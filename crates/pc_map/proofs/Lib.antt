@@ -1,3 +1,4 @@
 mod Bounding
 mod Relocating
 mod Writing
+mod Listing

@@ -5,3 +5,4 @@ pub mod Relocated
 pub mod Moved
 pub mod Retaining
 pub mod Movable
+pub mod Listed
