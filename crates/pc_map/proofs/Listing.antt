@@ -58,13 +58,13 @@ module _ (xs : List ℕ) (n at : ℕ) (f : Flags (midOf 0 n xs)) (after : n ≤ 
       more = elim (flag (midOf 0 n xs) f p) [
         | inl e ↦ rw (e, add-zero next, mid-set-after w at next next p (omega arith)) (ap (λ (k : List ℕ). midOf at next w ++ k) (left 0 e) ∙ l .stored)
         | inr e ↦ (
-          let few = listing-few in
-          let long = l .long in
-          let inside : at + next < length w = omega arith in
-          let fits : at + next < length (set w (at + next) p) = rw (length-set w (at + next) p) inside in
-          rw (e, mid-more (set w (at + next) p) at next 0 fits, mid-set-after w at next next p (omega arith), getD-set-same w (at + next) p 0 inside, append-assoc)
-          (ap (λ (k : List ℕ). midOf at next w ++ k) (left 1 e) ∙ l .stored)
-        )
+            let few = listing-few in
+            let long = l .long in
+            let inside : at + next < length w = omega arith in
+            let fits : at + next < length (set w (at + next) p) = rw (length-set w (at + next) p) inside in
+            rw (e, mid-more (set w (at + next) p) at next 0 fits, mid-set-after w at next next p (omega arith), getD-set-same w (at + next) p 0 inside, append-assoc)
+            (ap (λ (k : List ℕ). midOf at next w ++ k) (left 1 e) ∙ l .stored)
+            )
       ]
 
       pub listing-turn : Listing xs n at (set w (at + next) p) (next + getD (set w (at + next) p) p 0) (p + 1)

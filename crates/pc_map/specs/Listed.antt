@@ -13,6 +13,7 @@ use borrow.Author.Tests.{eqb-true}
 use Rattle.words.specs.Lists.{sum}
 use Rattle.flow.specs.Flags.{Flags, flag, sum-whole}
 use Rattle.pc_map.specs.Boundary.{boundary}
+use Rattle.pc_map.specs.Boundaries.{Mapped}
 
 -- of flags for the places from p on
 unfoldable pub keptFrom : ℕ → List ℕ → List ℕ
@@ -50,3 +51,9 @@ each P p (x ∷ l) f q h = go (eqb x 1) refl q h (λ q h. each P (suc p) l (λ i
 
 pub kept-each : (P : ℕ → Type 0) (keep : List ℕ) → ((p : ℕ) → p < length keep → getD keep p 0 ≡ 1 → P p) → (q : ℕ) → q < length (keptList keep) → P (getD (keptList keep) q 0)
 kept-each P keep f q h = each P 0 keep (λ i g e. rw (zero-add i) (f i g e)) q h
+
+-- lent memory has the boundaries of these n flags and the list of the places that they keep
+pub record Listed (keep bounds kept : List ℕ) (n : ℕ) : Type 0 where
+  pub mapped : Mapped keep bounds
+  pub list : kept ≡ keptList keep
+  pub long : length keep ≡ n
