@@ -24,12 +24,14 @@ use Rattle.flow.specs.BranchLaws.{BranchesInside}
 use Rattle.flow.specs.Leaders.{leaders-first, leaders-flags}
 use Rattle.flow.specs.Loop.{reachedPlaces, loopCheck}
 use Rattle.flow.specs.Reached.{places-flags}
+use Rattle.pc_map.specs.Boundary.{boundary}
 use Rattle.pc_map.specs.Boundaries.{Mapped}
+use Rattle.pc_map.specs.Listed.{keptList}
 use Rattle.answer.specs.Pass.{Outcome, refused, checked, removal}
 use Rattle.values.specs.Walk.{Named}
 use Rattle.run.specs.Operands.{named-of}
 use Rattle.optimize.specs.Parts.{Given, Room, Checked, wordsIn, words-long, wordsOf, sectionsIn, cellsIn, numberedCode, reachedMarks, retainedPlaces, afterLoops}
-use Rattle.optimize.specs.Kept.{keepAt, Retainable, Retains}
+use Rattle.optimize.specs.Kept.{keepAt, listAt, Retainable, Retains}
 use Rattle.optimize.specs.Numbered.{given-long, numbered-size, cells-back, numbered-operands, numbered-inside}
 use Rattle.optimize.specs.Steps.{Renumbered, Marks, Reached, Numberable, Finished}
 
@@ -126,8 +128,8 @@ module _ (n : ℕ) (code metadata : List ℕ) (S : Sections) (g : Given n code m
       }
 
       -- what was retained of them
-      module _ (constants functions externs cases work32′ work64′ : List ℕ) (same : S ≡ sectionsIn (S .types) constants functions externs cases) (long32 : length work32′ ≡ length work32)
-          (long64 : length work64′ ≡ length work64) (d : Retains n metadata (S .types) constants functions externs cases work32 work64 work32′ work64′) where
+      module _ {constants functions externs cases work32′ work64′ : List ℕ} (long32 : length work32′ ≡ length work32) (long64 : length work64′ ≡ length work64)
+          (same : S ≡ sectionsIn (S .types) constants functions externs cases) (d : Retains n metadata (S .types) constants functions externs cases work32 work64 work32′ work64′) where
         kept-code : midOf 0 n work64′ ≡ wordsOf numbered
         kept-code = d .code ∙ m .numbered .code
 
@@ -137,10 +139,11 @@ module _ (n : ℕ) (code metadata : List ℕ) (S : Sections) (g : Given n code m
         pub kept-places : midOf (keepAt n) n work32′ ≡ retainedPlaces S cells
         kept-places = d .keep ∙ rw (← same, m .numbered .leads, m .marks, memory-cells work32 work64 (m .numbered))
 
-        pub kept-finished : Finished n code metadata out work32′ work64′
-        kept-finished = record {
+        pub kept-finished : midOf (keepAt n + listAt n) (boundary (midOf (keepAt n) n work32′) n) work32′ ≡ keptList (midOf (keepAt n) n work32′) → Finished n code metadata out work32′ work64′
+        kept-finished list = record {
           few = g .few;
           mapped = record { flags = d .flags; small = rw keep-long (g .few); numbers = d .bounds };
+          list = list;
           code-long = g .code-long;
           metadata-long = let e = g .metadata-long in omega arith;
           inside = rw (d .code) (memory-inside work32 work64 (m .numbered));

@@ -16,14 +16,17 @@ use Rattle.words.specs.Bytes.{Bytes}
 use Rattle.words.specs.Lists.{mapFrom, sum, getD-tabulate}
 use Rattle.instruction.specs.Instruction.{instructionAt, toWord, ofWord, to-of, toWord-fits}
 use Rattle.unit.specs.Result.{Retained, resultBytes}
-use Rattle.unit.specs.Size.{resultSize}
+use Rattle.unit.specs.Size.{metadataSize, resultSize}
 use Rattle.effects.specs.declared.Check.{Check}
 use Rattle.effects.specs.declared.Check.the-variants.{Passed, Refused}
 use Rattle.effects.specs.Shape.{Cell}
 use Rattle.effects.specs.Cells.{cellOf, cellsBy, cells-long}
+use Rattle.flow.specs.BranchLaws.{BranchesInside}
 use Rattle.flow.specs.Flags.{Flags, flag, sum-whole, sum-most}
 use Rattle.pc_map.specs.Boundary.{boundary}
 use Rattle.pc_map.specs.Boundaries.{Mapped, mapped-at, mapped-long}
+use Rattle.pc_map.specs.Listed.{Listed, kept-many}
+use Rattle.pc_map.specs.Movable.{Writable, writable}
 use Rattle.pc_map.specs.Relocate.{relocationCheck, retainFrom}
 use Rattle.pc_map.specs.Retaining.{retain-all}
 use Rattle.answer.specs.Pass.{Outcome, unchanged, refused, rewritten, checked, sameCode, allKept, removal}
@@ -83,7 +86,13 @@ and-turned true false = refl
 and-turned false true = refl
 and-turned false false = refl
 
-module _ (code words metadata keep bounds : List ℕ) (b : Bytes code) (w : Words words) (m : Mapped keep bounds) (long : length keep ≡ length words) where
+-- what is known of the code, of the retained places and of their map and list
+pub record Known (code words keep bounds kept : List ℕ) : Type 0 where
+  pub bytes : Bytes code
+  pub fits : (i : ℕ) → getD words i 0 < 2 ^ 64
+  pub listed : Listed keep bounds kept (length words)
+
+module _ {code words keep bounds kept : List ℕ} (k : Known code words keep bounds kept) (metadata : List ℕ) where
   abbrev given : List Cell
   given = cellsIn (length words) code metadata
 
@@ -94,7 +103,9 @@ module _ (code words metadata keep bounds : List ℕ) (b : Bytes code) (w : Word
   same = eqb (getD bounds (length words) 0) (length words) && sameWords (wordsIn (length words) code) words
 
   test : (sameCode given cells && allKept keep) ≡ same
-  test = rw (same-code (length words) code words metadata b w, ← all-kept keep bounds m (length words) long) (and-turned (sameWords (wordsIn (length words) code) words) (eqb (getD bounds (length words) 0) (length words)))
+  test =
+      rw (same-code (length words) code words metadata (k .bytes) (k .fits), ← all-kept keep bounds (k .listed .mapped) (length words) (k .listed .long))
+      (and-turned (sameWords (wordsIn (length words) code) words) (eqb (getD bounds (length words) 0) (length words)))
 
   pub conclude-unchanged : (eqb (getD bounds (length words) 0) (length words) && sameWords (wordsIn (length words) code) words) ≡ true → removal given cells keep ≡ unchanged
   unfolding removal
@@ -110,14 +121,18 @@ module _ (code words metadata keep bounds : List ℕ) (b : Bytes code) (w : Word
     conclude-rewritten r = rw (test ∙ other, r)
 
     retained-long : length (retainFrom keep 0 cells) ≡ boundary keep (length words)
-    retained-long = retain-all keep (m .flags) cells (long ∙ sym (cells-long words metadata)) ∙ ap (boundary keep) (cells-long words metadata)
+    retained-long = retain-all keep (k .listed .mapped .flags) cells (k .listed .long ∙ sym (cells-long words metadata)) ∙ ap (boundary keep) (cells-long words metadata)
 
-    pub conclude-told : (out out′ : List ℕ) → relocationCheck keep cells ≡ Passed → out′ ≡ putMid 0 (resultSize (boundary keep (length words))) out (resultBytes (retainFrom keep 0 cells))
+    pub conclude-told : (out out′ : List ℕ) → relocationCheck keep cells ≡ Passed → out′ ≡ putMid 0 (resultSize (length kept)) out (resultBytes (retainFrom keep 0 cells))
         → Tells (removal given cells keep) (Rewritten (getD bounds (length words) 0)) out out′
     unfolding told written
     conclude-told out out′ r e =
-        let count : getD bounds (length words) 0 ≡ length (retainFrom keep 0 cells) = mapped-at keep bounds m (length words) (omega arith) ∙ sym retained-long in
-        rw (conclude-rewritten r) (ap Rewritten count, e ∙ ap (λ (k : ℕ). putMid 0 (resultSize k) out (resultBytes (retainFrom keep 0 cells))) (sym retained-long))
+        let l = k .listed in
+        let count : getD bounds (length words) 0 ≡ length (retainFrom keep 0 cells) = mapped-at keep bounds (l .mapped) (length words) (omega arith) ∙ sym retained-long in
+        let many : length kept ≡ length (retainFrom keep 0 cells) = ap length (l .list) ∙ kept-many keep (l .mapped .flags) ∙ ap (boundary keep) (l .long) ∙ sym retained-long in
+        rw (conclude-rewritten r) (ap Rewritten count, e ∙ ap (λ (k : ℕ). putMid 0 (resultSize k) out (resultBytes (retainFrom keep 0 cells))) many)
 
-    pub conclude-room : (out : ℕ) → resultSize (length words) ≤ out → resultSize (boundary keep (length words)) ≤ out
-    conclude-room out h = let most = sum-most keep (m .flags) (length words) in omega arith
+  pub conclude-writable : (out : ℕ) → metadataSize * length words ≤ length metadata → BranchesInside words → relocationCheck keep cells ≡ Passed → resultSize (length words) ≤ out → Writable words metadata bounds kept out
+  conclude-writable out entries inside r room =
+      let most = sum-most keep (k .listed .mapped .flags) (length words) in
+      writable words metadata keep bounds kept out (k .listed) entries inside r (omega arith)

@@ -27,6 +27,10 @@ keepAt n = 3 * n + 1
 abbrev pub endsAt : ℕ → ℕ
 endsAt n = 2 * n + 1
 
+-- where their list stands, also counted from there
+abbrev pub listAt : ℕ → ℕ
+listAt n = 3 * n + 1
+
 -- what `retain` is given: checked code, its leaders, and the reached places
 pub record Retainable (T : Tables) (n : ℕ) (words metadata types leads marks : List ℕ) (room32 room64 : ℕ) : Type 0 where
   pub some : 1 < n

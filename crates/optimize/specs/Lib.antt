@@ -3,6 +3,7 @@ pub mod Jumping
 pub mod Kept
 pub mod Whole
 pub mod Steps
+pub mod Listing
 pub mod Numbered
 pub mod Chain
 pub mod Concluded

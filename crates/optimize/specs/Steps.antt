@@ -1,5 +1,5 @@
 -- What the steps of a pass leave in the lent work: the 32-bit work has the leaders at [0, n) and the kept places at
--- [3n + 1, 4n + 1) with their map behind them, the 64-bit work has the code at [0, n).
+-- [3n + 1, 4n + 1) with their map behind them and their list at [6n + 2, 7n + 2), the 64-bit work has the code at [0, n).
 -- Assumes nothing.
 use mathlib.Core.Path.{_≡_, refl, sym, ap, _∙_}
 use mathlib.Core.List.{List, _++_}
@@ -9,7 +9,7 @@ use native.Mathlib.Nat.{add-zero}
 use lib.ListN.{length, getD, take}
 use lib.Seq.{take-at}
 use borrow.Rule.Slice.PartMut.{midOf, putMid, postOf}
-use Rattle.words.specs.Regions.{mid-long, put-long, mid-put}
+use Rattle.words.specs.Regions.{mid-long, get-mid, put-long, mid-put}
 use Rattle.instruction.specs.Instruction.{class, ofWord}
 use Rattle.unit.specs.Size.{instructionSize, metadataSize, resultSize, work32Room, maxInstructions, maxLocalSlots}
 use Rattle.effects.specs.declared.Check.{Check}
@@ -21,12 +21,14 @@ use Rattle.flow.specs.BranchLaws.{BranchesInside}
 use Rattle.flow.specs.Loop.{reachedPlaces, loopCheck}
 use Rattle.values.specs.Walk as walk
 use Rattle.values.specs.Walk.{Named, sectionsOf}
-use Rattle.pc_map.specs.Boundaries.{Mapped}
+use Rattle.pc_map.specs.Boundary.{boundary}
+use Rattle.pc_map.specs.Boundaries.{Mapped, mapped-at, boundary-most}
+use Rattle.pc_map.specs.Listed.{keptList, Listed}
 use Rattle.optimize.specs.Parts.{numberedCode, reachedMarks, wordsOf}
 use Rattle.answer.specs.Pass.{removal}
 use Rattle.optimize.specs.Parts.{cellsIn}
 use Rattle.liveness.specs.Only.{At, Only, only-put, same-mid, mid-mid}
-use Rattle.optimize.specs.Kept.{keepAt}
+use Rattle.optimize.specs.Kept.{keepAt, listAt}
 
 -- the code is numbered
 pub record Renumbered (S : Sections) (cells : List Cell) (n : ℕ) (work32 work64 : List ℕ) : Type 0 where
@@ -57,6 +59,7 @@ pub record Numberable (n s room32 : ℕ) (work64 : List ℕ) : Type 0 where
 pub record Finished (n : ℕ) (code metadata : List ℕ) (out : ℕ) (work32 work64 : List ℕ) : Type 0 where
   pub few : n ≤ maxInstructions
   pub mapped : Mapped (midOf (keepAt n) n work32) (midOf (keepAt n + n) (n + 1) work32)
+  pub list : midOf (keepAt n + listAt n) (boundary (midOf (keepAt n) n work32) n) work32 ≡ keptList (midOf (keepAt n) n work32)
   pub code-long : instructionSize * n ≤ length code
   pub metadata-long : metadataSize * n ≤ length metadata
   pub inside : BranchesInside (midOf 0 n work64)
@@ -76,24 +79,37 @@ module _ (xs : List ℕ) (a k : ℕ) (ys : List ℕ) (h : a + k ≤ length xs) (
   back-after b j g f = same-mid (At a k) xs (putMid a k xs ys) (only-put xs a k h ys e) b j f (λ i q r. omega (arith, q .0, r .1))
 
 -- ---- `finish`: parts of the work as it lends them
-module _ (n k j l : ℕ) (code metadata : List ℕ) (out : ℕ) (work32 work64 : List ℕ) (e : k ≡ n) (f : j ≡ n) (g : l ≡ n + 1) (d : Finished n code metadata out work32 work64) where
+module _ {n : ℕ} {code metadata : List ℕ} {out : ℕ} {work32 work64 : List ℕ} (d : Finished n code metadata out work32 work64) where
   code-size : length (midOf 0 n work64) ≡ n
   code-size = mid-long work64 0 n (omega (arith, d .long64))
 
-  pub finish-asks : Mapped (midOf (keepAt n) j work32) (midOf (keepAt n + n) l work32)
-      × (length (midOf (keepAt n) j work32) ≡ length (midOf 0 k work64))
-      × (instructionSize * length (midOf 0 k work64) ≤ length code)
-      × (metadataSize * length (midOf 0 k work64) ≤ length metadata)
-      × BranchesInside (midOf 0 k work64)
-      × (resultSize (length (midOf 0 k work64)) ≤ out)
-  finish-asks =
-      let room = d .long32 in
-      let keep : length (midOf (keepAt n) n work32) ≡ n = mid-long work32 (keepAt n) n (omega arith) in
-      rw (e, f, g) (d .mapped, keep ∙ sym code-size, rw code-size (d .code-long), rw code-size (d .metadata-long), d .inside, rw code-size (d .room))
+  keep-size : length (midOf (keepAt n) n work32) ≡ n
+  keep-size = mid-long work32 (keepAt n) n (omega (arith, d .long32))
 
-  pub finish-same : removal (cellsIn n code metadata) (cellsBy (midOf 0 n work64) metadata) (midOf (keepAt n) n work32)
-      ≡ removal (cellsIn (length (midOf 0 k work64)) code metadata) (cellsBy (midOf 0 k work64) metadata) (midOf (keepAt n) j work32)
-  finish-same = rw (e, f, code-size)
+  -- the last boundary is the number of retained instructions
+  count : getD work32 (keepAt n + n + n) 0 ≡ boundary (midOf (keepAt n) n work32) n
+  count =
+      sym (get-mid work32 (keepAt n + n) (n + 1) n 0 (omega arith))
+      ∙ mapped-at (midOf (keepAt n) n work32) (midOf (keepAt n + n) (n + 1) work32) (d .mapped) n (omega (arith, keep-size))
+
+  pub finish-few : getD work32 (keepAt n + n + n) 0 ≤ n
+  finish-few = omega (arith, count, boundary-most (midOf (keepAt n) n work32) (d .mapped .flags) n)
+
+  module _ (k j : ℕ) (e : k ≡ n) (f : j ≡ n) where
+    pub finish-asks : (l b m : ℕ) → l ≡ n + 1 → b ≡ keepAt n + listAt n → m ≡ getD work32 (keepAt n + n + n) 0
+        → Listed (midOf (keepAt n) j work32) (midOf (keepAt n + n) l work32) (midOf b m work32) (length (midOf 0 k work64))
+        × (instructionSize * length (midOf 0 k work64) ≤ length code)
+        × (metadataSize * length (midOf 0 k work64) ≤ length metadata)
+        × BranchesInside (midOf 0 k work64)
+        × (resultSize (length (midOf 0 k work64)) ≤ out)
+    finish-asks l b m g at many =
+        let listed : Listed (midOf (keepAt n) n work32) (midOf (keepAt n + n) (n + 1) work32) (midOf b m work32) (length (midOf 0 n work64)) =
+        record { mapped = d .mapped; list = rw (at, many, count) (d .list); long = keep-size ∙ sym code-size } in
+        rw (e, f, g) (listed, rw code-size (d .code-long), rw code-size (d .metadata-long), d .inside, rw code-size (d .room))
+
+    pub finish-same : removal (cellsIn n code metadata) (cellsBy (midOf 0 n work64) metadata) (midOf (keepAt n) n work32)
+        ≡ removal (cellsIn (length (midOf 0 k work64)) code metadata) (cellsBy (midOf 0 k work64) metadata) (midOf (keepAt n) j work32)
+    finish-same = rw (e, f, code-size)
 
 -- ---- `reach`
 pub reach-marks : (n : ℕ) (metadata words work32 marks : List ℕ) (r : Check) → work32Room n ≤ length work32 → length words ≡ n → length marks ≡ length (midOf (keepAt n) (length work32 - keepAt n) work32)

@@ -10,7 +10,7 @@ ghost use Rattle.effects.specs.Check.{operandCheck};
 ghost use Rattle.effects.specs.Shape.{Tables, tablesOf};
 ghost use Rattle.effects.specs.Cells.{cellsBy};
 ghost use Rattle.flow.specs.BranchLaws.{BranchesInside};
-ghost use Rattle.pc_map.specs.Boundaries.{Mapped};
+ghost use Rattle.pc_map.specs.Listed.{Listed};
 ghost use Rattle.answer.specs.Pass.{optimized, removal};
 ghost use Rattle.optimize.specs.Parts.{Tells, wordsIn, sectionsIn, cellsIn, Given, Room, Checked, afterOperands, afterBranches, afterLoops};
 ghost use Rattle.values.specs.Walk.{sectionsOf};
@@ -25,6 +25,7 @@ use flow::block;
 use flow::branch;
 use flow::hint;
 use flow::reach;
+use pc_map::boundary;
 use pc_map::relocation;
 use pc_map::retained;
 use values::walk;
@@ -36,9 +37,10 @@ fn conclude(
     words: &[u64],
     keep: &[u32],
     bounds: &[u32],
+    kept: &[u32],
     out: &mut [u8],
 ) -> Answer
-    requires { ⌜ Mapped (now keep) (now bounds) × (length (now keep) ≡ length (now words)) × (instructionSize * length (now words) ≤ length (now code)) × (metadataSize * length (now words) ≤ length (now metadata)) × BranchesInside (now words) × (resultSize (length (now words)) ≤ length (now out)) ⌝ }
+    requires { ⌜ Listed (now keep) (now bounds) (now kept) (length (now words)) × (instructionSize * length (now words) ≤ length (now code)) × (metadataSize * length (now words) ≤ length (now metadata)) × BranchesInside (now words) × (resultSize (length (now words)) ≤ length (now out)) ⌝ }
     ensures { λ r. ⌜ Tells (removal (cellsIn (length (now (words .entry))) (now (code .entry)) (now (metadata .entry))) (cellsBy (now (words .entry)) (now (metadata .entry))) (now (keep .entry))) r (now (out .entry)) (now (out .exit)) ⌝ }
 {
     let n = words.len();
@@ -49,13 +51,13 @@ fn conclude(
     match relocation::check_relocation(words, metadata, keep) {
         Check::Refused(k, p) => Answer::Refused(k, p),
         Check::Passed => {
-            retained::write_retained(words, metadata, keep, bounds, out);
+            retained::write_retained(words, metadata, bounds, kept, out);
             Answer::Rewritten(retained)
         }
     }
 }
 
-// The answer, of the retained places and their map in the work.
+// The answer, of the retained places, their map and their list in the work.
 fn finish(
     code: &[u8],
     metadata: &[u8],
@@ -69,12 +71,15 @@ fn finish(
 {
     let at = 3 * n + 1;
     let end = at + n;
+    let list = 6 * n + 2;
+    let retained = work32[end + n] as usize;
     conclude(
         code,
         metadata,
         &work64[0..n],
         &work32[at..end],
         &work32[end..end + n + 1],
+        &work32[list..list + retained],
         out,
     )
 }
@@ -106,6 +111,8 @@ fn after_loops(
         work64,
         n,
     );
+    let at = 3 * n + 1;
+    boundary::list_kept(&mut work32[at..], n, at);
     finish(code, metadata, out, &work32[..], &work64[..], n)
 }
 

@@ -1,6 +1,6 @@
 // The places that a pass retains. The 32-bit work has the leaders at [0, n), the blocks of places at [n, 2n), the starts of
 // blocks at [2n, 3n + 1), the kept places at [3n + 1, 4n + 1), their boundaries at [4n + 1, 5n + 2) and the loop ends at
-// [5n + 2, 6n + 2); the 64-bit work has the code at [0, n).
+// [5n + 2, 6n + 2), and [6n + 2, 7n + 2) is for their list; the 64-bit work has the code at [0, n).
 ghost use mathlib.Core.Path.{_≡_};
 ghost use mathlib.Core.List.{List};
 ghost use Prim.Native.Nat.{ℕ, _+_, _*_, _≤_};

@@ -2,12 +2,11 @@
 -- Assumes nothing.
 use mathlib.Core.Path.{_≡_, sym, ap, _∙_}
 use mathlib.Core.Bool.{true}
-use mathlib.Core.List.{List, _++_, append-nil}
-use Prim.Native.Nat.{ℕ, suc, _+_, _*_, _≤_, _<_}
+use mathlib.Core.List.{List, [], _∷_, _++_, append-nil}
+use Prim.Native.Nat.{ℕ, _+_, _*_, _≤_, _<_}
 use native.Mathlib.Nat.{zero-add}
 use native.Mathlib.Omega.{arith}
 use lib.ListN.{length, getD, length-append}
-use borrow.Author.Tests.{eq-eqb}
 use borrow.Rule.Slice.PartMut.{putMid}
 use Rattle.words.specs.Le.{toLe}
 use Rattle.words.specs.Regions.{put-put}
@@ -18,17 +17,15 @@ use Rattle.unit.specs.Entry.{metadataAt, metadataBytes}
 use Rattle.unit.specs.Result.{Retained, resultMetadataAt, resultPlacesAt, resultHeader, codeBytes, metadataBytesAll, placeBytes, resultBytes}
 use Rattle.unit.specs.Laws.{result-header-long, code-bytes-long, metadata-bytes-all-long}
 use Rattle.unit.specs.Size.{resultHeaderSize, resultSize}
-use Rattle.effects.specs.Shape.{Cell}
+use Rattle.effects.specs.Shape.{Cell, cellAt}
 use Rattle.effects.specs.Cells.{cellOf, cellsBy, cells-long, cell-at}
 use Rattle.flow.specs.Branch.{branches, target}
 use Rattle.flow.specs.Loop.{isLoopHint}
-use Rattle.flow.specs.Flags.{Flags}
-use Rattle.pc_map.specs.Boundary.{isKept, boundary}
-use Rattle.pc_map.specs.Boundaries.{Mapped, mapped-long, mapped-at, boundary-most, boundary-kept}
+use Rattle.pc_map.specs.Listed.{keptList, kept-each}
 use Rattle.pc_map.specs.Relocate.{relocate, retainFrom}
 use Rattle.pc_map.specs.Movable.{Movable}
 use Rattle.pc_map.specs.Relocated.{cell}
-use Rattle.pc_map.specs.Retaining.{retainedAt, Section, Written, written-begin, written-turn, written-end}
+use Rattle.pc_map.specs.Retaining.{retainedAt, retain-at, retain-many, Section, Written, written-begin, written-turn, written-end}
 
 -- what `relocate` asks of the instruction that was read
 pub asked : (n k p : ℕ) (i j : Instruction) → i ≡ j → k ≡ n + 1 → Movable n p j → (branches (class i) ≡ true → target p i < k) × (isLoopHint i ≡ true → imm32Unsigned i < k)
@@ -40,85 +37,57 @@ end-asked n k i j d e same there f g h =
     let lt = g l in
     rw there (omega arith)
 
--- what is known of a kept place
-pub record Spot (keep bounds : List ℕ) (p : ℕ) : Type 0 where
-  pub long : length bounds ≡ length keep + 1
-  pub number : getD bounds p 0 ≡ boundary keep p
-  pub few : boundary keep p ≤ p
-  pub most : length keep ≤ 65536
-  pub next : boundary keep (suc p) ≡ boundary keep p + 1
-  pub kept : isKept keep p ≡ true
+-- what one place writes, as the code has it: i and d are what was read, j and e what was relocated
+module _ (keep : List ℕ) (p w : ℕ) (metadata out out′ : List ℕ) (at : ℕ) (i : Instruction) (same : i ≡ ofWord w) where
+  pub kept-code : (j : Instruction) → ((d : Metadata) → j ≡ relocate keep p (cell i d) .instruction) → out′ ≡ putMid at 8 out (toLe 8 (toWord j))
+      → out′ ≡ putMid at 8 out (codeBytes (retainedAt keep p (cellOf metadata p w) ∷ []))
+  unfolding codeBytes
+  kept-code j f g =
+      let moved : j ≡ relocate keep p (cellOf metadata p w) .instruction = rw same at (f (metadataAt metadata p)) in
+      rw (append-nil (toLe 8 (toWord (relocate keep p (cellOf metadata p w) .instruction))), ← moved) g
 
-module _ (keep bounds : List ℕ) (m : Mapped keep bounds) (p : ℕ) (h : p < length keep) (one : getD keep p 0 ≡ 1) where
-  pub spot : Spot keep bounds p
-  spot =
-      let k : isKept keep p ≡ true = eq-eqb (getD keep p 0) 1 one in
-      record {
-        long = mapped-long keep bounds m;
-        number = mapped-at keep bounds m p (omega arith);
-        few = boundary-most keep (m .flags) p;
-        most = m .small;
-        next = boundary-kept keep p h k;
-        kept = k;
-      }
+  pub kept-metadata : (d e : Metadata) → d ≡ metadataAt metadata p → ((q : ℕ) → e ≡ relocate keep q (cell i d) .metadata) → out′ ≡ putMid at 16 out (metadataBytes e)
+      → out′ ≡ putMid at 16 out (metadataBytesAll (retainedAt keep p (cellOf metadata p w) ∷ []))
+  unfolding metadataBytesAll
+  kept-metadata d e there f g =
+      let moved : e ≡ relocate keep p (cellOf metadata p w) .metadata = rw (same, there) at (f p) in
+      rw (append-nil (metadataBytes (relocate keep p (cellOf metadata p w) .metadata)), ← moved) g
 
-  module _ (out out′ : List ℕ) (a : ℕ) where
-    pub kept-code : (metadata : List ℕ) (w : ℕ) (i j : Instruction) → i ≡ ofWord w → ((d : Metadata) → j ≡ relocate keep p (cell i d) .instruction)
-        → out′ ≡ putMid (a + 8 * getD bounds p 0) 8 out (toLe 8 (toWord j))
-        → out′ ≡ putMid (a + 8 * boundary keep p) (8 * getD keep p 0) out (codeBytes (retainedAt keep p (cellOf metadata p w)))
-    unfolding codeBytes
-    kept-code metadata w i j e f g =
-        let s = spot in
-        let moved : j ≡ relocate keep p (cellOf metadata p w) .instruction = rw e at (f (metadataAt metadata p)) in
-        rw (one, append-nil (toLe 8 (toWord (relocate keep p (cellOf metadata p w) .instruction))), ← moved, ← s .number) g
+pub kept-place : (keep : List ℕ) (p : ℕ) (x : Cell) (out out′ : List ℕ) (at : ℕ) → out′ ≡ putMid at 4 out (toLe 4 p) → out′ ≡ putMid at 4 out (placeBytes (retainedAt keep p x ∷ []))
+unfolding placeBytes
+kept-place keep p x out out′ at g = rw (append-nil (toLe 4 p)) g
 
-    pub kept-metadata : (metadata : List ℕ) (w : ℕ) (i : Instruction) (d e : Metadata) → i ≡ ofWord w → d ≡ metadataAt metadata p → ((q : ℕ) → e ≡ relocate keep q (cell i d) .metadata)
-        → out′ ≡ putMid (a + 16 * getD bounds p 0) 16 out (metadataBytes e)
-        → out′ ≡ putMid (a + 16 * boundary keep p) (16 * getD keep p 0) out (metadataBytesAll (retainedAt keep p (cellOf metadata p w)))
-    unfolding metadataBytesAll
-    kept-metadata metadata w i d e same there f g =
-        let s = spot in
-        let moved : e ≡ relocate keep p (cellOf metadata p w) .metadata = rw (same, there) at (f p) in
-        rw (one, append-nil (metadataBytes (relocate keep p (cellOf metadata p w) .metadata)), ← moved, ← s .number) g
-
-    pub kept-place : (x : Cell) → out′ ≡ putMid (a + 4 * getD bounds p 0) 4 out (toLe 4 p)
-        → out′ ≡ putMid (a + 4 * boundary keep p) (4 * getD keep p 0) out (placeBytes (retainedAt keep p x))
-    unfolding placeBytes
-    kept-place x g =
-        let s = spot in
-        rw (one, append-nil (toLe 4 p), ← s .number) g
-
--- the loops, over the cells in lent memory
-module _ {size : ℕ} {bytes : List Retained → List ℕ} (s : Section size bytes) (keep words metadata : List ℕ) (f : Flags keep) (same : length keep ≡ length words) (a : ℕ) (out : List ℕ) where
+-- the retained instructions are as many as the list has places
+module _ (keep kept words metadata : List ℕ) (list : kept ≡ keptList keep) (same : length keep ≡ length words) where
   as-many : length keep ≡ length (cellsBy words metadata)
   as-many = same ∙ sym (cells-long words metadata)
 
-  pub section-begin : Written size bytes keep (cellsBy words metadata) a out out 0
-  section-begin = written-begin s keep f (cellsBy words metadata) as-many a out
+  pub listed-many : length (retainFrom keep 0 (cellsBy words metadata)) ≡ length kept
+  listed-many = retain-many keep (cellsBy words metadata) as-many ∙ ap length (sym list)
 
-  pub section-turn : (out₁ out₂ : List ℕ) (p : ℕ) → Written size bytes keep (cellsBy words metadata) a out out₁ p → p < length words → a + size * boundary keep (length words) ≤ length out
-      → out₂ ≡ putMid (a + size * boundary keep p) (size * getD keep p 0) out₁ (bytes (retainedAt keep p (cellOf metadata p (getD words p 0))))
-      → Written size bytes keep (cellsBy words metadata) a out out₂ (p + 1)
-  section-turn out₁ out₂ p w h room e =
-      written-turn s keep f (cellsBy words metadata) as-many a out out₁ out₂ p w (rw (cells-long words metadata) h) (rw (cells-long words metadata) room)
-      (e ∙ ap (λ (x : Cell). putMid (a + size * boundary keep p) (size * getD keep p 0) out₁ (bytes (retainedAt keep p x))) (sym (cell-at words metadata p h)))
+-- the loops, over the cells in lent memory and the list of the kept places
+module _ {size : ℕ} {bytes : List Retained → List ℕ} (s : Section size bytes) (keep kept words metadata : List ℕ) (list : kept ≡ keptList keep) (same : length keep ≡ length words) (a : ℕ) (out : List ℕ) where
+  many : length (retainFrom keep 0 (cellsBy words metadata)) ≡ length kept
+  many = listed-many keep kept words metadata list same
 
-  pub section-end : (out₁ : List ℕ) (p : ℕ) → Written size bytes keep (cellsBy words metadata) a out out₁ p → p ≡ length words
-      → out₁ ≡ putMid a (size * boundary keep (length words)) out (bytes (retainFrom keep 0 (cellsBy words metadata)))
-  section-end out₁ p w e = written-end s keep f (cellsBy words metadata) as-many a out out₁ p w (e ∙ sym (cells-long words metadata)) ∙ rw (cells-long words metadata)
+  pub section-begin : Written size bytes (retainFrom keep 0 (cellsBy words metadata)) a out out 0
+  section-begin = written-begin s (retainFrom keep 0 (cellsBy words metadata)) a out
 
--- the number of retained instructions
-pub record Last (keep bounds : List ℕ) (n : ℕ) : Type 0 where
-  pub long : length bounds ≡ n + 1
-  pub number : getD bounds n 0 ≡ boundary keep n
-  pub few : boundary keep n ≤ 65536
+  inside : (q : ℕ) → q < length kept → getD kept q 0 < length words
+  inside q h = rw list (kept-each (λ p. p < length words) keep (λ p g e. omega arith) q (rw list at h))
 
-pub last : (keep bounds : List ℕ) (m : Mapped keep bounds) (n : ℕ) → length keep ≡ n → Last keep bounds n
-last keep bounds m n e = record {
-  long = mapped-long keep bounds m ∙ ap (λ (l : ℕ). l + 1) e;
-  number = mapped-at keep bounds m n (omega arith);
-  few = omega (arith, boundary-most keep (m .flags) n, m .small);
-}
+  pub section-turn : (out₁ out₂ : List ℕ) (q : ℕ) → Written size bytes (retainFrom keep 0 (cellsBy words metadata)) a out out₁ q → q < length kept → a + size * length kept ≤ length out
+      → out₂ ≡ putMid (a + size * q) size out₁ (bytes (retainedAt keep (getD kept q 0) (cellOf metadata (getD kept q 0) (getD words (getD kept q 0) 0)) ∷ []))
+      → Written size bytes (retainFrom keep 0 (cellsBy words metadata)) a out out₂ (q + 1)
+  section-turn out₁ out₂ q w h room e =
+      let cells = cellsBy words metadata in
+      let at : getD (retainFrom keep 0 cells) q (retainedAt keep 0 (cellAt cells 0)) ≡ retainedAt keep (getD kept q 0) (cellOf metadata (getD kept q 0) (getD words (getD kept q 0) 0)) =
+      retain-at keep cells (as-many keep kept words metadata list same) q ∙ rw (← list, cell-at words metadata (getD kept q 0) (inside q h)) in
+      written-turn s (retainFrom keep 0 cells) a out out₁ out₂ q (retainedAt keep 0 (cellAt cells 0)) w (rw many h) (rw many room) (rw at e)
+
+  pub section-end : (out₁ : List ℕ) (q : ℕ) → Written size bytes (retainFrom keep 0 (cellsBy words metadata)) a out out₁ q → q ≡ length kept
+      → out₁ ≡ putMid a (size * length kept) out (bytes (retainFrom keep 0 (cellsBy words metadata)))
+  section-end out₁ q w e = written-end s (retainFrom keep 0 (cellsBy words metadata)) a out out₁ q w (e ∙ sym many) ∙ rw many
 
 -- ---- the four parts of a result, one after another
 

@@ -1,24 +1,27 @@
 -- What relocation asks of the kept places, from the two checks.
 -- Assumes nothing.
-use mathlib.Core.Path.{_≡_, refl}
+use mathlib.Core.Path.{_≡_, refl, ap, _∙_}
 use mathlib.Core.Bool.{Bool, true, false, cond, _&&_}
 use mathlib.Core.List.{List}
-use Prim.Native.Nat.{ℕ, _≤_, _<_}
+use Prim.Native.Nat.{ℕ, _+_, _*_, _≤_, _<_}
 use native.Mathlib.Omega.{arith}
 use lib.Dec.{leb, ltb}
 use lib.ListN.{length, getD, List·getD-eq-default}
-use borrow.Author.Tests.{eqb-true, leb-true, ltb-true, ltb-false}
+use borrow.Author.Tests.{eq-eqb, eqb-true, leb-true, ltb-true, ltb-false}
 use Rattle.instruction.specs.declared.Instruction.{Instruction}
 use Rattle.instruction.specs.Instruction.{ofWord, imm32Unsigned, class}
 use Rattle.unit.specs.Entry.{metadataAt}
 use Rattle.unit.specs.Refusal.{lostLoop}
+use Rattle.unit.specs.Size.{maxInstructions, metadataSize, resultSize}
 use Rattle.effects.specs.declared.Check.the-variants.{Passed}
 use Rattle.effects.specs.Cells.{cellOf, cellsBy, cells-long}
 use Rattle.flow.specs.Branch.{branches, target}
 use Rattle.flow.specs.BranchLaws.{BranchesInside, inside-target}
 use Rattle.flow.specs.Checking.{passed-at}
 use Rattle.flow.specs.Loop.{isLoopHint}
-use Rattle.pc_map.specs.Boundary.{isKept}
+use Rattle.pc_map.specs.Boundary.{isKept, boundary}
+use Rattle.pc_map.specs.Boundaries.{mapped-long, boundary-most}
+use Rattle.pc_map.specs.Listed.{Listed, keptList, kept-many, kept-each}
 use Rattle.pc_map.specs.Relocate.{relocationCheck}
 use Rattle.pc_map.specs.Relocated.{relocationTest}
 
@@ -26,12 +29,16 @@ use Rattle.pc_map.specs.Relocated.{relocationTest}
 abbrev pub Movable : ℕ → ℕ → Instruction → Type 0
 Movable n p i = (branches (class i) ≡ true → target p i ≤ n) × (isLoopHint i ≡ true → imm32Unsigned i ≤ n)
 
+-- the places of a list, and their branches
 abbrev pub AllMovable : List ℕ → List ℕ → Type 0
-AllMovable keep words = (p : ℕ) → p < length words → isKept keep p ≡ true → Movable (length words) p (ofWord (getD words p 0))
+AllMovable kept words = (q : ℕ) → q < length kept → (getD kept q 0 < length words) × Movable (length words) (getD kept q 0) (ofWord (getD words (getD kept q 0) 0))
 
 -- a loop hint's end is a place
+abbrev pub EndInside : List ℕ → List ℕ → ℕ → Type 0
+EndInside words metadata p = isLoopHint (ofWord (getD words p 0)) ≡ true → metadataAt metadata p .end < length words
+
 abbrev pub EndsInside : List ℕ → List ℕ → List ℕ → Type 0
-EndsInside keep words metadata = (p : ℕ) → p < length words → isKept keep p ≡ true → isLoopHint (ofWord (getD words p 0)) ≡ true → metadataAt metadata p .end < length keep
+EndsInside kept words metadata = (q : ℕ) → q < length kept → EndInside words metadata (getD kept q 0)
 
 kept-inside : (keep : List ℕ) (q : ℕ) → isKept keep q ≡ true → q < length keep
 kept-inside keep q k = go (ltb q (length keep)) refl
@@ -60,11 +67,32 @@ module _ (keep words metadata : List ℕ) (passed : relocationCheck keep (cellsB
       both true false e = absurd (omega arith)
       both false t e = absurd (omega arith)
 
-  pub ends-inside : EndsInside keep words metadata
-  ends-inside p h k l = hinted p h k l .1
+-- what the list of the kept places must fulfil to be written: room is that of the result
+pub record Writable (words metadata bounds kept : List ℕ) (room : ℕ) : Type 0 where
+  pub small : length words ≤ maxInstructions
+  pub few : length kept ≤ length words
+  pub bounds-long : length bounds ≡ length words + 1
+  pub entries : metadataSize * length words ≤ length metadata
+  pub movable : AllMovable kept words
+  pub ends : EndsInside kept words metadata
+  pub fits : resultSize (length kept) ≤ room
 
-  pub all-movable : BranchesInside words → AllMovable keep words
-  all-movable inside p h k = (
-    λ b. let lt = inside-target (length words) p (ofWord (getD words p 0)) (inside p h) b in omega arith,
-    λ l. hinted p h k l .0,
-  )
+pub writable : (words metadata keep bounds kept : List ℕ) (room : ℕ) → Listed keep bounds kept (length words) → metadataSize * length words ≤ length metadata → BranchesInside words
+    → relocationCheck keep (cellsBy words metadata) ≡ Passed → resultSize (boundary keep (length words)) ≤ room → Writable words metadata bounds kept room
+writable words metadata keep bounds kept room l entries inside passed fits = record {
+  small = rw (← l .long) (l .mapped .small);
+  few = rw (l .list, kept-many keep (l .mapped .flags)) (omega (arith, l .long, boundary-most keep (l .mapped .flags) (length keep)));
+  bounds-long = mapped-long keep bounds (l .mapped) ∙ ap (λ (k : ℕ). k + 1) (l .long);
+  entries = entries;
+  movable = rw (l .list) (kept-each (λ p. (p < length words) × Movable (length words) p (ofWord (getD words p 0))) keep movable);
+  ends = rw (l .list) (kept-each (EndInside words metadata) keep (λ p h e g. let r = hint p h e g in omega (arith, l .long, r .1)));
+  fits = rw (l .list, kept-many keep (l .mapped .flags), l .long) fits;
+}
+  where
+    hint : (p : ℕ) → p < length keep → getD keep p 0 ≡ 1 → isLoopHint (ofWord (getD words p 0)) ≡ true → (imm32Unsigned (ofWord (getD words p 0)) ≤ length words) × (metadataAt metadata p .end < length keep)
+    hint p h e g = hinted keep words metadata passed p (omega (arith, l .long)) (eq-eqb (getD keep p 0) 1 e) g
+
+    movable : (p : ℕ) → p < length keep → getD keep p 0 ≡ 1 → (p < length words) × Movable (length words) p (ofWord (getD words p 0))
+    movable p h e =
+        let h′ : p < length words = omega (arith, l .long) in
+        (h′, (λ b. let lt = inside-target (length words) p (ofWord (getD words p 0)) (inside p h′) b in omega arith, λ g. hint p h e g .0))

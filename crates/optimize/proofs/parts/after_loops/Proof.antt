@@ -1,8 +1,12 @@
-use mathlib.Core.Path.{refl}
-use Prim.Native.Nat.{_-_}
+use mathlib.Core.Path.{_≡_, refl, _∙_}
+use mathlib.Core.List.{List}
+use Prim.Native.Nat.{ℕ, _≤_}
+use native.Mathlib.Omega.{arith}
 use lib.ListN.{length}
+use Rattle.unit.specs.Size.{work32Room}
 use Rattle.optimize.specs.Parts.{tells-same, sectionsIn}
 use Rattle.optimize.specs.Chain.{marks-retainable, kept-finished, kept-answer}
+use Rattle.optimize.specs.Listing.{list-asks, list-retains}
 use borrow.Author.Needs.{needs}
 use Rattle.optimize.proofs.parts.after_loops.Statement.{statement}
 use Rattle.optimize.proofs.parts.after_loops.Tie as tie
@@ -13,28 +17,59 @@ retain-requires c κs =
     let a = s .args in
     marks-retainable (a .n) (a .code .now) (a .metadata .now) (sectionsIn (a .types .now) (a .constants .now) (a .functions .now) (a .externs .now) (a .cases .now)) (s .pre .0) (s .pre .2) (length (a .out .now)) (a .work32 .now) (a .work64 .now) (s .pre .1) (s .pre .3) refl
 
+abbrev start : tie.After-retain → tie.Start
+start r = r .before .before .before .before .before .before .before .before .before .before .before .before .before
+
+-- the work after `retain`
+abbrev work : tie.After-retain → List ℕ
+work r = r .retain .last .1 .1 .1 .1 .1 .0
+
+long : (r : tie.After-retain) → length (work r) ≡ length (start r .args .work32 .now)
+long r = r .retain .kept .1 .1 .1 .1 .1 .0
+
+room : (r : tie.After-retain) → work32Room (start r .args .n) ≤ length (work r)
+room r = omega (arith, long r, start r .pre .1 .room32)
+
+list-kept-requires : tie.Need-list-kept-requires
+list-kept-requires c κs =
+    let r = c .before .before .before .before .before in
+    let s = start r in
+    list-asks (r .retain .ensures (s .args .constants .now)) (s .pre .0 .few) (room r)
+
 finish-requires : tie.Need-finish-requires
 finish-requires c κs =
-    let s = c .before .before .before .before .before .before .before .before .before .before .before .before .before .before .before .before .before .before .before .before in
+    let l = c .before .before .before .before .before in
+    let r = l .before .before .before .before .before .before in
+    let s = start r in
     let a = s .args in
-    kept-finished (a .n) (a .code .now) (a .metadata .now) (sectionsIn (a .types .now) (a .constants .now) (a .functions .now) (a .externs .now) (a .cases .now)) (s .pre .0) (s .pre .2) (length (a .out .now)) (a .work32 .now) (a .work64 .now) (s .pre .1) (s .pre .3) refl (a .constants .now) (a .functions .now) (a .externs .now) (a .cases .now) _ _ refl (c .before .before .before .before .before .before .before .retain .kept .1 .1 .1 .1 .1 .0) (c .before .before .before .before .before .before .before .retain .kept .1 .1 .1 .1 .1 .1 .0) (c .before .before .before .before .before .before .before .retain .ensures (a .constants .now))
-
-same-length : tie.Need-same-length
-same-length c = search needs
-
-same-length-2 : tie.Need-same-length-2
-same-length-2 c = search needs
-
-same-length-3 : tie.Need-same-length-3
-same-length-3 c = search needs
+    let w = list-retains (r .retain .ensures (a .constants .now)) (s .pre .0 .few) (room r) (l .list-kept .last .0) (l .list-kept .kept .0) (l .list-kept .ensures .0) (l .list-kept .ensures .1) in
+    kept-finished (a .n) (a .code .now) (a .metadata .now) (sectionsIn (a .types .now) (a .constants .now) (a .functions .now) (a .externs .now) (a .cases .now)) (s .pre .0) (s .pre .2) (length (a .out .now)) (a .work32 .now) (a .work64 .now) (s .pre .1) (s .pre .3) refl (w .0 ∙ long r) (r .retain .kept .1 .1 .1 .1 .1 .1 .0) refl (w .1) (w .2)
 
 returns : tie.Need-returns
 returns c =
-    let s = c .before .before .before .before .before .before .before .before .before .before .before .before .before .before .before .before .before .before .before .before .before .before .before in
+    let l = c .before .before .before .before .before .before .before .before in
+    let r = l .before .before .before .before .before .before in
+    let s = start r in
     let a = s .args in
-    tells-same _ _ _ _ _ (kept-answer (a .n) (a .code .now) (a .metadata .now) (sectionsIn (a .types .now) (a .constants .now) (a .functions .now) (a .externs .now) (a .cases .now)) (s .pre .0) (s .pre .2) (length (a .out .now)) (a .work32 .now) (a .work64 .now) (s .pre .1) (s .pre .3) refl (a .constants .now) (a .functions .now) (a .externs .now) (a .cases .now) _ _ refl (c .before .before .before .before .before .before .before .before .before .before .retain .kept .1 .1 .1 .1 .1 .0) (c .before .before .before .before .before .before .before .before .before .before .retain .kept .1 .1 .1 .1 .1 .1 .0) (c .before .before .before .before .before .before .before .before .before .before .retain .ensures (a .constants .now))) (c .before .before .finish .ensures)
+    let w = list-retains (r .retain .ensures (a .constants .now)) (s .pre .0 .few) (room r) (l .list-kept .last .0) (l .list-kept .kept .0) (l .list-kept .ensures .0) (l .list-kept .ensures .1) in
+    tells-same _ _ _ _ _
+    (kept-answer (a .n) (a .code .now) (a .metadata .now) (sectionsIn (a .types .now) (a .constants .now) (a .functions .now) (a .externs .now) (a .cases .now)) (s .pre .0) (s .pre .2) (length (a .out .now)) (a .work32 .now) (a .work64 .now) (s .pre .1) (s .pre .3) refl (w .0 ∙ long r) (r .retain .kept .1 .1 .1 .1 .1 .1 .0) refl (w .1))
+    (c .before .before .finish .ensures)
 
 pub after-loops-spec : {M : Type 1} → statement M
 after-loops-spec =
     tie.close
-    (tie.spec retain-requires finish-requires same-length same-length-2 same-length-3 returns)
+    (tie.spec
+    retain-requires
+    (λ c. search needs)
+    (λ c. search needs)
+    (λ c. search needs)
+    (λ c. search needs)
+    (λ c. search needs)
+    (λ c. search needs)
+    list-kept-requires
+    finish-requires
+    (λ c. search needs)
+    (λ c. search needs)
+    (λ c. search needs)
+    returns)

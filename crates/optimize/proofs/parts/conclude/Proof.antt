@@ -1,76 +1,82 @@
 use lib.ListN.{length, getD}
 use lib.Dec.{eqb}
-use mathlib.Core.Path.{sym, ap, _∙_}
-use mathlib.Core.Bool.{Bool, _&&_}
+use mathlib.Core.Path.{_≡_, sym, ap, _∙_}
+use mathlib.Core.Bool.{Bool, true, false, _&&_}
 use native.Mathlib.Omega.{arith}
 use Rattle.pc_map.specs.Boundaries.{mapped-long}
-use Rattle.optimize.specs.Parts.{tells-unchanged, tells-refused}
-use Rattle.optimize.specs.Concluded.{conclude-unchanged, conclude-refused, conclude-told, conclude-room}
+use Rattle.optimize.specs.Parts.{tells-unchanged, tells-refused, sameWords, wordsIn}
+use Rattle.optimize.specs.Concluded.{Known, conclude-unchanged, conclude-refused, conclude-told, conclude-writable}
 use borrow.Author.Needs.{needs}
 use Rattle.optimize.proofs.parts.conclude.Statement.{statement}
 use Rattle.optimize.proofs.parts.conclude.Tie as tie
 
-mul-retained : tie.Need-mul-retained
-mul-retained c = search needs
+abbrev start : tie.After-is-same → tie.Start
+start i = i .before .before .before .before .before .before .before .before .before
+
+known : (i : tie.After-is-same) → let a = start i .args in Known (a .code .now) (a .words .now) (a .keep .now) (a .bounds .now) (a .kept .now)
+known i =
+    let b = i .before .before .before .before .before .before in
+    record {
+      bytes = λ j. omega (arith, b .before .before .shared-slice-known .given j);
+      fits = λ j. omega (arith, b .shared-slice-known3 .given j);
+      listed = start i .pre .0;
+    }
+
+-- the test, by its definition
+tested : (i : tie.After-is-same) (t : Bool) → let a = start i .args in (eqb (getD (a .bounds .now) (length (a .words .now)) 0) (length (a .words .now)) && i .is-same .result) ≡ t
+    → (eqb (getD (a .bounds .now) (length (a .words .now)) 0) (length (a .words .now)) && sameWords (wordsIn (length (a .words .now)) (a .code .now)) (a .words .now)) ≡ t
+tested i t e = let a = start i .args in ap (λ (t : Bool). eqb (getD (a .bounds .now) (length (a .words .now)) 0) (length (a .words .now)) && t) (sym (i .is-same .ensures)) ∙ e
 
 shared-slice-read-retained : tie.Need-shared-slice-read-retained
-shared-slice-read-retained c = let s = c .before .before .before .before .before .before .before in omega (arith, mapped-long (s .args .keep .now) (s .args .bounds .now) (s .pre .0), s .pre .1)
+shared-slice-read-retained c =
+    let s = c .before .before .before .before .before .before .before .before in
+    omega (arith, mapped-long (s .args .keep .now) (s .args .bounds .now) (s .pre .0 .mapped), s .pre .0 .long)
 
 cast-if1 : tie.Need-cast-if1
-cast-if1 c = let s = c .before .before .before .before .before .before .before in omega (arith, c .shared-slice-known6 .given (length (s .args .words .now)))
-
-is-same-requires : tie.Need-is-same-requires
-is-same-requires c κs = search needs
+cast-if1 c = let s = c .before .before .before .before .before .before .before .before in omega (arith, c .shared-slice-known7 .given (length (s .args .words .now)))
 
 returns : tie.Need-returns
 returns c =
-    let s = c .before .before .before .before .before .before .before .before .before in
-    let a = s .args in
-    tells-unchanged _ (a .out .now) (conclude-unchanged (a .code .now) (a .words .now) (a .metadata .now) (a .keep .now) (a .bounds .now) (λ i. omega (arith, c .before .before .before .before .before .before .before .before .shared-slice-known .given i)) (λ i. omega (arith, c .before .before .before .before .before .before .shared-slice-known3 .given i)) (s .pre .0) (s .pre .1) (ap (λ (t : Bool). eqb (getD (a .bounds .now) (length (a .words .now)) 0) (length (a .words .now)) && t) (sym (c .before .is-same .ensures)) ∙ c .if1 .taken))
+    let i = c .before in
+    let a = start i .args in
+    tells-unchanged _ (a .out .now) (conclude-unchanged (known i) (a .metadata .now) (tested i true (c .if1 .taken)))
 
 check-relocation-requires : tie.Need-check-relocation-requires
 check-relocation-requires c κs = search needs
 
-enum-known-k : tie.Need-enum-known-k
-enum-known-k c = search needs
-
-enum-told : tie.Need-enum-told
-enum-told c = search needs
-
 write-retained-requires : tie.Need-write-retained-requires
 write-retained-requires c κs =
-    let s = c .before .before .before .before .before .before .before .before .before .before .before .before .before in
-    let a = s .args in
-    (s .pre .0, s .pre .1, s .pre .3, s .pre .4, sym (c .before .before .before .check-relocation .ensures) ∙ c .before .enum-told .given .1, conclude-room (a .code .now) (a .words .now) (a .metadata .now) (a .keep .now) (a .bounds .now) (λ i. omega (arith, c .before .before .before .before .before .before .before .before .before .before .before .before .shared-slice-known .given i)) (λ i. omega (arith, c .before .before .before .before .before .before .before .before .before .before .shared-slice-known3 .given i)) (s .pre .0) (s .pre .1) (ap (λ (t : Bool). eqb (getD (a .bounds .now) (length (a .words .now)) 0) (length (a .words .now)) && t) (sym (c .before .before .before .before .before .is-same .ensures)) ∙ c .before .before .before .before .if1 .left) _ (s .pre .5))
+    let i = c .before .before .before .before .before in
+    let s = start i in
+    conclude-writable (known i) (s .args .metadata .now) (length (s .args .out .now)) (s .pre .2) (s .pre .3) (sym (c .before .before .before .check-relocation .ensures) ∙ c .before .enum-told .given .1) (s .pre .4)
 
 returns-2 : tie.Need-returns-2
 returns-2 c =
-    let s = c .before .before .before .before .before .before .before .before .before .before .before .before .before in
-    let a = s .args in
-    tells-refused _ _ _ (a .out .now) (conclude-refused (a .code .now) (a .words .now) (a .metadata .now) (a .keep .now) (a .bounds .now) (λ i. omega (arith, c .before .before .before .before .before .before .before .before .before .before .before .before .shared-slice-known .given i)) (λ i. omega (arith, c .before .before .before .before .before .before .before .before .before .before .shared-slice-known3 .given i)) (s .pre .0) (s .pre .1) (ap (λ (t : Bool). eqb (getD (a .bounds .now) (length (a .words .now)) 0) (length (a .words .now)) && t) (sym (c .before .before .before .before .before .is-same .ensures)) ∙ c .before .before .before .before .if1 .left) _ _ (sym (c .before .before .before .check-relocation .ensures) ∙ c .before .k .given .1))
-
-same-length : tie.Need-same-length
-same-length c = search needs
+    let i = c .before .before .before .before .before in
+    let a = start i .args in
+    tells-refused _ _ _ (a .out .now) (conclude-refused (known i) (a .metadata .now) (tested i false (c .before .before .before .before .if1 .left)) _ _ (sym (c .before .before .before .check-relocation .ensures) ∙ c .before .k .given .1))
 
 returns-3 : tie.Need-returns-3
 returns-3 c =
-    let s = c .before .before .before .before .before .before .before .before .before .before .before .before .before .before .before .before in
+    let e = c .before .before .before .before in
+    let i = e .before .before .before .before in
+    let s = start i in
     let a = s .args in
-    conclude-told (a .code .now) (a .words .now) (a .metadata .now) (a .keep .now) (a .bounds .now) (λ i. omega (arith, c .before .before .before .before .before .before .before .before .before .before .before .before .before .before .before .shared-slice-known .given i)) (λ i. omega (arith, c .before .before .before .before .before .before .before .before .before .before .before .before .before .shared-slice-known3 .given i)) (s .pre .0) (s .pre .1) (ap (λ (t : Bool). eqb (getD (a .bounds .now) (length (a .words .now)) 0) (length (a .words .now)) && t) (sym (c .before .before .before .before .before .before .before .before .is-same .ensures)) ∙ c .before .before .before .before .before .before .before .if1 .left) _ _ (sym (c .before .before .before .before .before .before .check-relocation .ensures) ∙ c .before .before .before .before .enum-told .given .1) (c .before .before .write-retained .ensures)
+    conclude-told (known i) (a .metadata .now) (tested i false (e .before .before .before .if1 .left)) (a .out .now) _ (sym (e .before .before .check-relocation .ensures) ∙ e .enum-told .given .1) (c .before .before .write-retained .ensures (a .keep .now) (s .pre .0))
 
 pub conclude-spec : {M : Type 1} → statement M
 conclude-spec =
     tie.close
     (tie.spec
-    mul-retained
+    (λ c. search needs)
     shared-slice-read-retained
     cast-if1
-    is-same-requires
+    (λ c κs. search needs)
     returns
     check-relocation-requires
-    enum-known-k
-    enum-told
+    (λ c. search needs)
+    (λ c. search needs)
     write-retained-requires
     returns-2
-    same-length
+    (λ c. search needs)
     returns-3)

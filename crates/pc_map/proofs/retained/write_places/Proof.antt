@@ -1,39 +1,42 @@
 use mathlib.Core.Path.{_≡_, refl, _∙_}
 use mathlib.Core.List.{List}
-use Prim.Native.Nat.{ℕ, suc, _≤_, _-_}
+use Prim.Native.Nat.{ℕ, _+_, _*_, _-_, _≤_}
 use native.Mathlib.Omega.{arith}
-use lib.ListN.{length}
-use Rattle.effects.specs.Cells.{cellsBy}
-use Rattle.pc_map.specs.Boundaries.{boundary-mono}
+use lib.ListN.{length, getD}
 use Rattle.unit.specs.Result.{placeBytes}
+use Rattle.effects.specs.Cells.{cellsBy}
+use Rattle.pc_map.specs.Listed.{keptList}
+use Rattle.pc_map.specs.Relocate.{retainFrom}
 use Rattle.pc_map.specs.Retaining.{Written, place-section}
-use Rattle.pc_map.proofs.Writing.{section-begin, section-turn, section-end}
+use Rattle.pc_map.proofs.Writing.{kept-place, section-begin, section-turn, section-end}
 use borrow.Author.Needs.{needs}
 use Rattle.pc_map.proofs.retained.write_places.Statement.{statement}
 use Rattle.pc_map.proofs.retained.write_places.Tie as tie
 
 abbrev Inv-loop : tie.InvT-loop
-Inv-loop keep bounds out₀ a n p₀ out p = (p ≤ length keep) × (length out ≡ length out₀) × ((words metadata : List ℕ) → length keep ≡ length words → Written 4 placeBytes keep (cellsBy words metadata) a out₀ out p)
+Inv-loop kept out₀ a k q₀ out q = (q ≤ length kept) × (length out ≡ length out₀) × ((keep words metadata : List ℕ) → kept ≡ keptList keep → length keep ≡ length words → Written 4 placeBytes (retainFrom keep 0 (cellsBy words metadata)) a out₀ out q)
 
 abbrev μ-loop : tie.MeasureT-loop
-μ-loop keep bounds out₀ a n p₀ out p = length keep - p
+μ-loop kept out₀ a k q₀ out q = length kept - q
 
 loop-holds : tie.Need-loop-holds Inv-loop μ-loop
-loop-holds c = (omega arith, refl, let s = c .before .before .before in λ words metadata e. section-begin place-section (s .args .keep .now) words metadata (s .pre .0 .flags) e (s .args .a) (s .args .out .now))
+loop-holds c =
+    let a = c .before .before .args in
+    (omega arith, refl, λ keep words metadata e f. section-begin place-section keep (a .kept .now) words metadata e f (a .a) (a .out .now))
 
-write-place-requires : tie.Need-write-place-requires Inv-loop μ-loop
-write-place-requires c κs =
-    let h = c .before .before in
-    let s = h .before .before .before .before in
-    let m = boundary-mono (s .args .keep .now) (suc (h .loop .p)) (length (s .args .keep .now)) (omega arith) in
-    (s .pre .0, omega arith, omega (arith, h .loop .inv .1))
+write-u32-requires : tie.Need-write-u32-requires Inv-loop μ-loop
+write-u32-requires c κs = let h = c .before .before .before in omega (arith, h .loop .inv .1)
 
 loop-again : tie.Need-loop-again Inv-loop μ-loop
 loop-again c =
     let w = c .before .before in
-    let h = w .before .before .before in
-    let s = h .before .before .before .before in
-    (omega arith, w .write-place .kept .1 .1 .0 ∙ h .loop .inv .1, λ words metadata e. section-turn place-section (s .args .keep .now) words metadata (s .pre .0 .flags) e (s .args .a) (s .args .out .now) _ _ (h .loop .p) (h .loop .inv .2 words metadata e) (omega arith) (rw (← e) (s .pre .1)) (w .write-place .ensures _))
+    let h = w .before .before .before .before in
+    let s = h .before .before .before in
+    let a = s .args in (
+      omega arith,
+      w .write-u32 .kept .0 ∙ h .loop .inv .1,
+      λ keep words metadata e f. section-turn place-section keep (a .kept .now) words metadata e f (a .a) (a .out .now) _ _ (h .loop .q) (h .loop .inv .2 keep words metadata e f) (omega arith) (s .pre) (kept-place keep (getD (a .kept .now) (h .loop .q) 0) _ (h .loop .out) _ (a .a + 4 * h .loop .q) (w .write-u32 .ensures)),
+    )
 
 same-length : tie.Need-same-length Inv-loop μ-loop
 same-length c = c .before .loop .inv .1
@@ -41,8 +44,8 @@ same-length c = c .before .loop .inv .1
 returns : tie.Need-returns Inv-loop μ-loop
 returns c =
     let h = c .before in
-    let s = h .before .before .before .before in
-    λ words metadata e. section-end place-section (s .args .keep .now) words metadata (s .pre .0 .flags) e (s .args .a) (s .args .out .now) _ (h .loop .p) (h .loop .inv .2 words metadata e) (omega arith)
+    let a = h .before .before .before .args in
+    λ keep words metadata e f. section-end place-section keep (a .kept .now) words metadata e f (a .a) (a .out .now) _ (h .loop .q) (h .loop .inv .2 keep words metadata e f) (omega arith)
 
 pub write-places-spec : {M : Type 1} → statement M
 write-places-spec =
@@ -51,7 +54,11 @@ write-places-spec =
     Inv-loop
     μ-loop
     loop-holds
-    write-place-requires
+    (λ c. search needs)
+    (λ c. omega (arith, c .before .before .loop .inv .1))
+    (λ c. search needs)
+    (λ c. search needs)
+    write-u32-requires
     (λ c. search needs)
     (λ c. search needs)
     loop-again
