@@ -1,33 +1,40 @@
-use borrow.Author.Tests.{ne-eqb, eq-eqb}
-use Rattle.values.specs.Entries.{sameKey}
 use borrow.Author.Needs.{needs}
 use Rattle.values.proofs.entries.holds.Statement.{statement}
 use Rattle.values.proofs.entries.holds.Tie as tie
+use Rattle.values.proofs.entries.holds.Reads as reads
+use Rattle.values.proofs.entries.holds.Lts as lts
 
+-- src/entries.rt:45:6
+mul-result : tie.Need-mul-result
+mul-result c = search needs
+
+-- src/entries.rt:45:6
+shared-slice-read-result : tie.Need-shared-slice-read-result
+shared-slice-read-result c = search needs
+
+-- src/entries.rt:45:26
+add-result : tie.Need-add-result
+add-result c = search needs
+
+-- src/entries.rt:45:24
+mul-result-2 : tie.Need-mul-result-2
+mul-result-2 c = search needs
+
+-- src/entries.rt:45:24
+shared-slice-read-result-2 : tie.Need-shared-slice-read-result-2
+shared-slice-read-result-2 c = search needs
+
+-- src/entries.rt:41:1
 returns : tie.Need-returns
-unfolding sameKey
-returns c = rw (eq-eqb _ _ (c .before .before .before .before .before .if1 .taken), eq-eqb _ _ (c .before .before .if2 .taken))
-
-returns-2 : tie.Need-returns-2
-unfolding sameKey
-returns-2 c = rw (eq-eqb _ _ (c .before .before .before .if1 .taken), ne-eqb _ _ (c .if2 .left))
-
-returns-3 : tie.Need-returns-3
-unfolding sameKey
-returns-3 c = rw (ne-eqb _ _ (c .if1 .left))
+returns c = ?
 
 pub holds-spec : {M : Type 1} → statement M
 holds-spec =
     tie.close
     (tie.spec
-    (λ c. search needs)
-    (λ c. search needs)
-    (λ c. search needs)
-    (λ c. search needs)
-    (λ c. search needs)
-    (λ c. search needs)
-    (λ c. search needs)
-    (λ c. search needs)
-    returns
-    returns-2
-    returns-3)
+    mul-result
+    shared-slice-read-result
+    add-result
+    mul-result-2
+    shared-slice-read-result-2
+    returns)

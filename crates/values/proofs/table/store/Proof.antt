@@ -1,27 +1,56 @@
-use Rattle.values.proofs.Recording.{put-ready, stores, by-words}
 use borrow.Author.Needs.{needs}
 use Rattle.values.proofs.table.store.Statement.{statement}
 use Rattle.values.proofs.table.store.Tie as tie
+use Rattle.values.proofs.table.store.Reads as reads
+use Rattle.values.proofs.table.store.Lts as lts
+use Rattle.values.proofs.table.representative.Reads as representative-reads
 
-represent-requires : tie.Need-represent-requires
-represent-requires c κs = (put-ready (c .before .before .before .before .before .before .before .before .before .pre .0) _ _ _ (c .before .before .before .before .before .before .before .before .before .pre .2) (c .before .before .before .before .before .put .ensures), c .before .before .before .before .before .before .before .before .before .pre .1, c .before .before .before .before .before .before .before .before .before .pre .2)
+-- src/table.rt:93:40
+slice-read-t : tie.Need-slice-read-t
+slice-read-t c = search needs
 
+-- src/table.rt:93:27
+mul-t : tie.Need-mul-t
+mul-t c = search needs
+
+-- src/table.rt:93:27
+add-t : tie.Need-add-t
+add-t c = search needs
+
+-- src/table.rt:93:7
+add-t-2 : tie.Need-add-t-2
+add-t-2 c = search needs
+
+-- src/table.rt:93:5
+mul-t-2 : tie.Need-mul-t-2
+mul-t-2 c = search needs
+
+-- src/table.rt:93:5
+slice-write-t : tie.Need-slice-write-t
+slice-write-t c = search needs
+
+-- src/table.rt:94:5
+representative-requires : tie.Need-representative-requires
+representative-requires c κs = ?
+
+-- src/table.rt:89:1
+same-length : tie.Need-same-length
+same-length c = ?
+
+-- src/table.rt:89:1
 returns : tie.Need-returns
-returns c =
-    let g = put-ready (c .before .before .before .before .before .before .before .before .before .before .before .before .pre .0) _ _ _ (c .before .before .before .before .before .before .before .before .before .before .before .before .pre .2) (c .before .before .before .before .before .before .before .before .put .ensures) in
-    stores (c .before .before .before .before .before .before .before .before .before .before .before .before .pre .0) _ _ _ (c .before .before .before .before .before .before .before .before .before .before .before .before .pre .2) (c .before .before .before .before .before .before .before .before .put .ensures) _ (by-words g _ _ _ (c .before .before .before .before .before .before .before .before .before .before .before .before .pre .2) (c .before .before .before .before .tag .ensures) (c .before .before .before .bits .ensures) (c .before .before .represent .ensures))
+returns c = ?
 
 pub store-spec : {M : Type 1} → statement M
 store-spec =
     tie.close
     (tie.spec
-    (λ c. search needs)
-    (λ c. search needs)
-    (λ c. search needs)
-    (λ c. search needs)
-    (λ c κs. search needs)
-    (λ c κs. search needs)
-    (λ c κs. search needs)
-    represent-requires
-    (λ c. search needs)
+    slice-read-t
+    mul-t
+    add-t
+    add-t-2
+    mul-t-2
+    slice-write-t
+    representative-requires
+    same-length
     returns)

@@ -1,47 +1,62 @@
-use Rattle.values.specs.Memory.{usableIn}
-use borrow.Author.Tests.{lt-ltb, le-ltb, eq-eqb, ne-eqb}
 use borrow.Author.Needs.{needs}
 use Rattle.values.proofs.table.usable.Statement.{statement}
 use Rattle.values.proofs.table.usable.Tie as tie
+use Rattle.values.proofs.table.usable.Reads as reads
+use Rattle.values.proofs.table.usable.Lts as lts
+use Rattle.values.proofs.table.marked.Reads as marked-reads
+use Rattle.values.proofs.table.number.Reads as number-reads
 
+-- src/table.rt:56:9
+marked-requires : tie.Need-marked-requires
+marked-requires c κs = search needs
+
+-- src/table.rt:57:19
+enum-known-found : tie.Need-enum-known-found
+enum-known-found c = search needs
+
+-- src/table.rt:58:9
+enum-told : tie.Need-enum-told
+enum-told c = search needs
+
+-- src/table.rt:58:9
 returns : tie.Need-returns
-unfolding usableIn
-returns c = rw (← c .before .before .before .decode .ensures, ← c .before .before .recorded .ensures, c .enum-told .given .1)
+returns c = ?
 
+-- src/table.rt:62:9
 returns-2 : tie.Need-returns-2
-unfolding usableIn
-returns-2 c = rw (← c .before .before .before .before .before .decode .ensures, ← c .before .before .before .before .recorded .ensures, c .before .before .found .given .1, le-ltb _ _ (c .if1 .taken))
+returns-2 c = ?
 
+-- src/table.rt:64:30
+cast-number : tie.Need-cast-number
+cast-number c = search needs
+
+-- src/table.rt:64:9
+number-requires : tie.Need-number-requires
+number-requires c κs = search needs
+
+-- src/table.rt:64:50
+shared-slice-read-if2 : tie.Need-shared-slice-read-if2
+shared-slice-read-if2 c = search needs
+
+-- src/table.rt:65:9
 returns-3 : tie.Need-returns-3
-unfolding usableIn
-returns-3 c = rw (← c .before .before .before .before .before .before .before .before .before .before .before .decode .ensures, ← c .before .before .before .before .before .before .before .before .before .before .recorded .ensures, c .before .before .before .before .before .before .before .before .found .given .1, lt-ltb _ _ (c .before .before .before .before .before .before .if1 .left), ← c .before .before .before .before .get .ensures, ← c .before .before .before .same .ensures, c .before .before .if2 .taken, eq-eqb _ _ (c .if3 .taken))
+returns-3 c = ?
 
+-- src/table.rt:51:1
 returns-4 : tie.Need-returns-4
-unfolding usableIn
-returns-4 c = rw (← c .before .before .before .before .before .before .before .before .before .before .before .decode .ensures, ← c .before .before .before .before .before .before .before .before .before .before .recorded .ensures, c .before .before .before .before .before .before .before .before .found .given .1, lt-ltb _ _ (c .before .before .before .before .before .before .if1 .left), ← c .before .before .before .before .get .ensures, ← c .before .before .before .same .ensures, c .before .before .if2 .taken, ne-eqb _ _ (c .if3 .left))
-
-returns-5 : tie.Need-returns-5
-unfolding usableIn
-returns-5 c = rw (← c .before .before .before .before .before .before .before .before .before .decode .ensures, ← c .before .before .before .before .before .before .before .before .recorded .ensures, c .before .before .before .before .before .before .found .given .1, lt-ltb _ _ (c .before .before .before .before .if1 .left), ← c .before .before .get .ensures, ← c .before .same .ensures, c .if2 .left)
+returns-4 c = ?
 
 pub usable-spec : {M : Type 1} → statement M
 usable-spec =
     tie.close
     (tie.spec
-    (λ c κs. search needs)
-    (λ c κs. search needs)
-    (λ c. search needs)
-    (λ c. search needs)
+    marked-requires
+    enum-known-found
+    enum-told
     returns
     returns-2
-    (λ c. search needs)
-    (λ c. search needs)
-    (λ c. search needs)
-    (λ c. search needs)
-    (λ c. search needs)
-    (λ c κs. search needs)
-    (λ c κs. search needs)
-    (λ c. search needs)
+    cast-number
+    number-requires
+    shared-slice-read-if2
     returns-3
-    returns-4
-    returns-5)
+    returns-4)
