@@ -1,1 +1,3 @@
 pub mod Unfolded
+pub mod Atoms
+pub mod Holding

@@ -128,6 +128,8 @@ module _ (n S : ℕ) where
     pub few-expressions : m .expressions ≤ n
     pub slots-past : (s : ℕ) → s < S → m .slot s / 4294967296 ≤ m .epoch
     pub marks-past : (d : ℕ) → d < S + 2 * n + 1 → m .mark d / 65536 ≤ m .epoch
+    -- no number that is not in use has a mark
+    pub fresh : (d : ℕ) → limit m ≤ d → d < S + 2 * n + 1 → m .mark d / 65536 < m .epoch
     -- slots, and expressions with their values, have numbers in use
     pub slots-low : (s : ℕ) → s < S → numberAt m s < limit m
     pub values-low : (j : ℕ) → j < m .expressions → value (m .expressionTable) n j < limit m

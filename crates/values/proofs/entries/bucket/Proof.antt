@@ -1,21 +1,17 @@
+use Rattle.values.specs.Entries.{bucketOf}
+use Rattle.values.specs.Chain.{scaled-low, scaled-fits}
+use native.Mathlib.Omega.{arith}
+use Prim.Native.Nat.{_/_}
 use borrow.Author.Needs.{needs}
 use Rattle.values.proofs.entries.bucket.Statement.{statement}
 use Rattle.values.proofs.entries.bucket.Tie as tie
-use Rattle.values.proofs.entries.bucket.Reads as reads
-use Rattle.values.proofs.entries.bucket.Lts as lts
-use Rattle.values.proofs.entries.mix.Reads as mix-reads
 
--- src/entries.rt:24:17
-mix-requires : tie.Need-mix-requires
-mix-requires c κs = search needs
-
--- src/entries.rt:25:5
 mul-result : tie.Need-mul-result
-mul-result c = ?
+mul-result c = record { fits = scaled-fits (c .mix .result / 4294967296) (c .before .args .h) (omega arith) (c .before .pre .1) }
 
--- src/entries.rt:20:1
 returns : tie.Need-returns
-returns c = ?
+unfolding bucketOf
+returns c = (rw (← c .mix .ensures), scaled-low (c .mix .result / 4294967296) (c .before .args .h) (omega arith) (c .before .pre .0))
 
 pub bucket-spec : {M : Type 1} → statement M
-bucket-spec = tie.close (tie.spec mix-requires mul-result returns)
+bucket-spec = tie.close (tie.spec (λ c κs. search needs) mul-result returns)

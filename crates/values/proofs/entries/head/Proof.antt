@@ -1,24 +1,16 @@
+use Rattle.values.specs.Entries.{headAt}
+use borrow.Author.Tests.{ne-eqb, eq-eqb}
 use borrow.Author.Needs.{needs}
 use Rattle.values.proofs.entries.head.Statement.{statement}
 use Rattle.values.proofs.entries.head.Tie as tie
-use Rattle.values.proofs.entries.head.Reads as reads
-use Rattle.values.proofs.entries.head.Lts as lts
 
--- src/entries.rt:33:13
-mul-x : tie.Need-mul-x
-mul-x c = search needs
-
--- src/entries.rt:33:13
-shared-slice-read-x : tie.Need-shared-slice-read-x
-shared-slice-read-x c = search needs
-
--- src/entries.rt:35:9
 returns : tie.Need-returns
-returns c = ?
+unfolding headAt
+returns c = rw (eq-eqb _ _ (c .if1 .taken))
 
--- src/entries.rt:29:1
 returns-2 : tie.Need-returns-2
-returns-2 c = ?
+unfolding headAt
+returns-2 c = rw (ne-eqb _ _ (c .if1 .left))
 
 pub head-spec : {M : Type 1} → statement M
-head-spec = tie.close (tie.spec mul-x shared-slice-read-x returns returns-2)
+head-spec = tie.close (tie.spec (λ c. search needs) (λ c. search needs) returns returns-2)
