@@ -1,3 +1,4 @@
 pub mod Unfolded
 pub mod Atoms
 pub mod Holding
+pub mod Walking

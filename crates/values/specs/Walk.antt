@@ -19,7 +19,8 @@ use Rattle.effects.specs.Cells.{cellOf, cellsBy}
 use Rattle.values.specs.Table.{Values, Expression, Represented, empty, valueOf, representative, store, learn}
 use Rattle.values.specs.Folded.{expressionOf}
 use Rattle.values.specs.Number.{Numbered, isScalar, cleared, constantAtom, setBC, foldUnary, foldBinary, stored, byValue, numberUnary, numberBinary, numberCopy, numberConstant, numberRead, numberBy, number, numberFrom, numberCode}
-use Rattle.values.specs.Memory.{Memory, memoryOf, numberAt, constantOf, constantKey, limit, atomIn, Ready, Holds}
+use Rattle.values.specs.Entries.{key}
+use Rattle.values.specs.Memory.{Memory, memoryOf, numberAt, constantOf, constantKey, expressionKey, limit, atomIn, Ready, Holds}
 use Rattle.values.specs.Kept.{Kept, Same}
 use Rattle.values.specs.declared.Atom.{Atom}
 use Rattle.values.specs.declared.Atom.the-variants.{Integer, Float, Definition}
@@ -100,6 +101,18 @@ KindOf Unknown = Unit {0}
 unfoldable pub secondNumber : ℕ → ℕ → Memory → ℕ → Bool → ℕ
 secondNumber n S m s true = numberAt m s
 secondNumber n S m s false = S + n
+
+-- the word of an expression of two numbers that are in use
+pub record Coded (n S : ℕ) (m : Memory) (word : ℕ) : Type 0 where
+  pub op : ℕ
+  pub flags : ℕ
+  pub left : ℕ
+  pub right : ℕ
+  pub op-fits : op < 256
+  pub flags-fits : flags < 256
+  pub left-low : left < limit n S m
+  pub right-low : right < limit n S m
+  pub is : key word 0 ≡ expressionKey op flags left right
 
 -- the second operand of a binary opcode
 pub record Second (n S : ℕ) (types : List ℕ) (t : List ℕ) (s d : ℕ) (binary : Bool) (slot : ℕ) (t′ : List ℕ) : Type 0 where

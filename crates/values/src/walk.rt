@@ -14,7 +14,7 @@ ghost use Rattle.values.specs.Folded.{expressionOf};
 ghost use Rattle.values.specs.Memory.{memoryOf, numberAt, constantOf, constantKey, expressionKey, limit, atomIn, endAt, Ready, Holds};
 ghost use Rattle.values.specs.Entries.{key, bucketOf};
 ghost use Rattle.values.specs.Kept.{Clears};
-ghost use Rattle.values.specs.Walk.{Named, wordOf, Stands, Becomes, Room, Second, secondNumber, foldBy, binaryClass, onZero, atomOf, KindOf, operated, scalarIn, pureBy, undecidedBy, takes, otherBy, sectionsOf, Begins, Enters, Turns, Numberable};
+ghost use Rattle.values.specs.Walk.{Named, wordOf, Stands, Becomes, Room, Coded, Second, secondNumber, foldBy, binaryClass, onZero, atomOf, KindOf, operated, scalarIn, pureBy, undecidedBy, takes, otherBy, sectionsOf, Begins, Enters, Turns, Numberable};
 ghost use Rattle.instruction.specs.declared.Class.the-variants.{Return};
 ghost use Rattle.values.specs.declared.Atom.the-variants.{Definition};
 use crate::Atom;
@@ -76,7 +76,7 @@ fn store_constant(
 // The word of an expression: opcode, flags and the numbers of both values.
 fn expression_word(op: u8, flags: u8, left: u64, right: u64) -> u64
     requires { ⌜ (left < 16777216) × (right < 16777216) ⌝ }
-    ensures { λ r. ⌜ key r 0 ≡ expressionKey op flags left right ⌝ }
+    ensures { λ r. ⌜ (op < 256) × (flags < 256) × (key r 0 ≡ expressionKey op flags left right) ⌝ }
 {
     (op as u64) + 256 * (flags as u64) + 65536 * left + 1099511627776 * right
 }
@@ -113,7 +113,7 @@ fn define(
     b: usize,
     word: u64,
 ) -> Instruction
-    requires { ⌜ Room n (length (now types)) (now t) × (i .a < length (now types)) × (p < n) × (b ≡ bucketOf n (key word 0)) × (b < n) ⌝ }
+    requires { ⌜ Room n (length (now types)) (now t) × (i .a < length (now types)) × (p < n) × (b ≡ bucketOf n (key word 0)) × (b < n) × Coded n (length (now types)) (memoryOf n (length (now types)) (now t)) word ⌝ }
     ensures { λ r. ⌜ ((op flags left right : ℕ) → op < 256 → flags < 256 → left < limit n (length (now (types .entry))) (memoryOf n (length (now (types .entry))) (now (t .entry))) → right < limit n (length (now (types .entry))) (memoryOf n (length (now (types .entry))) (now (t .entry))) → key word 0 ≡ expressionKey op flags left right → Becomes n (now (types .entry)) 0 0 1 (now (t .entry)) r (now (t .exit)) (λ dest constants. Stands n p i dest) (λ dest S x. storedBy S i (learn x (expressionOf op flags (atomIn n (length (now (types .entry))) dest (memoryOf n (length (now (types .entry))) (now (t .entry))) left) (atomIn n (length (now (types .entry))) dest (memoryOf n (length (now (types .entry))) (now (t .entry))) right)) (Definition p (i .a))) (Definition p (i .a)))) ⌝ }
 {
     let locals = types.len();

@@ -1,70 +1,29 @@
+use Rattle.values.proofs.Walking.{found-low, expression-found, expression-none}
 use borrow.Author.Needs.{needs}
 use Rattle.values.proofs.walk.by_expression.Statement.{statement}
 use Rattle.values.proofs.walk.by_expression.Tie as tie
-use Rattle.values.proofs.walk.by_expression.Reads as reads
-use Rattle.values.proofs.walk.by_expression.Lts as lts
-use Rattle.values.proofs.entries.bucket.Reads as bucket-reads
-use Rattle.values.proofs.table.find_expression.Reads as find-expression-reads
-use Rattle.values.proofs.walk.copy_or_stay.Reads as copy-or-stay-reads
-use Rattle.values.proofs.walk.define.Reads as define-reads
-use Rattle.values.proofs.walk.expression_word.Reads as expression-word-reads
 
--- src/walk.rt:138:9
-expression-word-requires : tie.Need-expression-word-requires
-expression-word-requires c κs = search needs
-
--- src/walk.rt:139:9
-bucket-requires : tie.Need-bucket-requires
-bucket-requires c κs = search needs
-
--- src/walk.rt:140:11
-find-expression-requires : tie.Need-find-expression-requires
-find-expression-requires c κs = search needs
-
--- src/walk.rt:141:19
-enum-known-d : tie.Need-enum-known-d
-enum-known-d c = search needs
-
--- src/walk.rt:141:25
 copy-or-stay-requires : tie.Need-copy-or-stay-requires
-copy-or-stay-requires c κs = ?
+copy-or-stay-requires c κs = (c .before .before .before .before .before .before .before .before .before .before .pre .0 .ready, c .before .before .before .before .before .before .before .before .before .before .pre .1, found-low (c .before .before .before .before .before .before .before .before .before .before .pre .0 .ready) _ _ (c .before .before .before .before .find-expression .ensures) (c .before .before .d .given .1))
 
--- src/walk.rt:142:34
-enum-told : tie.Need-enum-told
-enum-told c = search needs
-
--- src/walk.rt:142:27
-define-requires : tie.Need-define-requires
-define-requires c κs = search needs
-
--- src/walk.rt:126:1
-same-length : tie.Need-same-length
-same-length c = search needs
-
--- src/walk.rt:126:1
 returns : tie.Need-returns
-returns c = ?
+returns c = expression-found (c .before .before .before .before .before .before .before .before .before .before .before .before .before .args .i) (c .before .before .before .before .before .before .before .before .before .before .before .before .before .args .p) (c .before .before .before .before .before .before .before .before .before .before .before .before .before .args .left) (c .before .before .before .before .before .before .before .before .before .before .before .before .before .args .right) (c .before .before .before .before .before .before .before .before .before .before .before .before .before .pre .3) (c .before .before .before .before .before .before .before .before .before .before .before .before .before .pre .4) (c .before .before .before .before .before .before .before .before .before .before .expression-word .ensures .2) _ (c .before .before .before .before .before .before .before .find-expression .ensures) (c .before .before .before .before .before .d .given .1) (c .before .before .copy-or-stay .ensures)
 
--- src/walk.rt:126:1
-same-length-2 : tie.Need-same-length-2
-same-length-2 c = search needs
-
--- src/walk.rt:126:1
 returns-2 : tie.Need-returns-2
-returns-2 c = ?
+returns-2 c = expression-none (c .before .before .before .before .before .before .before .before .before .before .before .before .args .i) (c .before .before .before .before .before .before .before .before .before .before .before .before .args .p) (c .before .before .before .before .before .before .before .before .before .before .before .before .args .left) (c .before .before .before .before .before .before .before .before .before .before .before .before .args .right) (c .before .before .before .before .before .before .before .before .before .before .before .before .pre .3) (c .before .before .before .before .before .before .before .before .before .before .before .before .pre .4) (c .before .before .before .before .before .before .before .before .before .expression-word .ensures .2) (c .before .before .before .before .before .before .find-expression .ensures) (c .before .before .before .before .enum-told .given .1) (c .before .before .before .before .before .before .before .before .before .expression-word .ensures .0) (c .before .before .before .before .before .before .before .before .before .expression-word .ensures .1) (c .before .before .define .ensures)
 
 pub by-expression-spec : {M : Type 1} → statement M
 by-expression-spec =
     tie.close
     (tie.spec
-    expression-word-requires
-    bucket-requires
-    find-expression-requires
-    enum-known-d
+    (λ c κs. search needs)
+    (λ c κs. search needs)
+    (λ c κs. search needs)
+    (λ c. search needs)
     copy-or-stay-requires
-    enum-told
-    define-requires
-    same-length
+    (λ c. search needs)
+    (λ c κs. search needs)
+    (λ c. search needs)
     returns
-    same-length-2
+    (λ c. search needs)
     returns-2)

@@ -1,3 +1,4 @@
+use borrow.Author.Needs.{needs}
 use Rattle.values.proofs.walk.number_one.Statement.{statement}
 use Rattle.values.proofs.walk.number_one.Tie as tie
 use Rattle.values.proofs.walk.number_one.Reads as reads
@@ -10,11 +11,11 @@ use Rattle.values.proofs.walk.number_return.Reads as number-return-read
 
 -- src/walk.rt:451:9
 class-requires : tie.Need-class-requires
-class-requires c κs = ?
+class-requires c κs = search needs
 
 -- src/walk.rt:453:73
 jumps-on-zero-requires : tie.Need-jumps-on-zero-requires
-jumps-on-zero-requires c κs = ?
+jumps-on-zero-requires c κs = search needs
 
 -- src/walk.rt:453:45
 number-jump-requires : tie.Need-number-jump-requires
@@ -22,7 +23,7 @@ number-jump-requires c κs = ?
 
 -- src/walk.rt:454:40
 enum-told : tie.Need-enum-told
-enum-told c = ?
+enum-told c = search needs
 
 -- src/walk.rt:454:26
 number-return-requires : tie.Need-number-return-requires
@@ -34,7 +35,7 @@ number-other-requires c κs = ?
 
 -- src/walk.rt:440:1
 same-length : tie.Need-same-length
-same-length c = ?
+same-length c = search needs
 
 -- src/walk.rt:440:1
 returns : tie.Need-returns
@@ -42,7 +43,7 @@ returns c = ?
 
 -- src/walk.rt:440:1
 same-length-2 : tie.Need-same-length-2
-same-length-2 c = ?
+same-length-2 c = search needs
 
 -- src/walk.rt:440:1
 returns-2 : tie.Need-returns-2
@@ -50,7 +51,7 @@ returns-2 c = ?
 
 -- src/walk.rt:440:1
 same-length-3 : tie.Need-same-length-3
-same-length-3 c = ?
+same-length-3 c = search needs
 
 -- src/walk.rt:440:1
 returns-3 : tie.Need-returns-3

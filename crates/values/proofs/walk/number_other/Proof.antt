@@ -1,3 +1,4 @@
+use borrow.Author.Needs.{needs}
 use Rattle.values.proofs.walk.number_other.Statement.{statement}
 use Rattle.values.proofs.walk.number_other.Tie as tie
 use Rattle.values.proofs.walk.number_other.Reads as reads
@@ -8,15 +9,15 @@ use Rattle.values.proofs.walk.scalar.Reads as scalar-reads
 
 -- src/walk.rt:422:8
 scalar-requires : tie.Need-scalar-requires
-scalar-requires c κs = ?
+scalar-requires c κs = search needs
 
 -- src/walk.rt:423:9
 number-pure-requires : tie.Need-number-pure-requires
-number-pure-requires c κs = ?
+number-pure-requires c κs = search needs
 
 -- src/walk.rt:423:9
 same-length : tie.Need-same-length
-same-length c = ?
+same-length c = search needs
 
 -- src/walk.rt:423:9
 returns : tie.Need-returns
@@ -24,11 +25,11 @@ returns c = ?
 
 -- src/walk.rt:425:5
 forget-requires : tie.Need-forget-requires
-forget-requires c κs = ?
+forget-requires c κs = search needs
 
 -- src/walk.rt:410:1
 same-length-2 : tie.Need-same-length-2
-same-length-2 c = ?
+same-length-2 c = search needs
 
 -- src/walk.rt:410:1
 returns-2 : tie.Need-returns-2

@@ -1,3 +1,4 @@
+use borrow.Author.Needs.{needs}
 use Rattle.values.proofs.walk.number_pure.Statement.{statement}
 use Rattle.values.proofs.walk.number_pure.Tie as tie
 use Rattle.values.proofs.walk.number_pure.Reads as reads
@@ -13,11 +14,11 @@ use Rattle.values.proofs.walk.store_constant.Reads as store-constant-re
 
 -- src/walk.rt:330:42
 enum-told : tie.Need-enum-told
-enum-told c = ?
+enum-told c = search needs
 
 -- src/walk.rt:330:61
 imm32-requires : tie.Need-imm32-requires
-imm32-requires c κs = ?
+imm32-requires c κs = search needs
 
 -- src/walk.rt:330:27
 store-constant-requires : tie.Need-store-constant-requires
@@ -25,15 +26,15 @@ store-constant-requires c κs = ?
 
 -- src/walk.rt:332:61
 enum-told-2 : tie.Need-enum-told-2
-enum-told-2 c = ?
+enum-told-2 c = search needs
 
 -- src/walk.rt:332:61
 cast-constant : tie.Need-cast-constant
-cast-constant c = ?
+cast-constant c = search needs
 
 -- src/walk.rt:332:17
 constant-requires : tie.Need-constant-requires
-constant-requires c κs = ?
+constant-requires c κs = search needs
 
 -- src/walk.rt:333:13
 number-constant-requires : tie.Need-number-constant-requires
@@ -41,7 +42,7 @@ number-constant-requires c κs = ?
 
 -- src/walk.rt:335:36
 enum-told-3 : tie.Need-enum-told-3
-enum-told-3 c = ?
+enum-told-3 c = search needs
 
 -- src/walk.rt:335:24
 number-copy-requires : tie.Need-number-copy-requires
@@ -49,7 +50,7 @@ number-copy-requires c κs = ?
 
 -- src/walk.rt:336:76
 is-binary-requires : tie.Need-is-binary-requires
-is-binary-requires c κs = ?
+is-binary-requires c κs = search needs
 
 -- src/walk.rt:336:41
 number-operator-requires : tie.Need-number-operator-requires
@@ -57,11 +58,11 @@ number-operator-requires c κs = ?
 
 -- src/walk.rt:337:14
 forget-requires : tie.Need-forget-requires
-forget-requires c κs = ?
+forget-requires c κs = search needs
 
 -- src/walk.rt:317:1
 same-length : tie.Need-same-length
-same-length c = ?
+same-length c = search needs
 
 -- src/walk.rt:317:1
 returns : tie.Need-returns
@@ -69,7 +70,7 @@ returns c = ?
 
 -- src/walk.rt:317:1
 same-length-2 : tie.Need-same-length-2
-same-length-2 c = ?
+same-length-2 c = search needs
 
 -- src/walk.rt:317:1
 returns-2 : tie.Need-returns-2
@@ -77,7 +78,7 @@ returns-2 c = ?
 
 -- src/walk.rt:317:1
 same-length-3 : tie.Need-same-length-3
-same-length-3 c = ?
+same-length-3 c = search needs
 
 -- src/walk.rt:317:1
 returns-3 : tie.Need-returns-3
@@ -85,7 +86,7 @@ returns-3 c = ?
 
 -- src/walk.rt:317:1
 same-length-4 : tie.Need-same-length-4
-same-length-4 c = ?
+same-length-4 c = search needs
 
 -- src/walk.rt:317:1
 returns-4 : tie.Need-returns-4
@@ -93,7 +94,7 @@ returns-4 c = ?
 
 -- src/walk.rt:317:1
 same-length-5 : tie.Need-same-length-5
-same-length-5 c = ?
+same-length-5 c = search needs
 
 -- src/walk.rt:317:1
 returns-5 : tie.Need-returns-5

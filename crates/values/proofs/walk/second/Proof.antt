@@ -1,25 +1,18 @@
+use Rattle.values.proofs.Walking.{second-chosen, second-none}
+use Rattle.values.specs.Walk.{secondNumber}
 use borrow.Author.Needs.{needs}
 use Rattle.values.proofs.walk.second.Statement.{statement}
 use Rattle.values.proofs.walk.second.Tie as tie
-use Rattle.values.proofs.walk.second.Reads as reads
-use Rattle.values.proofs.walk.second.Lts as lts
-use Rattle.values.proofs.table.representative.Reads as representative-reads
 
--- src/walk.rt:183:9
 representative-requires : tie.Need-representative-requires
-representative-requires c κs = ?
+unfolding secondNumber
+representative-requires c κs = (c .before .before .before .before .pre .0, c .before .before .before .before .pre .1 (c .before .if1 .taken), rw (c .before .if1 .taken) at (c .before .before .before .before .pre .2))
 
--- src/walk.rt:183:9
-same-length : tie.Need-same-length
-same-length c = search needs
-
--- src/walk.rt:183:9
 returns : tie.Need-returns
-returns c = ?
+returns c = second-chosen _ (c .before .before .before .before .if1 .taken) (c .before .before .representative .ensures)
 
--- src/walk.rt:178:1
 returns-2 : tie.Need-returns-2
-returns-2 c = ?
+returns-2 c = second-none _ (c .before .before .before .pre .0) (c .if1 .left)
 
 pub second-spec : {M : Type 1} → statement M
-second-spec = tie.close (tie.spec representative-requires same-length returns returns-2)
+second-spec = tie.close (tie.spec representative-requires (λ c. search needs) returns returns-2)

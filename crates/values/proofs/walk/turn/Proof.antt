@@ -1,3 +1,4 @@
+use borrow.Author.Needs.{needs}
 use Rattle.values.proofs.walk.turn.Statement.{statement}
 use Rattle.values.proofs.walk.turn.Tie as tie
 use Rattle.values.proofs.walk.turn.Reads as reads
@@ -9,11 +10,11 @@ use Rattle.values.proofs.walk.number_one.Reads as number-one-reads
 
 -- src/walk.rt:486:5
 enter-requires : tie.Need-enter-requires
-enter-requires c κs = ?
+enter-requires c κs = search needs
 
 -- src/walk.rt:487:9
 from-word-requires : tie.Need-from-word-requires
-from-word-requires c κs = ?
+from-word-requires c κs = search needs
 
 -- src/walk.rt:488:9
 number-one-requires : tie.Need-number-one-requires
@@ -21,11 +22,11 @@ number-one-requires c κs = ?
 
 -- src/walk.rt:489:5
 word-requires : tie.Need-word-requires
-word-requires c κs = ?
+word-requires c κs = search needs
 
 -- src/walk.rt:482:1
 same-length : tie.Need-same-length
-same-length c = ?
+same-length c = search needs
 
 -- src/walk.rt:482:1
 returns : tie.Need-returns
