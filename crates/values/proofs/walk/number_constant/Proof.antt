@@ -1,58 +1,27 @@
+use Rattle.values.proofs.Walking.{kind-known, constant-becomes, forget-becomes, constant-unknown}
 use borrow.Author.Needs.{needs}
 use Rattle.values.proofs.walk.number_constant.Statement.{statement}
 use Rattle.values.proofs.walk.number_constant.Tie as tie
-use Rattle.values.proofs.walk.number_constant.Reads as reads
-use Rattle.values.proofs.walk.number_constant.Lts as lts
-use Rattle.values.proofs.walk.forget.Reads as forget-reads
-use Rattle.values.proofs.walk.loaded.Reads as loaded-reads
-use Rattle.values.proofs.walk.store_constant.Reads as store-constant-reads
 
--- src/walk.rt:289:11
-loaded-requires : tie.Need-loaded-requires
-loaded-requires c κs = search needs
-
--- src/walk.rt:290:23
-enum-known-kind : tie.Need-enum-known-kind
-enum-known-kind c = search needs
-
--- src/walk.rt:290:38
 store-constant-requires : tie.Need-store-constant-requires
-store-constant-requires c κs = ?
+store-constant-requires c κs = (c .before .before .before .before .before .before .before .pre .0, c .before .before .before .before .before .before .before .pre .1, kind-known (c .before .before .before .before .loaded .ensures .1) (c .before .before .kind .given .1))
 
--- src/walk.rt:291:35
-enum-told : tie.Need-enum-told
-enum-told c = search needs
-
--- src/walk.rt:291:28
-forget-requires : tie.Need-forget-requires
-forget-requires c κs = search needs
-
--- src/walk.rt:279:1
-same-length : tie.Need-same-length
-same-length c = search needs
-
--- src/walk.rt:279:1
 returns : tie.Need-returns
-returns c = ?
+returns c = constant-becomes (c .before .before .before .before .before .before .before .before .before .before .args .i) (c .before .before .before .before .before .before .before .loaded .ensures .0) (c .before .before .before .before .before .kind .given .1) (c .before .before .store-constant .ensures)
 
--- src/walk.rt:279:1
-same-length-2 : tie.Need-same-length-2
-same-length-2 c = search needs
-
--- src/walk.rt:279:1
 returns-2 : tie.Need-returns-2
-returns-2 c = ?
+returns-2 c = forget-becomes (c .before .before .forget .ensures) (λ dest. constant-unknown _ (c .before .before .before .before .before .before .before .before .before .args .i) (c .before .before .before .before .before .before .loaded .ensures .0) (c .before .before .before .before .enum-told .given .1))
 
 pub number-constant-spec : {M : Type 1} → statement M
 number-constant-spec =
     tie.close
     (tie.spec
-    loaded-requires
-    enum-known-kind
+    (λ c κs. search needs)
+    (λ c. search needs)
     store-constant-requires
-    enum-told
-    forget-requires
-    same-length
+    (λ c. search needs)
+    (λ c κs. search needs)
+    (λ c. search needs)
     returns
-    same-length-2
+    (λ c. search needs)
     returns-2)

@@ -1,63 +1,33 @@
+use Rattle.values.proofs.Walking.{return-read, return-other, forget-becomes}
+use borrow.Author.Tests.{eq-eqb, ne-eqb}
+use mathlib.Core.Path.{sym, _∙_}
 use borrow.Author.Needs.{needs}
 use Rattle.values.proofs.walk.number_return.Statement.{statement}
 use Rattle.values.proofs.walk.number_return.Tie as tie
-use Rattle.values.proofs.walk.number_return.Reads as reads
-use Rattle.values.proofs.walk.number_return.Lts as lts
-use Rattle.values.proofs.walk.forget.Reads as forget-reads
-use Rattle.values.proofs.walk.number_read.Reads as number-read-reads
-use Rattle.values.proofs.walk.scalar.Reads as scalar-reads
 
--- src/walk.rt:401:12
-scalar-requires : tie.Need-scalar-requires
-scalar-requires c κs = search needs
-
--- src/walk.rt:402:13
 number-read-requires : tie.Need-number-read-requires
-number-read-requires c κs = ?
+number-read-requires c κs = (c .before .before .before .before .before .before .before .pre .0, c .before .before .before .before .before .before .before .pre .1 (c .before .before .before .if1 .taken))
 
--- src/walk.rt:402:13
-same-length : tie.Need-same-length
-same-length c = search needs
-
--- src/walk.rt:402:13
 returns : tie.Need-returns
-returns c = ?
+returns c = return-read (c .before .before .before .before .before .before .before .before .before .before .args .i) (c .before .before .before .before .before .before .if1 .taken) (c .before .before .before .before .before .scalar .ensures) (c .before .before .before .before .if2 .taken) (c .before .before .number-read .ensures)
 
--- src/walk.rt:404:9
-forget-requires : tie.Need-forget-requires
-forget-requires c κs = search needs
-
--- src/walk.rt:404:9
-same-length-2 : tie.Need-same-length-2
-same-length-2 c = search needs
-
--- src/walk.rt:404:9
 returns-2 : tie.Need-returns-2
-returns-2 c = ?
+returns-2 c = forget-becomes (c .before .before .forget .ensures) (λ dest d l T v. return-other _ (c .before .before .before .before .before .before .before .before .before .before .args .i) d l T v (rw (eq-eqb (c .before .before .before .before .before .before .before .before .before .before .args .i .b) 1 (c .before .before .before .before .before .before .if1 .taken)) (sym (c .before .before .before .before .before .scalar .ensures) ∙ c .before .before .before .before .if2 .left)))
 
--- src/walk.rt:406:5
-forget-requires-2 : tie.Need-forget-requires-2
-forget-requires-2 c κs = search needs
-
--- src/walk.rt:396:1
-same-length-3 : tie.Need-same-length-3
-same-length-3 c = search needs
-
--- src/walk.rt:396:1
 returns-3 : tie.Need-returns-3
-returns-3 c = ?
+returns-3 c = forget-becomes (c .before .before .forget2 .ensures) (λ dest d l T v. return-other _ (c .before .before .before .before .before .before .before .before .args .i) d l T v (rw (ne-eqb (c .before .before .before .before .before .before .before .before .args .i .b) 1 (c .before .before .before .before .if1 .left))))
 
 pub number-return-spec : {M : Type 1} → statement M
 number-return-spec =
     tie.close
     (tie.spec
-    scalar-requires
+    (λ c κs. search needs)
     number-read-requires
-    same-length
+    (λ c. search needs)
     returns
-    forget-requires
-    same-length-2
+    (λ c κs. search needs)
+    (λ c. search needs)
     returns-2
-    forget-requires-2
-    same-length-3
+    (λ c κs. search needs)
+    (λ c. search needs)
     returns-3)
