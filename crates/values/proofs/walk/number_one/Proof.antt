@@ -1,75 +1,45 @@
+use Rattle.values.proofs.Walking.{as-becomes, number-other, jump-named, jump-by}
+use native.Mathlib.Omega.{arith}
+use mathlib.Core.Path.{sym, _∙_}
+use Rattle.values.specs.Number.{numberBy}
+use Rattle.values.specs.Walk.{Named}
 use borrow.Author.Needs.{needs}
 use Rattle.values.proofs.walk.number_one.Statement.{statement}
 use Rattle.values.proofs.walk.number_one.Tie as tie
-use Rattle.values.proofs.walk.number_one.Reads as reads
-use Rattle.values.proofs.walk.number_one.Lts as lts
-use Rattle.instruction.proofs.Instruction.class.Reads as class-reads
-use Rattle.values.proofs.walk.jumps_on_zero.Reads as jumps-on-zero-reads
-use Rattle.values.proofs.walk.number_jump.Reads as number-jump-reads
-use Rattle.values.proofs.walk.number_other.Reads as number-other-reads
-use Rattle.values.proofs.walk.number_return.Reads as number-return-reads
 
--- src/walk.rt:451:9
-class-requires : tie.Need-class-requires
-class-requires c κs = search needs
-
--- src/walk.rt:453:73
-jumps-on-zero-requires : tie.Need-jumps-on-zero-requires
-jumps-on-zero-requires c κs = search needs
-
--- src/walk.rt:453:45
 number-jump-requires : tie.Need-number-jump-requires
-number-jump-requires c κs = ?
+number-jump-requires c κs = (c .before .before .before .before .before .before .before .pre .0, jump-named (c .before .before .before .class .result) _ (c .before .before .before .before .before .before .before .args .i) (c .before .before .match .keys1) (rw (c .before .before .before .class .ensures) (c .before .before .before .before .before .before .before .pre .1)))
 
--- src/walk.rt:454:40
-enum-told : tie.Need-enum-told
-enum-told c = search needs
-
--- src/walk.rt:454:26
 number-return-requires : tie.Need-number-return-requires
-number-return-requires c κs = ?
+unfolding Named
+number-return-requires c κs = let k = sym (c .before .before .before .class .ensures) ∙ c .before .enum-told .given .1 in (c .before .before .before .before .before .before .before .pre .0, rw k at (c .before .before .before .before .before .before .before .pre .1))
 
--- src/walk.rt:455:14
 number-other-requires : tie.Need-number-other-requires
-number-other-requires c κs = ?
+number-other-requires c κs = (c .before .before .before .before .before .before .pre .0, rw (c .before .before .class .ensures) (c .before .before .before .before .before .before .pre .1), c .before .before .before .before .before .before .pre .2)
 
--- src/walk.rt:440:1
-same-length : tie.Need-same-length
-same-length c = search needs
-
--- src/walk.rt:440:1
 returns : tie.Need-returns
-returns c = ?
+returns c = as-becomes (omega arith) (omega arith) (omega arith) (λ dest d l T v y h. (tt, rw (← c .before .before .before .before .before .before .class .ensures, c .before .before .before .jumps-on-zero .ensures) (jump-by _ _ (c .before .before .before .before .before .before .before .before .before .before .args .p) (c .before .before .before .before .before .before .before .before .before .before .args .i) v (c .before .before .before .before .before .match .keys1)))) (c .before .before .number-jump .ensures)
 
--- src/walk.rt:440:1
-same-length-2 : tie.Need-same-length-2
-same-length-2 c = search needs
-
--- src/walk.rt:440:1
 returns-2 : tie.Need-returns-2
-returns-2 c = ?
+unfolding Named numberBy
+returns-2 c = let k = sym (c .before .before .before .before .before .before .class .ensures) ∙ c .before .before .before .before .enum-told .given .1 in as-becomes (omega arith) (omega arith) (omega arith) (λ dest d l T v y h. (tt, rw k)) (c .before .before .number-return .ensures)
 
--- src/walk.rt:440:1
-same-length-3 : tie.Need-same-length-3
-same-length-3 c = search needs
-
--- src/walk.rt:440:1
 returns-3 : tie.Need-returns-3
-returns-3 c = ?
+returns-3 c = as-becomes (omega arith) (omega arith) (omega arith) (λ dest d l T v y h. (y, sym (rw (← c .before .before .before .before .before .class .ensures) (number-other _ _ (c .before .before .before .before .before .before .before .before .before .args .p) (c .before .before .before .before .before .before .before .before .before .args .i) v (c .before .before .before .before .match .keys3))))) (c .before .before .number-other .ensures)
 
 pub number-one-spec : {M : Type 1} → statement M
 number-one-spec =
     tie.close
     (tie.spec
-    class-requires
-    jumps-on-zero-requires
+    (λ c κs. search needs)
+    (λ c κs. search needs)
     number-jump-requires
-    enum-told
+    (λ c. search needs)
     number-return-requires
     number-other-requires
-    same-length
+    (λ c. search needs)
     returns
-    same-length-2
+    (λ c. search needs)
     returns-2
-    same-length-3
+    (λ c. search needs)
     returns-3)

@@ -1,48 +1,22 @@
+use Rattle.values.proofs.Walking.{other-pure, other-cleared, forget-becomes}
 use borrow.Author.Needs.{needs}
 use Rattle.values.proofs.walk.number_other.Statement.{statement}
 use Rattle.values.proofs.walk.number_other.Tie as tie
-use Rattle.values.proofs.walk.number_other.Reads as reads
-use Rattle.values.proofs.walk.number_other.Lts as lts
-use Rattle.values.proofs.walk.forget.Reads as forget-reads
-use Rattle.values.proofs.walk.number_pure.Reads as number-pure-reads
-use Rattle.values.proofs.walk.scalar.Reads as scalar-reads
 
--- src/walk.rt:422:8
-scalar-requires : tie.Need-scalar-requires
-scalar-requires c κs = search needs
-
--- src/walk.rt:423:9
-number-pure-requires : tie.Need-number-pure-requires
-number-pure-requires c κs = search needs
-
--- src/walk.rt:423:9
-same-length : tie.Need-same-length
-same-length c = search needs
-
--- src/walk.rt:423:9
 returns : tie.Need-returns
-returns c = ?
+returns c = other-pure (c .before .before .before .before .before .before .before .before .before .args .i) (c .before .before .before .before .before .before .before .before .before .args .p) (c .before .before .before .before .before .before .before .before .before .args .k) (c .before .before .before .before .before .scalar .ensures) (c .before .before .before .before .if1 .taken) (c .before .before .number-pure .ensures)
 
--- src/walk.rt:425:5
-forget-requires : tie.Need-forget-requires
-forget-requires c κs = search needs
-
--- src/walk.rt:410:1
-same-length-2 : tie.Need-same-length-2
-same-length-2 c = search needs
-
--- src/walk.rt:410:1
 returns-2 : tie.Need-returns-2
-returns-2 c = ?
+returns-2 c = forget-becomes (c .before .before .forget .ensures) (λ dest. other-cleared _ (c .before .before .before .before .before .before .before .before .before .args .i) (c .before .before .before .before .before .before .before .before .before .args .p) (c .before .before .before .before .before .before .before .before .before .args .k) (c .before .before .before .before .before .scalar .ensures) (c .before .before .before .before .if1 .left))
 
 pub number-other-spec : {M : Type 1} → statement M
 number-other-spec =
     tie.close
     (tie.spec
-    scalar-requires
-    number-pure-requires
-    same-length
+    (λ c κs. search needs)
+    (λ c κs. search needs)
+    (λ c. search needs)
     returns
-    forget-requires
-    same-length-2
+    (λ c κs. search needs)
+    (λ c. search needs)
     returns-2)
