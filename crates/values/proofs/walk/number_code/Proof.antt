@@ -1,111 +1,119 @@
+use mathlib.Core.Path.{_≡_, refl, sym, ap, _∙_}
+use mathlib.Core.List.{List}
+use Prim.Native.Nat.{ℕ, _-_, _≤_, _<_}
+use native.Mathlib.Nat.{zero-add}
+use native.Mathlib.Omega.{arith}
+use lib.ListN.{length, getD}
+use borrow.Rule.Slice.PartMut.{midOf, putMid}
+use Rattle.words.specs.Regions.{mid-long, get-mid}
+use Rattle.values.proofs.Loop.{Numbering, numbering-start, numbering-turn, whole-long, code-before, progress-end, turn-room, no-code}
+use borrow.Author.Needs.{needs}
 use Rattle.values.proofs.walk.number_code.Statement.{statement}
 use Rattle.values.proofs.walk.number_code.Tie as tie
-use Rattle.values.proofs.walk.number_code.Reads as reads
-use Rattle.values.proofs.walk.number_code.Lts as lts
-use Rattle.values.proofs.walk.begin.Reads as begin-reads
-use Rattle.values.proofs.walk.turn.Reads as turn-reads
 
 abbrev Inv-loop : tie.InvT-loop
-Inv-loop memory₀ leaders types constants n p₀ memory p = ?
+Inv-loop memory₀ leaders types constants n p₀ memory p = Numbering leaders types constants memory₀ memory p
 
 abbrev μ-loop : tie.MeasureT-loop
-μ-loop memory₀ leaders types constants n p₀ memory p = ?
+μ-loop memory₀ leaders types constants n p₀ memory p = length leaders - p
 
--- src/walk.rt:501:9
+abbrev Head : Type 0
+Head = tie.At-loop Inv-loop μ-loop
+
+abbrev start : Head → tie.Start Inv-loop μ-loop
+start h = h .before .before .before .before .before .before .before .before .before .before
+
+abbrev size : Head → ℕ
+size h = length (start h .args .leaders .now)
+
+abbrev given : Head → List ℕ
+given h = start h .args .memory .now
+
+-- the first table
+abbrev table : Head → List ℕ
+table h = h .before .before .before .begin .last .0
+
+-- the memory is as long as it was
+long : (h : Head) → length (h .loop .memory) ≡ length (given h)
+long h = h .loop .inv .long ∙ whole-long (size h) (given h) (table h) (omega (arith, start h .pre .long)) (h .before .before .before .begin .kept .0)
+
+room : (h : Head) → size h ≤ length (h .loop .memory)
+room h = omega (arith, long h, start h .pre .long)
+
+-- the walk starts from the code that was given
+same-code : (h : Head) → midOf 0 (size h) (putMid (size h) (length (given h) - size h) (given h) (table h)) ≡ midOf 0 (size h) (given h)
+same-code h = code-before (size h) (given h) (table h) (omega (arith, start h .pre .long)) (h .before .before .before .begin .kept .0)
+
+-- the word that a turn reads is the one given
+word : (h : Head) → h .loop .p < size h → getD (h .loop .memory) (h .loop .p) 0 ≡ getD (midOf 0 (size h) (given h)) (h .loop .p) 0
+word h l =
+    let p = h .loop .p in
+    (rw (zero-add p) at (sym (get-mid (h .loop .memory) 0 (size h) p 0 l)))
+    ∙ h .loop .inv .progress .later p (omega arith)
+    ∙ ap (λ (c : List ℕ). getD c p 0) (same-code h)
+
 returns : tie.Need-returns Inv-loop μ-loop
-returns c = ?
+returns c = let s = c .before .before .before .before .before in no-code (midOf 0 (length (s .args .leaders .now)) (s .args .memory .now)) _ _ _ (mid-long (s .args .memory .now) 0 (length (s .args .leaders .now)) (omega (arith, s .pre .long)) ∙ c .if1 .taken)
 
--- src/walk.rt:503:11
-mul-begin : tie.Need-mul-begin Inv-loop μ-loop
-mul-begin c = ?
-
--- src/walk.rt:503:11
 sub-begin : tie.Need-sub-begin Inv-loop μ-loop
-sub-begin c = ?
+sub-begin c = omega (arith, c .before .before .before .before .before .pre .long)
 
--- src/walk.rt:503:11
 part-begin-start : tie.Need-part-begin-start Inv-loop μ-loop
-part-begin-start c = ?
+part-begin-start c = omega (arith, c .before .before .before .before .before .pre .long)
 
--- src/walk.rt:503:11
-part-begin-end : tie.Need-part-begin-end Inv-loop μ-loop
-part-begin-end c = ?
-
--- src/walk.rt:503:5
 begin-requires : tie.Need-begin-requires Inv-loop μ-loop
-begin-requires c κs = ?
+begin-requires c κs =
+    let s = c .before .before .before .before .before .before in
+    let part = mid-long (s .args .memory .now) (length (s .args .leaders .now)) (length (s .args .memory .now) - length (s .args .leaders .now)) (omega (arith, s .pre .long)) in
+    (omega arith, s .pre .few, s .pre .locals, omega (arith, part, s .pre .long))
 
--- src/walk.rt:505:5
 loop-holds : tie.Need-loop-holds Inv-loop μ-loop
-loop-holds c = ?
+loop-holds c =
+    let s = c .before .before .before .before .before .before .before .before .before in
+    let b = c .before .before .begin in
+    numbering-start (s .args .memory .now) _ (omega (arith, s .pre .long)) (b .kept .0) (b .ensures)
 
--- src/walk.rt:506:17
 mul-w : tie.Need-mul-w Inv-loop μ-loop
-mul-w c = ?
+mul-w c = omega (arith, start (c .before) .pre .few)
 
--- src/walk.rt:506:17
 slice-read-w : tie.Need-slice-read-w Inv-loop μ-loop
-slice-read-w c = ?
+slice-read-w c = omega (arith, room (c .before .before))
 
--- src/walk.rt:507:22
-mul-leader : tie.Need-mul-leader Inv-loop μ-loop
-mul-leader c = ?
-
--- src/walk.rt:507:22
-shared-slice-read-leader : tie.Need-shared-slice-read-leader Inv-loop μ-loop
-shared-slice-read-leader c = ?
-
--- src/walk.rt:508:26
-mul-turn : tie.Need-mul-turn Inv-loop μ-loop
-mul-turn c = ?
-
--- src/walk.rt:508:26
 sub-turn : tie.Need-sub-turn Inv-loop μ-loop
-sub-turn c = ?
+sub-turn c = room (c .before .before .before)
 
--- src/walk.rt:508:26
 part-turn-start : tie.Need-part-turn-start Inv-loop μ-loop
-part-turn-start c = ?
+part-turn-start c = room (c .before .before .before)
 
--- src/walk.rt:508:26
-part-turn-end : tie.Need-part-turn-end Inv-loop μ-loop
-part-turn-end c = ?
-
--- src/walk.rt:508:76
 cast-turn : tie.Need-cast-turn Inv-loop μ-loop
-cast-turn c = ?
+cast-turn c = omega (arith, start (c .before .before .before .before) .pre .few)
 
--- src/walk.rt:508:21
 turn-requires : tie.Need-turn-requires Inv-loop μ-loop
-turn-requires c κs = ?
+turn-requires c κs =
+    let h = c .before .before .before .before in
+    let g = h .loop .inv .progress in
+    let l = c .before .before .before .loop-test .taken in
+    let s = start h in
+    (turn-room g l (s .pre .few), omega (arith, g .epochs-few, s .pre .few), rw (word h l) (s .pre .named (h .loop .p) l), l)
 
--- src/walk.rt:508:9
 mul-memory : tie.Need-mul-memory Inv-loop μ-loop
-mul-memory c = ?
+mul-memory c = omega (arith, start (c .before .before .before .before .before .before .before) .pre .few)
 
--- src/walk.rt:508:9
 slice-write-memory : tie.Need-slice-write-memory Inv-loop μ-loop
-slice-write-memory c = ?
+slice-write-memory c = let h = c .before .before .before .before .before .before .before in omega (arith, room h, whole-long (size h) (h .loop .memory) (c .before .before .turn .last .0) (room h) (c .before .before .turn .kept .0))
 
--- src/walk.rt:509:9
-add-p : tie.Need-add-p Inv-loop μ-loop
-add-p c = ?
-
--- src/walk.rt:505:5
-loop-less : tie.Need-loop-less Inv-loop μ-loop
-loop-less c = ?
-
--- src/walk.rt:505:5
 loop-again : tie.Need-loop-again Inv-loop μ-loop
-loop-again c = ?
+loop-again c =
+    let h = c .before .before .before .before .before .before .before in
+    numbering-turn (h .loop .inv) (c .before .before .before .before .before .before .loop-test .taken) (room h) refl (c .before .before .turn .kept .0) (c .before .before .turn .ensures)
 
--- src/walk.rt:495:1
 same-length : tie.Need-same-length Inv-loop μ-loop
-same-length c = ?
+same-length c = long (c .before)
 
--- src/walk.rt:495:1
 returns-2 : tie.Need-returns-2 Inv-loop μ-loop
-returns-2 c = ?
+returns-2 c =
+    let h = c .before in
+    rw (← same-code h) (progress-end (h .loop .inv .progress) (c .loop-test .left))
 
 pub number-code-spec : {M : Type 1} → statement M
 number-code-spec =
@@ -114,26 +122,26 @@ number-code-spec =
     Inv-loop
     μ-loop
     returns
-    mul-begin
+    (λ c. search needs)
     sub-begin
     part-begin-start
-    part-begin-end
+    (λ c. search needs)
     begin-requires
     loop-holds
     mul-w
     slice-read-w
-    mul-leader
-    shared-slice-read-leader
-    mul-turn
+    (λ c. search needs)
+    (λ c. search needs)
+    (λ c. search needs)
     sub-turn
     part-turn-start
-    part-turn-end
+    (λ c. search needs)
     cast-turn
     turn-requires
     mul-memory
     slice-write-memory
-    add-p
-    loop-less
+    (λ c. search needs)
+    (λ c. search needs)
     loop-again
     same-length
     returns-2)

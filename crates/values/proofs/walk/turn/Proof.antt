@@ -1,44 +1,21 @@
+use Rattle.values.proofs.Loop.{enter-room, turns}
 use borrow.Author.Needs.{needs}
 use Rattle.values.proofs.walk.turn.Statement.{statement}
 use Rattle.values.proofs.walk.turn.Tie as tie
-use Rattle.values.proofs.walk.turn.Reads as reads
-use Rattle.values.proofs.walk.turn.Lts as lts
-use Rattle.instruction.proofs.Instruction.from_word.Reads as from-word-reads
-use Rattle.instruction.proofs.Instruction.word.Reads as word-reads
-use Rattle.values.proofs.walk.enter.Reads as enter-reads
-use Rattle.values.proofs.walk.number_one.Reads as number-one-reads
 
--- src/walk.rt:486:5
-enter-requires : tie.Need-enter-requires
-enter-requires c κs = search needs
-
--- src/walk.rt:487:9
-from-word-requires : tie.Need-from-word-requires
-from-word-requires c κs = search needs
-
--- src/walk.rt:488:9
 number-one-requires : tie.Need-number-one-requires
-number-one-requires c κs = ?
+number-one-requires c κs = (enter-room (c .before .before .before .before .before .before .before .before .before .pre .0) (c .before .before .before .before .before .before .before .before .before .pre .1) (c .before .before .before .before .enter .ensures .kept), rw (c .before .from-word .ensures) (c .before .before .before .before .before .before .before .before .before .pre .2), c .before .before .before .before .before .before .before .before .before .pre .3)
 
--- src/walk.rt:489:5
-word-requires : tie.Need-word-requires
-word-requires c κs = search needs
-
--- src/walk.rt:482:1
-same-length : tie.Need-same-length
-same-length c = search needs
-
--- src/walk.rt:482:1
 returns : tie.Need-returns
-returns c = ?
+returns c = turns (c .before .before .before .before .before .before .before .before .enter .ensures) (rw (c .before .before .before .before .before .from-word .ensures) at (c .before .before .before .number-one .ensures)) (c .word .ensures)
 
 pub turn-spec : {M : Type 1} → statement M
 turn-spec =
     tie.close
     (tie.spec
-    enter-requires
-    from-word-requires
+    (λ c κs. search needs)
+    (λ c κs. search needs)
     number-one-requires
-    word-requires
-    same-length
+    (λ c κs. search needs)
+    (λ c. search needs)
     returns)
