@@ -7,10 +7,10 @@ use mathlib.Core.Logic.{⊎-elim, _⊎_, inl, inr}
 use mathlib.Core.Option.{Option, none, some}
 use Prim.Native.Nat.{ℕ, zero, suc, _+_, _%_, _^_, _≤_, _<_}
 use native.Mathlib.Omega.{arith}
-use lib.Dec.{eqb, ltb}
+use lib.Dec.{eqb}
 use lib.ListN.{length, getD}
 use types.Run.{OneOf, miss}
-use borrow.Author.Tests.{eq-eqb, ne-eqb, lt-ltb, ltb-true}
+use borrow.Author.Tests.{eq-eqb, ne-eqb}
 use denote.Enum.Declared.{tagOf as variantOf}
 use Rattle.words.specs.Lists.{isIn}
 use Rattle.instruction.specs.declared.Instruction.{Instruction}
@@ -21,12 +21,12 @@ use Rattle.instruction.specs.Class.{numberOf, namedClass, named-number}
 use Rattle.instruction.specs.Instruction.{plain, withImm32}
 use Rattle.values.specs.Fold.{foldingUnary, foldingBinary, foldWord, fitsImm32}
 use Rattle.effects.specs.Shape.{Sections, Tables}
-use Rattle.values.specs.Table.{Values, Expression, Represented, empty, valueOf, slotIn, expressionIn, sameAtom, usable, recordedSlot, representative, learn}
+use Rattle.values.specs.Table.{Values, Expression, valueOf, expressionIn, recordedSlot, representative, learn}
 use Rattle.values.specs.Number.{Numbered, setA, setB, setBC, foldUnary, foldBinary, loadOrStay, stored as storedBy, copyOrStay, byExpression, byValue, numberUnary, numberBinary, numberCopy, numberConstant, numberRead, decided, numberJump, cleared as clearedBy, numberBy}
 use Rattle.values.specs.Folded.{integerOf, answered, expressionOf}
-use Rattle.values.specs.Entries.{Key, key, value, newest}
+use Rattle.values.specs.Entries.{Key, value, newest}
 use Rattle.values.specs.Chain.{newest-le}
-use Rattle.values.specs.Memory.{Memory, memoryOf, numberAt, markedAt, constantOf, constantKey, expressionKey, slotFound, limit, usableIn, usableAt, integerAt, expressionIf, expressionAt, Ordered, Ready, atomAt, atomIn, atomFound, Holds}
+use Rattle.values.specs.Memory.{memoryOf, numberAt, constantOf, constantKey, expressionKey, slotFound, limit, usableAt, integerAt, expressionIf, expressionAt, Ready, atomAt, atomIn, atomFound, Holds}
 use Rattle.values.specs.Kept.{Kept, Same, Clears, Represents, Stores, Interns, Learns}
 use Rattle.values.specs.Walk.{sectionsOf, wordOf, Stands, Becomes, Room, Second, secondNumber, foldBy, secondOf, atomOf, KindOf, binaryClass, onZero, Named, combined, operated, scalarIn, undecidedBy, takes, pureBy, otherBy, by-other}
 use Rattle.values.specs.declared.Atom.{Atom}
@@ -38,7 +38,9 @@ use Rattle.values.specs.declared.Loaded.the-variants.{Value, Unknown}
 use Rattle.values.specs.declared.Folded.{Folded}
 use Rattle.values.specs.declared.Folded.the-variants.{Word, Not}
 use Rattle.values.proofs.Atom.{the-type}
-use Rattle.values.proofs.Atoms.{atom-place, atom-zero, integer-at, same-number}
+use Rattle.values.proofs.Atoms.{atom-place, atom-zero, integer-at}
+use Rattle.values.proofs.Holding.{usable-holds}
+use Rattle.values.proofs.Recording.{few, unchanged, same-self}
 
 -- ---- what stays in order
 
@@ -66,7 +68,7 @@ kept-then d w =
 
 -- nothing changed
 pub kept-same : {n S k c e : ℕ} {t : List ℕ} → Ready n S t → Kept n S k c e t t
-kept-same g = record { ready = g; long = refl; epochs = omega arith; constants = omega arith; expressions = omega arith }
+kept-same g = widen (omega arith) (omega arith) (omega arith) (unchanged g)
 
 pub room-kept : {n S : ℕ} {t t′ : List ℕ} → Room n S t → Kept n S 0 0 0 t t′ → Room n S t′
 room-kept g d =
@@ -76,10 +78,6 @@ room-kept g d =
       expressions = omega (arith, g .expressions, d .expressions);
       epoch = omega (arith, g .epoch, d .epochs);
     }
-
--- numbers take up to 18 bits
-pub number-fits : {n S d : ℕ} {t : List ℕ} → Ready n S t → d < limit n S (memoryOf n S t) → d < 16777216
-number-fits g l = omega (arith, g .order .locals, g .order .few-constants, g .order .constants .few)
 
 -- ---- numbers and values
 
@@ -93,42 +91,6 @@ module _ {n S : ℕ} {t t₁ : List ℕ} (s : Same n S t t₁) where
 
 pub same-then : {n S : ℕ} {t t₁ t₂ : List ℕ} → Same n S t t₁ → Same n S t₁ t₂ → Same n S t t₂
 same-then s r = record { numbers = λ x l. r .numbers x l ∙ s .numbers x l; constants = r .constants ∙ s .constants; table = r .table ∙ s .table }
-
--- the recorded slot where it still holds the value
-module _ {n S : ℕ} (dest : ℕ → ℕ) {m : Memory} {v : Values} (o : Ordered n S m) (h : Holds n S dest v m) (types : List ℕ) (d type : ℕ) (low : d < limit n S m) where
-  usable-in : (f : Found) → slotFound f ≡ slotIn (v .recorded) (atomIn n S dest m d) → slotFound (usableIn n S types m d type f) ≡ usable types v (atomIn n S dest m d) type (slotFound f)
-  unfolding slotFound usableIn usable
-  usable-in Nothing e = refl
-  usable-in (At r) e =
-      let l : r < S = h .recorded-low (atomIn n S dest m d) r (sym e) in
-      let q : sameAtom (valueOf v r) (atomIn n S dest m d) ≡ eqb (numberAt m r) d
-      = ap (λ (x : Atom). sameAtom x (atomIn n S dest m d)) (sym (h .slots r l)) ∙ same-number n S (o .constants .few) dest o (numberAt m r) d (o .slots-low r l) low in
-      rw (lt-ltb r S l, q) (go (eqb (numberAt m r) d && eqb (getD types r 0) type))
-    where
-      go : (b : Bool) → slotFound (cond b (At r) Nothing) ≡ cond b (some r) none
-      go true = refl
-      go false = refl
-
-  pub usable-holds : slotFound (usableAt n S types m d type) ≡ recordedSlot types v (atomIn n S dest m d) type
-  unfolding recordedSlot
-  usable-holds = usable-in (markedAt m d) (h .recorded d low) ∙ ap (usable types v (atomIn n S dest m d) type) (h .recorded d low)
-
--- a slot that is usable is below S
-pub usable-low : {n S : ℕ} {t : List ℕ} {f : Found} → Ready n S t → (types : List ℕ) (d type r : ℕ) → f ≡ usableAt n S types (memoryOf n S t) d type → f ≡ At r → r < 65536
-unfolding usableIn
-usable-low {n} {S} {t} g types d type r e q = go (markedAt (memoryOf n S t) d) (sym e ∙ q)
-  where
-    slot : (x : ℕ) (a b : Bool) → ltb x S ≡ a → cond a (cond b (At x) Nothing) Nothing ≡ At r → r < 65536
-    slot x true true l z =
-        let low : x < S = ltb-true x S l in
-        let same : x ≡ r = cc in
-        omega (arith, g .order .locals)
-    slot x true false l z = let y : _≡_ {A = ℕ} 0 1 = cc in absurd (omega arith)
-    slot x false b l z = let y : _≡_ {A = ℕ} 0 1 = cc in absurd (omega arith)
-
-    go : (f : Found) → usableIn n S types (memoryOf n S t) d type f ≡ At r → r < 65536
-    go Nothing z = let y : _≡_ {A = ℕ} 0 1 = cc in absurd (omega arith)
-    go (At x) z = slot x (ltb x S) (eqb (numberAt (memoryOf n S t) x) d && eqb (getD types x 0) type) refl z
 
 -- the value with the number d, and what is known, in the memory t
 abbrev pub valueAt : ℕ → List ℕ → List ℕ → (ℕ → ℕ) → ℕ → Atom
@@ -148,7 +110,7 @@ module _ {n : ℕ} (types : List ℕ) {t : List ℕ} where
       (rw s,
       λ dest z l T v h.
       let known : some r ≡ recordedSlot types v (valueAt n types t dest d) (getD types (i .a) 0)
-      = ap slotFound (sym (sym e ∙ q)) ∙ usable-holds dest (g .order) h types d (getD types (i .a) 0) low in
+      = ap slotFound (sym (sym e ∙ q)) ∙ usable-holds n (length types) (few g) (g .order) dest h types d (getD types (i .a) 0) low in
       rw (sym known) s)
 
   pub copy-none : {f : Found} {d : ℕ} (i : Instruction) → Ready n (length types) t → d < limit n (length types) (memoryOf n (length types) t)
@@ -158,7 +120,7 @@ module _ {n : ℕ} (types : List ℕ) {t : List ℕ} where
   unfolding copyOrStay slotFound
   copy-none {f} {d} i g low e q dest z l T v h =
       let known : none ≡ recordedSlot types v (valueAt n types t dest d) (getD types (i .a) 0)
-      = ap slotFound (sym (sym e ∙ q)) ∙ usable-holds dest (g .order) h types d (getD types (i .a) 0) low in
+      = ap slotFound (sym (sym e ∙ q)) ∙ usable-holds n (length types) (few g) (g .order) dest h types d (getD types (i .a) 0) low in
       rw (sym known)
 
 -- the number of an expression's value is in use
@@ -445,7 +407,7 @@ module _ {n S : ℕ} (types : List ℕ) {t : List ℕ} where
   second-none g e =
       rw e (record {
         kept = kept-same g;
-        same = record { numbers = λ r l. refl; constants = refl; table = refl };
+        same = same-self g;
         low = λ z. let f : _≡_ {A = ℕ} 0 1 = cc in absurd (omega arith);
         number = λ z. let f : _≡_ {A = ℕ} 0 1 = cc in absurd (omega arith);
         holds = λ dest v h. (refl, h);

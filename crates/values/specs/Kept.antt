@@ -5,7 +5,7 @@ use mathlib.Core.List.{List}
 use Prim.Native.Nat.{ℕ, _+_, _≤_, _<_}
 use lib.ListN.{length}
 use Rattle.values.specs.Table.{Values, empty, representative, store, learn}
-use Rattle.values.specs.Memory.{Memory, memoryOf, numberAt, constantOf, constantKey, limit, atomIn, Ready, Holds}
+use Rattle.values.specs.Memory.{memoryOf, numberAt, constantOf, constantKey, limit, atomIn, Ready, Holds}
 
 -- the memory stays in order; at most c constants and e expressions more, at most k epochs later
 pub record Kept (n S k c e : ℕ) (t t′ : List ℕ) : Type 0 where

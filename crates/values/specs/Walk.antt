@@ -4,7 +4,7 @@ use mathlib.Core.Path.{_≡_, refl, ap}
 use mathlib.Core.Bool.{Bool, true, false, cond, _||_, not}
 use mathlib.Core.List.{List, [], _∷_, map}
 use mathlib.Core.Option.{Option, none, some}
-use Prim.Native.Nat.{ℕ, suc, _+_, _*_, _^_, _≤_, _<_}
+use Prim.Native.Nat.{ℕ, suc, _+_, _*_, _≤_, _<_}
 use lib.Dec.{eqb}
 use lib.ListN.{length, getD}
 use Rattle.words.specs.Lists.{mapFrom}
@@ -16,14 +16,14 @@ use Rattle.instruction.specs.Instruction.{class, imm32, ofWord, toWord}
 use Rattle.unit.specs.Entry.{constantAt, typeValue, typeFloat}
 use Rattle.effects.specs.Shape.{Sections, Tables, Cell}
 use Rattle.effects.specs.Cells.{cellOf, cellsBy}
-use Rattle.values.specs.Table.{Values, Expression, Represented, empty, valueOf, representative, store, learn}
+use Rattle.values.specs.Table.{Values, Expression, Represented, empty, valueOf, representative}
 use Rattle.values.specs.Folded.{expressionOf}
 use Rattle.values.specs.Number.{Numbered, isScalar, cleared, constantAtom, setBC, foldUnary, foldBinary, stored, byValue, numberUnary, numberBinary, numberCopy, numberConstant, numberRead, numberBy, number, numberFrom, numberCode}
 use Rattle.values.specs.Entries.{key}
-use Rattle.values.specs.Memory.{Memory, memoryOf, numberAt, constantOf, constantKey, expressionKey, limit, atomIn, Ready, Holds}
+use Rattle.values.specs.Memory.{Memory, memoryOf, numberAt, constantOf, constantKey, expressionKey, limit, Ready, Holds}
 use Rattle.values.specs.Kept.{Kept, Same}
 use Rattle.values.specs.declared.Atom.{Atom}
-use Rattle.values.specs.declared.Atom.the-variants.{Integer, Float, Definition}
+use Rattle.values.specs.declared.Atom.the-variants.{Integer}
 use Rattle.values.specs.declared.Loaded.{Loaded}
 use Rattle.values.specs.declared.Loaded.the-variants.{Value, Unknown}
 use Rattle.values.specs.declared.Folded.{Folded}

@@ -124,7 +124,7 @@ pub fn constant(t: &mut [u64], n: usize, locals: usize, kind: u64, bits: u64) ->
         return zero as u64;
     }
     let start = 4 + 2 * locals + 2 * n;
-    let end = start + 5 * n;
+    let end = 4 + 2 * locals + 7 * n;
     let epoch = t[0];
     let count = t[1] as usize;
     let b = entries::bucket(n, bits, kind);
@@ -143,7 +143,7 @@ pub fn find_expression(t: &[u64], n: usize, locals: usize, b: usize, word: u64) 
     ensures { λ r. ⌜ r ≡ expressionAt n locals (memoryOf n locals (now (t .entry))) (key word 0) ⌝ }
 {
     let start = 4 + 2 * locals + 7 * n;
-    let end = start + 5 * n;
+    let end = 4 + 2 * locals + 12 * n;
     let f = entries::find(&t[start..end], n, t[0], t[2] as usize, b, word, 0);
     if f == 0 {
         return Found::Nothing;
@@ -157,7 +157,7 @@ pub fn learn(t: &mut [u64], n: usize, locals: usize, b: usize, word: u64, d: u64
     ensures { λ _. ⌜ ((op flags left right : ℕ) → op < 256 → flags < 256 → left < limit n locals (memoryOf n locals (now (t .entry))) → right < limit n locals (memoryOf n locals (now (t .entry))) → key word 0 ≡ expressionKey op flags left right → Learns n locals (now (t .entry)) op flags left right d (now (t .exit))) ⌝ }
 {
     let start = 4 + 2 * locals + 7 * n;
-    let end = start + 5 * n;
+    let end = 4 + 2 * locals + 12 * n;
     let epoch = t[0];
     let count = t[2] as usize;
     entries::insert(&mut t[start..end], n, epoch, count, b, word, 0, d);

@@ -1,91 +1,48 @@
+use Rattle.values.proofs.Reading.{found-fits, mark-inside, mark-long}
+use Rattle.values.proofs.Recording.{few, represent-found, represent-itself}
+use native.Mathlib.Omega.{arith}
 use borrow.Author.Needs.{needs}
 use Rattle.values.proofs.table.representative.Statement.{statement}
 use Rattle.values.proofs.table.representative.Tie as tie
-use Rattle.values.proofs.table.representative.Reads as reads
-use Rattle.values.proofs.table.representative.Lts as lts
-use Rattle.values.proofs.table.usable.Reads as usable-reads
 
--- src/table.rt:77:16
-shared-slice-read-kind : tie.Need-shared-slice-read-kind
-shared-slice-read-kind c = search needs
-
--- src/table.rt:78:11
 usable-requires : tie.Need-usable-requires
-usable-requires c κs = ?
+usable-requires c κs = (c .before .before .before .before .pre .0, rw (c .before .before .before .before .pre .2) (c .before .before .before .before .pre .0 .order .slots-low _ (c .before .before .before .before .pre .1)))
 
--- src/table.rt:79:19
-enum-known-r : tie.Need-enum-known-r
-enum-known-r c = search needs
-
--- src/table.rt:79:25
 cast-result : tie.Need-cast-result
-cast-result c = ?
+cast-result c = record { fits = found-fits (c .before .before .before .before .before .before .before .before .pre .0) _ _ _ (c .before .before .before .usable .ensures) (c .before .r .given .1) }
 
--- src/table.rt:81:28
-enum-told : tie.Need-enum-told
-enum-told c = search needs
-
--- src/table.rt:81:24
-add-mark : tie.Need-add-mark
-add-mark c = search needs
-
--- src/table.rt:81:24
 add-mark-2 : tie.Need-add-mark-2
-add-mark-2 c = ?
+add-mark-2 c = record { fits = let h = mark-inside (c .before .before .before .before .before .before .before .pre .0) (c .before .before .before .before .before .before .before .args .d) (rw (c .before .before .before .before .before .before .before .pre .2) (c .before .before .before .before .before .before .before .pre .0 .order .slots-low _ (c .before .before .before .before .before .before .before .pre .1))) in let l = c .before .before .before .before .before .before .before .pre .0 .order .locals in let k = few (c .before .before .before .before .before .before .before .pre .0) in omega arith }
 
--- src/table.rt:82:31
-slice-read-t : tie.Need-slice-read-t
-slice-read-t c = search needs
-
--- src/table.rt:82:23
-mul-t : tie.Need-mul-t
-mul-t c = search needs
-
--- src/table.rt:82:23
-add-t : tie.Need-add-t
-add-t c = search needs
-
--- src/table.rt:82:13
 mul-t-2 : tie.Need-mul-t-2
-mul-t-2 c = ?
+mul-t-2 c = record { fits = let h = mark-inside (c .before .before .before .before .before .before .before .before .pre .0) (c .before .before .before .before .before .before .before .before .args .d) (rw (c .before .before .before .before .before .before .before .before .pre .2) (c .before .before .before .before .before .before .before .before .pre .0 .order .slots-low _ (c .before .before .before .before .before .before .before .before .pre .1))) in let l = c .before .before .before .before .before .before .before .before .pre .0 .order .locals in let k = few (c .before .before .before .before .before .before .before .before .pre .0) in omega arith }
 
--- src/table.rt:82:13
 slice-write-t : tie.Need-slice-write-t
-slice-write-t c = ?
+slice-write-t c = mark-long (c .before .before .before .before .before .before .before .before .pre .0) _ (rw (c .before .before .before .before .before .before .before .before .pre .2) (c .before .before .before .before .before .before .before .before .pre .0 .order .slots-low _ (c .before .before .before .before .before .before .before .before .pre .1)))
 
--- src/table.rt:72:1
-same-length : tie.Need-same-length
-same-length c = search needs
-
--- src/table.rt:72:1
 returns : tie.Need-returns
-returns c = ?
+returns c = represent-found (c .before .before .before .before .before .before .before .before .pre .0) _ _ _ (c .before .before .before .before .before .before .before .before .pre .1) (c .before .before .before .before .before .before .before .before .pre .2) (c .before .before .before .usable .ensures) (c .before .r .given .1)
 
--- src/table.rt:72:1
-same-length-2 : tie.Need-same-length-2
-same-length-2 c = search needs
-
--- src/table.rt:72:1
 returns-2 : tie.Need-returns-2
-returns-2 c = ?
+returns-2 c = represent-itself (c .before .before .before .before .before .before .before .before .pre .0) _ _ _ (c .before .before .before .before .before .before .before .before .pre .1) (c .before .before .before .before .before .before .before .before .pre .2) (c .before .before .before .usable .ensures) (c .before .enum-told .given .1)
 
 pub representative-spec : {M : Type 1} → statement M
 representative-spec =
     tie.close
     (tie.spec
-    shared-slice-read-kind
+    (λ c. search needs)
     usable-requires
-    enum-known-r
+    (λ c. search needs)
     cast-result
-    enum-told
-    add-mark
+    (λ c. search needs)
+    (λ c. search needs)
     add-mark-2
-    slice-read-t
-    mul-t
-    add-t
+    (λ c. search needs)
+    (λ c. search needs)
+    (λ c. search needs)
     mul-t-2
     slice-write-t
-    same-length
+    (λ c. search needs)
     returns
-    same-length-2
+    (λ c. search needs)
     returns-2)

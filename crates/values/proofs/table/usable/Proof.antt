@@ -1,62 +1,32 @@
+use Rattle.values.proofs.Reading.{usable-none, usable-far, usable-by}
+use mathlib.Core.Bool.{true, false}
 use borrow.Author.Needs.{needs}
 use Rattle.values.proofs.table.usable.Statement.{statement}
 use Rattle.values.proofs.table.usable.Tie as tie
-use Rattle.values.proofs.table.usable.Reads as reads
-use Rattle.values.proofs.table.usable.Lts as lts
-use Rattle.values.proofs.table.marked.Reads as marked-reads
-use Rattle.values.proofs.table.number.Reads as number-reads
 
--- src/table.rt:56:9
-marked-requires : tie.Need-marked-requires
-marked-requires c κs = search needs
-
--- src/table.rt:57:19
-enum-known-found : tie.Need-enum-known-found
-enum-known-found c = search needs
-
--- src/table.rt:58:9
-enum-told : tie.Need-enum-told
-enum-told c = search needs
-
--- src/table.rt:58:9
 returns : tie.Need-returns
-returns c = ?
+returns c = usable-none (c .before .before .before .before .before .pre .0) _ _ _ (c .before .before .marked .ensures) (c .enum-told .given .1)
 
--- src/table.rt:62:9
 returns-2 : tie.Need-returns-2
-returns-2 c = ?
+returns-2 c = usable-far (c .before .before .before .before .before .before .before .pre .0) _ _ _ (c .before .before .before .before .marked .ensures) (c .before .before .found .given .1) (c .if1 .taken)
 
--- src/table.rt:64:30
-cast-number : tie.Need-cast-number
-cast-number c = search needs
-
--- src/table.rt:64:9
-number-requires : tie.Need-number-requires
-number-requires c κs = search needs
-
--- src/table.rt:64:50
-shared-slice-read-if2 : tie.Need-shared-slice-read-if2
-shared-slice-read-if2 c = search needs
-
--- src/table.rt:65:9
 returns-3 : tie.Need-returns-3
-returns-3 c = ?
+returns-3 c = usable-by (c .before .before .before .before .before .before .before .before .before .before .pre .0) _ _ _ (c .before .before .before .before .before .before .before .marked .ensures) true (c .before .before .before .before .before .found .given .1) (c .before .before .before .if1 .left) (c .before .before .number .ensures .0) (c .if2 .taken)
 
--- src/table.rt:51:1
 returns-4 : tie.Need-returns-4
-returns-4 c = ?
+returns-4 c = usable-by (c .before .before .before .before .before .before .before .before .before .before .pre .0) _ _ _ (c .before .before .before .before .before .before .before .marked .ensures) false (c .before .before .before .before .before .found .given .1) (c .before .before .before .if1 .left) (c .before .before .number .ensures .0) (c .if2 .left)
 
 pub usable-spec : {M : Type 1} → statement M
 usable-spec =
     tie.close
     (tie.spec
-    marked-requires
-    enum-known-found
-    enum-told
+    (λ c κs. search needs)
+    (λ c. search needs)
+    (λ c. search needs)
     returns
     returns-2
-    cast-number
-    number-requires
-    shared-slice-read-if2
+    (λ c. search needs)
+    (λ c κs. search needs)
+    (λ c. search needs)
     returns-3
     returns-4)

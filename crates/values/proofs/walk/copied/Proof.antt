@@ -1,11 +1,12 @@
-use Rattle.values.proofs.Walking.{usable-low, copy-found, copy-none}
+use Rattle.values.proofs.Walking.{copy-found, copy-none}
+use Rattle.values.proofs.Reading.{found-fits}
 use mathlib.Core.Path.{refl}
 use borrow.Author.Needs.{needs}
 use Rattle.values.proofs.walk.copied.Statement.{statement}
 use Rattle.values.proofs.walk.copied.Tie as tie
 
 cast-new : tie.Need-cast-new
-cast-new c = record { fits = usable-low (c .before .before .before .before .before .before .before .before .pre .0) _ _ _ _ (c .before .before .before .usable .ensures) (c .before .r .given .1) }
+cast-new c = record { fits = found-fits (c .before .before .before .before .before .before .before .before .pre .0) _ _ _ (c .before .before .before .usable .ensures) (c .before .r .given .1) }
 
 returns : tie.Need-returns
 returns c = copy-found _ (c .before .before .before .before .before .before .before .before .before .args .i) (c .before .before .before .before .before .before .before .before .before .pre .0) (c .before .before .before .before .before .before .before .before .before .pre .2) (c .before .before .before .before .usable .ensures) (c .before .before .r .given .1) (c .new .ensures)
