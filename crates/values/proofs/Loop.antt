@@ -60,7 +60,7 @@ turns {constants = constants} {leader = leader} d b e =
     }
 
 -- the invariant at place p
-pub record Progress (code₀ leaders types constants : List ℕ) (n : ℕ)(code memory : List ℕ) (p : ℕ) : Type 0 where
+pub record Progress (code₀ leaders types constants : List ℕ) (n : ℕ) (code memory : List ℕ) (p : ℕ) : Type 0 where
   pub here : p ≤ n
   pub size : length code ≡ n
   pub size₀ : length code₀ ≡ n

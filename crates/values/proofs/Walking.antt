@@ -106,12 +106,13 @@ module _ {n : ℕ} (types : List ℕ) {t : List ℕ} where
       → (j .a ≡ i .a) × ((dest : ℕ → ℕ) (z : List ℕ) (l : ℕ) (T : Tables) (v : Values) → Knows n types t dest v
       → j ≡ copyOrStay (sectionsOf types z l T) i (recordedSlot types v (valueAt n types t dest d) (getD types (i .a) 0)))
   unfolding copyOrStay slotFound
-  copy-found {f} {r} {d} i {j} g low e q s =
-      (rw s,
-      λ dest z l T v h.
-      let known : some r ≡ recordedSlot types v (valueAt n types t dest d) (getD types (i .a) 0)
-      = ap slotFound (sym (sym e ∙ q)) ∙ usable-holds n (length types) (few g) (g .order) dest h types d (getD types (i .a) 0) low in
-      rw (sym known) s)
+  copy-found {f} {r} {d} i {j} g low e q s = (
+    rw s,
+    λ dest z l T v h.
+        let known : some r ≡ recordedSlot types v (valueAt n types t dest d) (getD types (i .a) 0)
+        = ap slotFound (sym (sym e ∙ q)) ∙ usable-holds n (length types) (few g) (g .order) dest h types d (getD types (i .a) 0) low in
+        rw (sym known) s,
+  )
 
   pub copy-none : {f : Found} {d : ℕ} (i : Instruction) → Ready n (length types) t → d < limit n (length types) (memoryOf n (length types) t)
       → f ≡ usableAt n (length types) types (memoryOf n (length types) t) d (getD types (i .a) 0) → f ≡ Nothing
@@ -205,7 +206,7 @@ module _ {n : ℕ} {types : List ℕ} {t : List ℕ} where
       → j ≡ copyOrStay (sectionsOf types z l T) i (recordedSlot types v (valueAt n types t dest d) (getD types (i .a) 0)))
       → Becomes n types 0 0 0 t x t′ (λ dest z. Unit {0}) (λ dest S v. storedBy S j v (valueAt n types t dest d))
       → Becomes n types 0 0 0 t x t′ (λ dest z. Unit {0})
-          (λ dest S v. storedBy S (copyOrStay S i (recordedSlot (S .types) v (valueAt n types t dest d) (getD (S .types) (i .a) 0))) v (valueAt n types t dest d))
+      (λ dest S v. storedBy S (copyOrStay S i (recordedSlot (S .types) v (valueAt n types t dest d) (getD (S .types) (i .a) 0))) v (valueAt n types t dest d))
   copied-becomes d i g b =
       as-becomes (omega arith) (omega arith) (omega arith)
       (λ dest z l T v y h. (y, ap (λ (j : Instruction). storedBy (sectionsOf types z l T) j v (valueAt n types t dest d)) (g dest z l T v h))) b
@@ -214,7 +215,7 @@ module _ {n : ℕ} {types : List ℕ} {t : List ℕ} where
   pub defines : {i x : Instruction} {p op flags left right : ℕ} {t₁ t′ : List ℕ} → Learns n (length types) t op flags left right (length types + p) t₁
       → Becomes n types 0 0 0 t₁ x t′ (λ dest z. Unit {0}) (λ dest S v. storedBy S i v (valueAt n types t₁ dest (length types + p)))
       → Becomes n types 0 0 1 t x t′ (λ dest z. Stands n p i dest)
-          (λ dest S v. storedBy S i (learn v (expressionOf op flags (valueAt n types t dest left) (valueAt n types t dest right)) (Definition p (i .a))) (Definition p (i .a)))
+      (λ dest S v. storedBy S i (learn v (expressionOf op flags (valueAt n types t dest left) (valueAt n types t dest right)) (Definition p (i .a))) (Definition p (i .a)))
   defines {i} {x} {p} {op} {flags} {left} {right} {t₁} d b =
       after
       (λ dest v.
@@ -234,9 +235,9 @@ module _ {n : ℕ} {types : List ℕ} {t : List ℕ} where
       (q : k ≡ expressionKey (i .op) (i .flags) left right) where
     pub expression-found : {f : Found} (d : ℕ) → f ≡ expressionAt n (length types) (memoryOf n (length types) t) k → f ≡ At d
         → Becomes n types 0 0 0 t x t′ (λ dest z. Unit {0})
-            (λ dest S v. storedBy S (copyOrStay S i (recordedSlot (S .types) v (valueAt n types t dest d) (getD (S .types) (i .a) 0))) v (valueAt n types t dest d))
+        (λ dest S v. storedBy S (copyOrStay S i (recordedSlot (S .types) v (valueAt n types t dest d) (getD (S .types) (i .a) 0))) v (valueAt n types t dest d))
         → Becomes n types 0 0 1 t x t′ (λ dest z. Stands n p i dest)
-            (λ dest S v. byExpression S p i v (expressionOf (i .op) (i .flags) (valueAt n types t dest left) (valueAt n types t dest right)) (expressionIn (v .expressions) (expressionOf (i .op) (i .flags) (valueAt n types t dest left) (valueAt n types t dest right))))
+        (λ dest S v. byExpression S p i v (expressionOf (i .op) (i .flags) (valueAt n types t dest left) (valueAt n types t dest right)) (expressionIn (v .expressions) (expressionOf (i .op) (i .flags) (valueAt n types t dest left) (valueAt n types t dest right))))
     unfolding byExpression atomFound
     expression-found {f} d e z b =
         as-becomes (omega arith) (omega arith) (omega arith)
@@ -249,9 +250,9 @@ module _ {n : ℕ} {types : List ℕ} {t : List ℕ} where
     pub expression-none : {f : Found} → f ≡ expressionAt n (length types) (memoryOf n (length types) t) k → f ≡ Nothing → i .op < 256 → i .flags < 256
         → ((op flags left right : ℕ) → op < 256 → flags < 256 → left < limit n (length types) (memoryOf n (length types) t) → right < limit n (length types) (memoryOf n (length types) t) → k ≡ expressionKey op flags left right
         → Becomes n types 0 0 1 t x t′ (λ dest z. Stands n p i dest)
-            (λ dest S v. storedBy S i (learn v (expressionOf op flags (valueAt n types t dest left) (valueAt n types t dest right)) (Definition p (i .a))) (Definition p (i .a))))
+        (λ dest S v. storedBy S i (learn v (expressionOf op flags (valueAt n types t dest left) (valueAt n types t dest right)) (Definition p (i .a))) (Definition p (i .a))))
         → Becomes n types 0 0 1 t x t′ (λ dest z. Stands n p i dest)
-            (λ dest S v. byExpression S p i v (expressionOf (i .op) (i .flags) (valueAt n types t dest left) (valueAt n types t dest right)) (expressionIn (v .expressions) (expressionOf (i .op) (i .flags) (valueAt n types t dest left) (valueAt n types t dest right))))
+        (λ dest S v. byExpression S p i v (expressionOf (i .op) (i .flags) (valueAt n types t dest left) (valueAt n types t dest right)) (expressionIn (v .expressions) (expressionOf (i .op) (i .flags) (valueAt n types t dest left) (valueAt n types t dest right))))
     unfolding byExpression atomFound
     expression-none {f} e z a c b =
         as-becomes (omega arith) (omega arith) (omega arith)
@@ -426,7 +427,7 @@ module _ {n : ℕ} {types : List ℕ} {t : List ℕ} where
       → Second n (length types) types t₁ (i .c) right b slot₂ t₂
       → ((dest : ℕ → ℕ) → wordOf f ≡ foldBy b (expressionOf (i .op) (i .flags) (valueAt n types t₂ dest left) (valueAt n types t₂ dest right)))
       → Becomes n types 0 1 1 t₂ x t′ (λ dest z. Stands n p (setBC i slot slot₂) dest)
-          (λ dest S v. byValue S p (setBC i slot slot₂) v (expressionOf (i .op) (i .flags) (valueAt n types t₂ dest left) (valueAt n types t₂ dest right)) (wordOf f))
+      (λ dest S v. byValue S p (setBC i slot slot₂) v (expressionOf (i .op) (i .flags) (valueAt n types t₂ dest left) (valueAt n types t₂ dest right)) (wordOf f))
       → Becomes n types 0 1 1 t x t′ (λ dest z. Stands n p i dest) (λ dest S v. operated S b p i v)
   unfolding operated combined
   operator-becomes i p b {left} {right} {slot} {slot₂} {t₁} {t₂} f d e d₂ g w =

@@ -1,8 +1,8 @@
 // The walk over the function: each instruction rewritten by the values known before it.
 ghost use mathlib.Core.Path.{_≡_};
-ghost use mathlib.Core.Bool.{true, cond};
+ghost use mathlib.Core.Bool.{true};
 ghost use mathlib.Core.List.{List, map};
-ghost use Prim.Native.Nat.{ℕ, _+_, _*_, _≤_, _<_};
+ghost use Prim.Native.Nat.{ℕ, _+_, _≤_, _<_};
 ghost use lib.ListN.{length, getD};
 ghost use borrow.Rule.Slice.PartMut.{midOf};
 ghost use Rattle.instruction.specs.Instruction.{class, ofWord, toWord};
@@ -11,7 +11,7 @@ ghost use Rattle.effects.specs.Cells.{cellsBy};
 ghost use Rattle.values.specs.Table.{Values, valueOf, expressionIn, recordedSlot, learn};
 ghost use Rattle.values.specs.Number.{loadOrStay, copyOrStay, constantAtom, stored as storedBy, byExpression, byValue, numberCopy, numberConstant, numberRead, numberJump, numberBy, number, numberCode};
 ghost use Rattle.values.specs.Folded.{expressionOf};
-ghost use Rattle.values.specs.Memory.{memoryOf, numberAt, constantOf, constantKey, expressionKey, limit, atomIn, endAt, Ready, Holds};
+ghost use Rattle.values.specs.Memory.{memoryOf, constantOf, constantKey, expressionKey, limit, atomIn, endAt, Ready, Holds};
 ghost use Rattle.values.specs.Entries.{key, bucketOf};
 ghost use Rattle.values.specs.Kept.{Clears};
 ghost use Rattle.values.specs.Walk.{Named, wordOf, Stands, Becomes, Room, Coded, Second, secondNumber, foldBy, binaryClass, onZero, atomOf, KindOf, operated, scalarIn, pureBy, undecidedBy, takes, otherBy, sectionsOf, Begins, Enters, Turns, Numberable};
