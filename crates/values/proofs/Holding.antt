@@ -1,62 +1,65 @@
--- The memory holds a table of values: after each change of one region it holds the table with that change.
+-- The memory holds a table of values: after each change of its words it is in order and holds the table with that change.
 -- Assumes nothing.
 use mathlib.Core.Path.{_≡_, refl, sym, ap, _∙_}
 use mathlib.Core.Bool.{Bool, true, false, cond, _&&_}
 use mathlib.Core.List.{List, _∷_}
-use mathlib.Core.Logic.{⊎-elim, _⊎_, inl}
-use mathlib.Core.Option.{none, some}
-use Prim.Native.Nat.{ℕ, _+_, _*_, _/_, _%_, _≤_, _<_}
+use mathlib.Core.Option.{Option, none, some}
+use Prim.Native.Nat.{ℕ, zero, suc, _+_, _*_, _-_, _/_, _%_, _≤_, _<_}
 use native.Mathlib.Omega.{arith}
 use lib.Dec.{eqb, ltb}
-use lib.ListN.{length, getD, set, length-set}
-use lib.Seq.{getD-set-same, getD-set-other}
-use borrow.Author.Tests.{eqb-true, eqb-false, eq-eqb, ne-eqb, lt-ltb, le-ltb}
+use lib.ListN.{getD}
+use borrow.Author.Tests.{eqb-true, eqb-false, eq-eqb, ne-eqb, lt-ltb, ltb-true, ltb-false}
 use Rattle.values.specs.Table.{Values, Expression, SlotEntry, empty, atStart, valueIn, slotIn, expressionIn, sameAtom, sameExpression, usable, recordedSlot, learn}
-use Rattle.values.specs.Entries.{newest, Added, sameKey}
-use Rattle.values.specs.Chain.{none-left}
-use Rattle.values.specs.Memory.{tagOf, bitsOf, Memory, slotValue, markAt, constantKey, keyOf, recordedAt, usableIn, usableAt, expressionAt, slotFound, atomFound, Sound, SoundExpression, Holds}
-use Rattle.values.specs.Kept.{recording, counted, taught}
+use Rattle.values.specs.Entries.{Key, key, keyAt, value, newest, sameKey, Linked, Added}
+use Rattle.values.specs.Chain.{same-key, key-same, newest-le, newest-key}
+use Rattle.values.specs.Memory.{Memory, numberAt, markedAt, constantOf, constantKey, expressionKey, slotFound, limit, usableIn, usableAt, expressionIf, expressionAt, Ordered, atomIn, atomFound, HasNumber, Holds}
 use Rattle.values.specs.declared.Atom.{Atom}
 use Rattle.values.specs.declared.Atom.the-variants.{Integer, Float, Definition}
 use Rattle.values.specs.declared.Found.{Found}
 use Rattle.values.specs.declared.Found.the-variants.{At, Nothing}
-use Rattle.values.specs.declared.Key.{Key}
-use Rattle.values.specs.declared.State.{State}
-use Rattle.values.proofs.Encoding.{decoded, definition-decoded, key-expression, same-constant}
+use Rattle.values.proofs.Atoms.{both, same-bool, same-atom, atom-same, atom-start, atom-place, atom-zero, atom-constant, same-number, no-number}
 
--- ---- stores of single words
+-- ---- the words of slots and marks
 
-pub get-set : (l : List ℕ) (i j v : ℕ) → i < length l → (j ≡ i → getD (set l i v) j 0 ≡ v) × ((j ≡ i → ⊥) → getD (set l i v) j 0 ≡ getD l j 0)
-get-set l i j v h = (λ e. rw e (getD-set-same l i v 0 h), λ n. getD-set-other l i j v 0 n)
+module _ (epoch d : ℕ) (fits : d < 4294967296) where
+  abbrev word : ℕ
+  word = 4294967296 * epoch + d
 
--- what a bound says of every word holds after a store
-pub bounded-set : (f : ℕ → ℕ) (l : List ℕ) (i j v b : ℕ) → i < length l → f v ≤ b → f (getD l j 0) ≤ b → f (getD (set l i v) j 0) ≤ b
-bounded-set f l i j v b h g k = go (eqb j i) refl
-  where
-    go : (t : Bool) → eqb j i ≡ t → f (getD (set l i v) j 0) ≤ b
-    go true e = rw (get-set l i j v h .0 (eqb-true j i e)) g
-    go false e = rw (get-set l i j v h .1 (eqb-false j i e)) k
+  pub word-epoch : (4294967296 * epoch + d) / 4294967296 ≡ epoch
+  word-epoch = omega arith
 
-module _ (epoch s : ℕ) (low : s < 65536) where
-  abbrev mark : ℕ
-  mark = 65536 * epoch + s
+  word-low : word % 4294967296 ≡ d
+  word-low = omega arith
 
-  pub mark-epoch : mark / 65536 ≡ epoch
+  -- what was just stored in a slot
+  pub number-stored : (m : Memory) (s : ℕ) → m .epoch ≡ epoch → m .slot s ≡ 4294967296 * epoch + d → numberAt m s ≡ d
+  unfolding numberAt
+  number-stored m s e f = rw (f, e, word-epoch, word-low, eq-eqb epoch epoch refl)
+
+module _ (epoch s : ℕ) (fits : s < 65536) where
+  pub mark-epoch : (65536 * epoch + s) / 65536 ≡ epoch
   mark-epoch = omega arith
 
-  pub mark-same : (l : List ℕ) (i : ℕ) → i < length l → markAt (set l i mark) epoch i ≡ At s
-  unfolding markAt
-  mark-same l i h =
-      let slot : mark % 65536 ≡ s = omega arith in
-      rw (get-set l i i mark h .0 refl, mark-epoch, eq-eqb epoch epoch refl, slot)
+  pub mark-found : (m : Memory) (d : ℕ) → m .epoch ≡ epoch → m .mark d ≡ 65536 * epoch + s → markedAt m d ≡ At s
+  unfolding markedAt
+  mark-found m d e f =
+      let low : (65536 * epoch + s) % 65536 ≡ s = omega arith in
+      rw (f, e, mark-epoch, low, eq-eqb epoch epoch refl)
 
-  pub mark-other : (l : List ℕ) (i j : ℕ) → i < length l → (j ≡ i → ⊥) → markAt (set l i mark) epoch j ≡ markAt l epoch j
-  unfolding markAt
-  mark-other l i j h n = rw (get-set l i j mark h .1 n)
+pub number-same : (m m′ : Memory) (s : ℕ) → m′ .epoch ≡ m .epoch → m′ .slot s ≡ m .slot s → numberAt m′ s ≡ numberAt m s
+unfolding numberAt
+number-same m m′ s e f = rw (e, f)
 
--- ---- what is recorded
+pub mark-same : (m m′ : Memory) (d : ℕ) → m′ .epoch ≡ m .epoch → m′ .mark d ≡ m .mark d → markedAt m′ d ≡ markedAt m d
+unfolding markedAt
+mark-same m m′ d e f = rw (e, f)
 
--- a value more: its slot, and otherwise what was recorded
+-- ---- lists of entries of the table of values
+
+-- the slot s recorded for the value w
+abbrev pub recording : Values → ℕ → Atom → Values
+recording v s w = record { slots = v .slots; recorded = record { slot = s; value = w } ∷ v .recorded; expressions = v .expressions }
+
 pub slot-same : (es : List SlotEntry) (s : ℕ) (x w : Atom) → sameAtom x w ≡ true → slotIn (record { slot = s; value = x } ∷ es) w ≡ some s
 unfolding slotIn
 slot-same es s x w e = rw e
@@ -65,386 +68,611 @@ pub slot-other : (es : List SlotEntry) (s : ℕ) (x w : Atom) → sameAtom x w �
 unfolding slotIn
 slot-other es s x w e = rw e
 
-low-more : (S : ℕ) (es : List SlotEntry) (s : ℕ) (x : Atom) → s < S → ((w : Atom) (r : ℕ) → slotIn es w ≡ some r → r < S)
-    → (w : Atom) (r : ℕ) → slotIn (record { slot = s; value = x } ∷ es) w ≡ some r → r < S
-low-more S es s x h f w r e = go (sameAtom x w) refl
+-- what holds of the slot and the value of a new entry and of those that were there holds of all
+slot-more : (P : Atom → ℕ → Type 0) (es : List SlotEntry) (s : ℕ) (x : Atom) → P x s → ((w : Atom) (r : ℕ) → slotIn es w ≡ some r → P w r)
+    → (w : Atom) (r : ℕ) → slotIn (record { slot = s; value = x } ∷ es) w ≡ some r → P w r
+slot-more P es s x h f w r e = go (sameAtom x w) refl
   where
-    go : (t : Bool) → sameAtom x w ≡ t → r < S
-    go true q = let z : some s ≡ some r = sym (slot-same es s x w q) ∙ e in let g : s ≡ r = cc in omega arith
+    go : (t : Bool) → sameAtom x w ≡ t → P w r
+    go true q =
+        let z : some s ≡ some r = sym (slot-same es s x w q) ∙ e in
+        let g : s ≡ r = cc in
+        rw (← same-atom x w q, ← g) h
     go false q = f w r (sym (slot-other es s x w q) ∙ e)
 
-not-same-place : (p s q r : ℕ) → (p ≡ q → ⊥) → sameAtom (Definition p s) (Definition q r) ≡ false
-unfolding sameAtom
-not-same-place p s q r n = rw (ne-eqb p q n)
+-- ---- memories that differ from another one in some words
 
-not-same-slot : (p s q r : ℕ) → (s ≡ r → ⊥) → sameAtom (Definition p s) (Definition q r) ≡ false
-unfolding sameAtom
-not-same-slot p s q r n = rw (ne-eqb s r n) (go (eqb p q))
-  where
-    go : (t : Bool) → t && false ≡ false
-    go true = refl
-    go false = refl
+abbrev pub turned : Memory → (ℕ → ℕ) → (ℕ → ℕ) → Memory
+turned m slot mark =
+    record {
+      epoch = m .epoch;
+      constants = m .constants;
+      expressions = m .expressions;
+      slot = slot;
+      mark = mark;
+      constantTable = m .constantTable;
+      expressionTable = m .expressionTable;
+    }
 
-same-both : (p s q r : ℕ) → p ≡ q → s ≡ r → sameAtom (Definition p s) (Definition q r) ≡ true
-unfolding sameAtom
-same-both p s q r e f = rw (eq-eqb p q e, eq-eqb s r f)
+-- with one constant more
+abbrev pub grown : Memory → (ℕ → ℕ) → (ℕ → ℕ) → List ℕ → Memory
+grown m slot mark u =
+    record {
+      epoch = m .epoch;
+      constants = m .constants + 1;
+      expressions = m .expressions;
+      slot = slot;
+      mark = mark;
+      constantTable = u;
+      expressionTable = m .expressionTable;
+    }
 
-module _ (n S : ℕ) (few : n ≤ 65536) (dest : ℕ → ℕ) where
-  -- a slot recorded for a definition, by the mark of its place
-  module _ {v : Values} {st : State} {m : Memory} (h : Holds n S dest v st m) (p s : ℕ) (place : p < n) (low : s < S) (fits : s < 65536) (long : p < length (m .places)) where
-    abbrev m1 : Memory
-    m1 = record { slots = m .slots; places = set (m .places) p (65536 * st .epoch + s); constants = m .constants; expressions = m .expressions }
+-- with one expression more
+abbrev pub taught : Memory → (ℕ → ℕ) → (ℕ → ℕ) → List ℕ → Memory
+taught m slot mark u =
+    record {
+      epoch = m .epoch;
+      constants = m .constants;
+      expressions = m .expressions + 1;
+      slot = slot;
+      mark = mark;
+      constantTable = m .constantTable;
+      expressionTable = u;
+    }
 
-    place-recorded : (w : Atom) → Sound n S dest w → slotFound (recordedAt n S st m1 w) ≡ slotIn (recording v s (Definition p (dest p)) .recorded) w
-    unfolding recordedAt slotFound slotIn sameAtom Sound
-    place-recorded (Integer x) g = h .recorded (Integer x) g
-    place-recorded (Float x) g = h .recorded (Float x) g
-    place-recorded (Definition q r) g = go g
+module _ (n S : ℕ) (few : n ≤ 65536) where
+  small : {m : Memory} → Ordered n S m → limit n S m ≤ 196609
+  small o = let a = o .locals in let b = o .few-constants in omega arith
+
+  -- ---- a slot recorded for a number
+  module _ {m : Memory} (o : Ordered n S m) (d s : ℕ) (low : s < S) (used : d < limit n S m) (slot mark : ℕ → ℕ)
+      (slots : (r : ℕ) → r < S → slot r ≡ m .slot r) (here : mark d ≡ 65536 * m .epoch + s) (there : (e : ℕ) → (e ≡ d → ⊥) → mark e ≡ m .mark e) where
+    fits : s < 65536
+    fits = let a = o .locals in omega arith
+
+    number : (r : ℕ) → r < S → numberAt (turned m slot mark) r ≡ numberAt m r
+    number r l = number-same m (turned m slot mark) r refl (slots r l)
+
+    marks : (P : ℕ → ℕ → Type 0) → P d (65536 * m .epoch + s) → ((e : ℕ) → (e ≡ d → ⊥) → P e (m .mark e)) → (e : ℕ) → P e (mark e)
+    marks P h f e = go (eqb e d) refl
       where
-        old : recordedAt n S st m1 (Definition q r) ≡ recordedAt n S st m (Definition q r) → sameAtom (Definition p (dest p)) (Definition q r) ≡ false
-            → slotFound (recordedAt n S st m1 (Definition q r)) ≡ slotIn (record { slot = s; value = Definition p (dest p) } ∷ v .recorded) (Definition q r)
-        old e f = ap slotFound e ∙ h .recorded (Definition q r) g ∙ sym (slot-other (v .recorded) s (Definition p (dest p)) (Definition q r) f)
+        go : (t : Bool) → eqb e d ≡ t → P e (mark e)
+        go true q = rw (eqb-true e d q, here) h
+        go false q = rw (there e (eqb-false e d q)) (f e (eqb-false e d q))
 
-        start : q ≡ atStart → slotFound (recordedAt n S st m1 (Definition q r)) ≡ slotIn (record { slot = s; value = Definition p (dest p) } ∷ v .recorded) (Definition q r)
-        start e =
-            let far : n ≤ q = omega arith in
-            old (rw (le-ltb q n far)) (not-same-place p (dest p) q r (λ f. omega arith))
-
-        at : q < n → r ≡ dest q → (t : Bool) → eqb q p ≡ t
-            → slotFound (recordedAt n S st m1 (Definition q r)) ≡ slotIn (record { slot = s; value = Definition p (dest p) } ∷ v .recorded) (Definition q r)
-        at l e true f =
-            let same : q ≡ p = eqb-true q p f in
-            let here : recordedAt n S st m1 (Definition q r) ≡ At s = rw (lt-ltb q n l, same) (mark-same (st .epoch) s fits (m .places) p long) in
-            ap slotFound here ∙ sym (slot-same (v .recorded) s (Definition p (dest p)) (Definition q r) (same-both p (dest p) q r (sym same) (sym (e ∙ ap dest same))))
-        at l e false f =
-            let other : q ≡ p → ⊥ = eqb-false q p f in
-            old (rw (lt-ltb q n l) (mark-other (st .epoch) s fits (m .places) p q long other)) (not-same-place p (dest p) q r (λ z. other (sym z)))
-
-        go : Sound n S dest (Definition q r) → slotFound (recordedAt n S st m1 (Definition q r)) ≡ slotIn (record { slot = s; value = Definition p (dest p) } ∷ v .recorded) (Definition q r)
-        go y = ⊎-elim (λ a. start (a .0)) (λ b. at (b .0) (b .1) (eqb q p) refl) (y .1)
-
-    pub hold-place : Holds n S dest (recording v s (Definition p (dest p))) st m1
-    hold-place =
+    pub mark-ordered : Ordered n S (turned m slot mark)
+    mark-ordered =
         record {
-          past = record {
-            slots = h .past .slots;
-            starts = h .past .starts;
-            places = λ q. bounded-set (λ x. x / 65536) (m .places) p q (65536 * st .epoch + s) (st .epoch) long (omega (arith, mark-epoch (st .epoch) s fits)) (h .past .places q);
-          };
-          slots = h .slots;
-          sound = h .sound;
-          recorded = place-recorded;
-          low = low-more S (v .recorded) s (Definition p (dest p)) low (h .low);
-          expressions = h .expressions;
-          known = h .known;
+          locals = o .locals;
+          constants = o .constants;
+          expressions = o .expressions;
+          few-constants = o .few-constants;
+          few-expressions = o .few-expressions;
+          slots-past = λ r l. rw (slots r l) (o .slots-past r l);
+          marks-past = marks (λ e w. e < S + 2 * n + 1 → w / 65536 ≤ m .epoch) (λ l. omega (arith, mark-epoch (m .epoch) s fits)) (λ e g l. o .marks-past e l);
+          fresh = marks (λ e w. limit n S m ≤ e → e < S + 2 * n + 1 → w / 65536 < m .epoch) (λ l g. absurd (omega arith)) (λ e g. o .fresh e);
+          slots-low = λ r l. rw (number r l) (o .slots-low r l);
+          values-low = o .values-low;
+          lefts-low = o .lefts-low;
+          rights-low = o .rights-low;
+          once = o .once;
+          not-zero = o .not-zero;
+          kinds = o .kinds;
         }
 
-  -- a slot recorded for a slot's value at the block's start, by the mark of that slot
-  module _ {v : Values} {st : State} {m : Memory} (h : Holds n S dest v st m) (a s : ℕ) (slot : a < S) (low : s < S) (fits : s < 65536) (long : 4 * a + 3 < length (m .slots)) where
-    abbrev m2 : Memory
-    m2 = record { slots = set (m .slots) (4 * a + 3) (65536 * st .epoch + s); places = m .places; constants = m .constants; expressions = m .expressions }
-
-    kept-word : (i : ℕ) → (i ≡ 4 * a + 3 → ⊥) → getD (m2 .slots) i 0 ≡ getD (m .slots) i 0
-    kept-word i g = get-set (m .slots) (4 * a + 3) i (65536 * st .epoch + s) long .1 g
-
-    start-value : (r : ℕ) → slotValue (m2 .slots) (st .epoch) r ≡ slotValue (m .slots) (st .epoch) r
-    unfolding slotValue
-    start-value r = rw (kept-word (4 * r) (λ e. omega arith), kept-word (4 * r + 1) (λ e. omega arith), kept-word (4 * r + 2) (λ e. omega arith))
-
-    start-recorded : (w : Atom) → Sound n S dest w → slotFound (recordedAt n S st m2 w) ≡ slotIn (recording v s (Definition atStart a) .recorded) w
-    unfolding recordedAt slotFound slotIn sameAtom Sound
-    start-recorded (Integer x) g = h .recorded (Integer x) g
-    start-recorded (Float x) g = h .recorded (Float x) g
-    start-recorded (Definition q r) g = go g
-      where
-        old : recordedAt n S st m2 (Definition q r) ≡ recordedAt n S st m (Definition q r) → sameAtom (Definition atStart a) (Definition q r) ≡ false
-            → slotFound (recordedAt n S st m2 (Definition q r)) ≡ slotIn (record { slot = s; value = Definition atStart a } ∷ v .recorded) (Definition q r)
-        old e f = ap slotFound e ∙ h .recorded (Definition q r) g ∙ sym (slot-other (v .recorded) s (Definition atStart a) (Definition q r) f)
-
-        start : q ≡ atStart → r < S → (t : Bool) → eqb r a ≡ t
-            → slotFound (recordedAt n S st m2 (Definition q r)) ≡ slotIn (record { slot = s; value = Definition atStart a } ∷ v .recorded) (Definition q r)
-        start e l true f =
-            let far : n ≤ q = omega arith in
-            let same : r ≡ a = eqb-true r a f in
-            let here : recordedAt n S st m2 (Definition q r) ≡ At s = rw (le-ltb q n far, lt-ltb r S l, same) (mark-same (st .epoch) s fits (m .slots) (4 * a + 3) long) in
-            ap slotFound here ∙ sym (slot-same (v .recorded) s (Definition atStart a) (Definition q r) (same-both atStart a q r (sym e) (sym same)))
-        start e l false f =
-            let far : n ≤ q = omega arith in
-            let other : r ≡ a → ⊥ = eqb-false r a f in
-            old (rw (le-ltb q n far, lt-ltb r S l) (mark-other (st .epoch) s fits (m .slots) (4 * a + 3) (4 * r + 3) long (λ z. other (omega arith)))) (not-same-slot atStart a q r (λ z. other (sym z)))
-
-        at : q < n → slotFound (recordedAt n S st m2 (Definition q r)) ≡ slotIn (record { slot = s; value = Definition atStart a } ∷ v .recorded) (Definition q r)
-        at l = old (rw (lt-ltb q n l)) (not-same-place atStart a q r (λ z. omega arith))
-
-        go : Sound n S dest (Definition q r) → slotFound (recordedAt n S st m2 (Definition q r)) ≡ slotIn (record { slot = s; value = Definition atStart a } ∷ v .recorded) (Definition q r)
-        go y = ⊎-elim (λ y. start (y .0) (y .1) (eqb r a) refl) (λ b. at (b .0)) (y .1)
-
-    pub hold-start : Holds n S dest (recording v s (Definition atStart a)) st m2
-    hold-start =
-        record {
-          past = record {
-            slots = λ r. rw (kept-word (4 * r) (λ e. omega arith)) (h .past .slots r);
-            starts = λ r. bounded-set (λ x. x / 65536) (m .slots) (4 * a + 3) (4 * r + 3) (65536 * st .epoch + s) (st .epoch) long (omega (arith, mark-epoch (st .epoch) s fits)) (h .past .starts r);
-            places = h .past .places;
-          };
-          slots = λ r l. start-value r ∙ h .slots r l;
-          sound = h .sound;
-          recorded = start-recorded;
-          low = low-more S (v .recorded) s (Definition atStart a) low (h .low);
-          expressions = h .expressions;
-          known = h .known;
-        }
-
-  -- a slot recorded for a constant, by an entry
-  module _ {v : Values} {st : State} {m : Memory} (h : Holds n S dest v st m) (x s : ℕ) (u : List ℕ) (base : st .rbase ≤ st .rcount) (low : s < S) where
-    abbrev m3 : Memory
-    m3 = record { slots = m .slots; places = m .places; constants = u; expressions = m .expressions }
-
-    -- what the entries answer, and so all but what is recorded for constants
-    hold-entry : (c : Atom) → ((w : Atom) → Sound n S dest w → slotFound (recordedAt n S (counted st (st .rcount + 1)) m3 w) ≡ slotIn (recording v s c .recorded) w)
-        → Holds n S dest (recording v s c) (counted st (st .rcount + 1)) m3
-    hold-entry c f =
-        record {
-          past = record { slots = h .past .slots; starts = h .past .starts; places = h .past .places };
-          slots = h .slots;
-          sound = h .sound;
-          recorded = f;
-          low = low-more S (v .recorded) s c low (h .low);
-          expressions = h .expressions;
-          known = h .known;
-        }
-
-    same-entry : (t : Bool) (f : Found) → slotFound (cond t (At s) f) ≡ cond t (some s) (slotFound f)
-    unfolding slotFound
-    same-entry true f = refl
-    same-entry false f = refl
-
-    -- the entry of a key, and the other entries
-    newest-more : (k l : Key) → Added (m .constants) u n (st .rcount) k s
-        → slotFound (newest u n (st .rbase) (st .rcount + 1) l) ≡ cond (sameKey k l) (some s) (slotFound (newest (m .constants) n (st .rbase) (st .rcount) l))
-    newest-more k l g = ap slotFound (g .answer (st .rbase) l base) ∙ same-entry (sameKey k l) (newest (m .constants) n (st .rbase) (st .rcount) l)
-
-    integer-recorded : Added (m .constants) u n (st .rcount) (constantKey 0 x) s → (w : Atom) → Sound n S dest w
-        → slotFound (recordedAt n S (counted st (st .rcount + 1)) m3 w) ≡ slotIn (recording v s (Integer x) .recorded) w
-    unfolding recordedAt slotIn sameAtom sameKey
-    integer-recorded g (Integer y) z = newest-more (constantKey 0 x) (constantKey 0 y) g ∙ rw (same-constant 0 x y, h .recorded (Integer y) z)
-    integer-recorded g (Float y) z = newest-more (constantKey 0 x) (constantKey 1 y) g ∙ h .recorded (Float y) z
-    integer-recorded g (Definition q r) z = h .recorded (Definition q r) z
-
-    pub hold-integer : Added (m .constants) u n (st .rcount) (constantKey 0 x) s → Holds n S dest (recording v s (Integer x)) (counted st (st .rcount + 1)) m3
-    hold-integer g = hold-entry (Integer x) (integer-recorded g)
-
-    float-recorded : Added (m .constants) u n (st .rcount) (constantKey 1 x) s → (w : Atom) → Sound n S dest w
-        → slotFound (recordedAt n S (counted st (st .rcount + 1)) m3 w) ≡ slotIn (recording v s (Float x) .recorded) w
-    unfolding recordedAt slotIn sameAtom sameKey
-    float-recorded g (Integer y) z = newest-more (constantKey 1 x) (constantKey 0 y) g ∙ h .recorded (Integer y) z
-    float-recorded g (Float y) z = newest-more (constantKey 1 x) (constantKey 1 y) g ∙ rw (same-constant 1 x y, h .recorded (Float y) z)
-    float-recorded g (Definition q r) z = h .recorded (Definition q r) z
-
-    pub hold-float : Added (m .constants) u n (st .rcount) (constantKey 1 x) s → Holds n S dest (recording v s (Float x)) (counted st (st .rcount + 1)) m3
-    hold-float g = hold-entry (Float x) (float-recorded g)
-
-  -- one expression more
-  module _ {v : Values} {st : State} {m : Memory} (h : Holds n S dest v st m) (d : Expression) (p s : ℕ) (u : List ℕ) (base : st .ebase ≤ st .ecount)
-      (sound : SoundExpression n S dest d) (value : Sound n S dest (Definition p s)) (g : Added (m .expressions) u n (st .ecount) (keyOf d) (p + 4294967296 * s)) where
-    abbrev m4 : Memory
-    m4 = record { slots = m .slots; places = m .places; constants = m .constants; expressions = u }
-
-    value-entry : (t : Bool) (f : Found) → atomFound (cond t (At (p + 4294967296 * s)) f) ≡ cond t (some (Definition p s)) (atomFound f)
+    found-same : (dest : ℕ → ℕ) (f : Found) → atomFound n S dest (turned m slot mark) f ≡ atomFound n S dest m f
     unfolding atomFound
-    value-entry true f = ap some (definition-decoded n S few dest p s value)
-    value-entry false f = refl
+    found-same dest (At x) = refl
+    found-same dest Nothing = refl
 
-    expression-found : (e : Expression) → SoundExpression n S dest e → atomFound (expressionAt n S (taught st) m4 e) ≡ expressionIn (learn v d (Definition p s) .expressions) e
-    unfolding expressionIn learn
-    expression-found e y =
-        ap atomFound (g .answer (st .ebase) (keyOf e) base)
-        ∙ value-entry (sameKey (keyOf d) (keyOf e)) (newest (m .expressions) n (st .ebase) (st .ecount) (keyOf e))
-        ∙ rw (key-expression n S few dest d e sound y, h .expressions e y)
-
-    known-more : (e : Expression) (w : Atom) → expressionIn (learn v d (Definition p s) .expressions) e ≡ some w → Sound n S dest w
-    unfolding expressionIn learn
-    known-more e w = go (sameExpression d e)
-      where
-        go : (t : Bool) → cond t (some (Definition p s)) (expressionIn (v .expressions) e) ≡ some w → Sound n S dest w
-        go true q = let z : Definition p s ≡ w = cc in rw (sym z) value
-        go false q = h .known e w q
-
-    recorded-kept : (w : Atom) → Sound n S dest w → slotFound (recordedAt n S (taught st) m4 w) ≡ slotIn (v .recorded) w
-    unfolding recordedAt
-    recorded-kept (Integer x) y = h .recorded (Integer x) y
-    recorded-kept (Float x) y = h .recorded (Float x) y
-    recorded-kept (Definition q r) y = h .recorded (Definition q r) y
-
-    pub hold-learn : Holds n S dest (learn v d (Definition p s)) (taught st) m4
-    unfolding learn
-    hold-learn =
+    pub mark-holds : (dest : ℕ → ℕ) {v : Values} → Holds n S dest v m → Holds n S dest (recording v s (atomIn n S dest m d)) (turned m slot mark)
+    unfolding slotFound
+    mark-holds dest {v} h =
         record {
-          past = record { slots = h .past .slots; starts = h .past .starts; places = h .past .places };
-          slots = h .slots;
-          sound = h .sound;
-          recorded = recorded-kept;
-          low = h .low;
-          expressions = expression-found;
-          known = known-more;
+          slots = λ r l. rw (number r l) (h .slots r l);
+          recorded = λ e l. go e l (eqb d e) refl;
+          recorded-low = slot-more (λ w r. r < S) (v .recorded) s (atomIn n S dest m d) low (h .recorded-low);
+          recorded-numbered = slot-more (λ w r. HasNumber n S dest (turned m slot mark) w) (v .recorded) s (atomIn n S dest m d) (record { number = d; low = used; is = refl })
+              (λ w r q. let z = h .recorded-numbered w r q in record { number = z .number; low = z .low; is = z .is });
+          expressions = λ op flags left right a b c e. same-found op flags left right ∙ h .expressions op flags left right a b c e;
+          left-numbered = λ e w q. let z = h .left-numbered e w q in record { number = z .number; low = z .low; is = z .is };
+          right-numbered = λ e w q. let z = h .right-numbered e w q in record { number = z .number; low = z .low; is = z .is };
+        }
+      where
+        same-found : (op flags left right : ℕ) → atomFound n S dest (turned m slot mark) (expressionAt n S (turned m slot mark) (expressionKey op flags left right))
+            ≡ atomFound n S dest m (expressionAt n S m (expressionKey op flags left right))
+        same-found op flags left right = found-same dest (expressionAt n S m (expressionKey op flags left right))
+
+        go : (e : ℕ) → e < limit n S m → (t : Bool) → eqb d e ≡ t
+            → slotFound (markedAt (turned m slot mark) e) ≡ slotIn (record { slot = s; value = atomIn n S dest m d } ∷ v .recorded) (atomIn n S dest m e)
+        go e l true q =
+            let z : d ≡ e = eqb-true d e q in
+            rw (← z, mark-found (m .epoch) s fits (turned m slot mark) d refl here) (sym (slot-same (v .recorded) s (atomIn n S dest m d) (atomIn n S dest m d) (atom-same (atomIn n S dest m d))))
+        go e l false q =
+            let z : e ≡ d → ⊥ = λ y. eqb-false d e q (sym y) in
+            rw (mark-same m (turned m slot mark) e refl (there e z))
+            (h .recorded e l ∙ sym (slot-other (v .recorded) s (atomIn n S dest m d) (atomIn n S dest m e) (same-number n S few dest o d e used l ∙ q)))
+
+  -- ---- a number stored in a slot
+  module _ {m : Memory} (o : Ordered n S m) (s d : ℕ) (low : s < S) (used : d < limit n S m) (slot mark : ℕ → ℕ)
+      (here : slot s ≡ 4294967296 * m .epoch + d) (there : (r : ℕ) → r < S → (r ≡ s → ⊥) → slot r ≡ m .slot r) (marks : (e : ℕ) → mark e ≡ m .mark e) where
+    narrow : d < 4294967296
+    narrow = omega (arith, small o)
+
+    abbrev put : Memory
+    put = turned m slot mark
+
+    stored-here : numberAt put s ≡ d
+    stored-here = number-stored (m .epoch) d narrow put s refl here
+
+    stored-there : (r : ℕ) → r < S → (r ≡ s → ⊥) → numberAt put r ≡ numberAt m r
+    stored-there r l g = number-same m put r refl (there r l g)
+
+    slots-put : (P : ℕ → ℕ → Type 0) → P s d → ((r : ℕ) → r < S → (r ≡ s → ⊥) → P r (numberAt m r)) → (r : ℕ) → r < S → P r (numberAt put r)
+    slots-put P h f r l = go (eqb r s) refl
+      where
+        go : (t : Bool) → eqb r s ≡ t → P r (numberAt put r)
+        go true q = rw (eqb-true r s q, stored-here) h
+        go false q = rw (stored-there r l (eqb-false r s q)) (f r l (eqb-false r s q))
+
+    past-put : (r : ℕ) → r < S → slot r / 4294967296 ≤ m .epoch
+    past-put r l = go (eqb r s) refl
+      where
+        go : (t : Bool) → eqb r s ≡ t → slot r / 4294967296 ≤ m .epoch
+        go true q = rw (eqb-true r s q, here) (omega (arith, word-epoch (m .epoch) d narrow))
+        go false q = rw (there r l (eqb-false r s q)) (o .slots-past r l)
+
+    pub put-ordered : Ordered n S (turned m slot mark)
+    put-ordered =
+        record {
+          locals = o .locals;
+          constants = o .constants;
+          expressions = o .expressions;
+          few-constants = o .few-constants;
+          few-expressions = o .few-expressions;
+          slots-past = past-put;
+          marks-past = λ e l. rw (marks e) (o .marks-past e l);
+          fresh = λ e l g. rw (marks e) (o .fresh e l g);
+          slots-low = slots-put (λ r x. x < limit n S m) used (λ r l g. o .slots-low r l);
+          values-low = o .values-low;
+          lefts-low = o .lefts-low;
+          rights-low = o .rights-low;
+          once = o .once;
+          not-zero = o .not-zero;
+          kinds = o .kinds;
         }
 
-  -- a value stored in a slot
-  module _ {v : Values} {st : State} {m : Memory} (h : Holds n S dest v st m) (s : ℕ) (x : Atom) (low : s < S) (value : Sound n S dest x) (long : 4 * s + 4 ≤ length (m .slots)) where
-    abbrev l1 : List ℕ
-    l1 = set (m .slots) (4 * s) (st .epoch)
+    pub put-number : numberAt (turned m slot mark) s ≡ d
+    put-number = stored-here
 
-    abbrev l2 : List ℕ
-    l2 = set l1 (4 * s + 1) (tagOf x)
+    found-put : (dest : ℕ → ℕ) (f : Found) → atomFound n S dest put f ≡ atomFound n S dest m f
+    unfolding atomFound
+    found-put dest (At x) = refl
+    found-put dest Nothing = refl
 
-    abbrev l3 : List ℕ
-    l3 = set l2 (4 * s + 2) (bitsOf x)
-
-    abbrev m5 : Memory
-    m5 = record { slots = l3; places = m .places; constants = m .constants; expressions = m .expressions }
-
-    abbrev stored : Values
-    stored = record { slots = record { slot = s; value = x } ∷ v .slots; recorded = v .recorded; expressions = v .expressions }
-
-    long1 : 4 * s + 4 ≤ length l1
-    long1 = simp length-set long
-
-    long2 : 4 * s + 4 ≤ length l2
-    long2 = simp length-set long
-
-    word-kept : (i : ℕ) → (i ≡ 4 * s → ⊥) → (i ≡ 4 * s + 1 → ⊥) → (i ≡ 4 * s + 2 → ⊥) → getD l3 i 0 ≡ getD (m .slots) i 0
-    word-kept i a b c =
-        get-set l2 (4 * s + 2) i (bitsOf x) (omega (arith, long2)) .1 c
-        ∙ get-set l1 (4 * s + 1) i (tagOf x) (omega (arith, long1)) .1 b
-        ∙ get-set (m .slots) (4 * s) i (st .epoch) (omega arith) .1 a
-
-    word-0 : getD l3 (4 * s) 0 ≡ st .epoch
-    word-0 =
-        get-set l2 (4 * s + 2) (4 * s) (bitsOf x) (omega (arith, long2)) .1 (λ e. omega arith)
-        ∙ get-set l1 (4 * s + 1) (4 * s) (tagOf x) (omega (arith, long1)) .1 (λ e. omega arith)
-        ∙ get-set (m .slots) (4 * s) (4 * s) (st .epoch) (omega arith) .0 refl
-
-    word-1 : getD l3 (4 * s + 1) 0 ≡ tagOf x
-    word-1 =
-        get-set l2 (4 * s + 2) (4 * s + 1) (bitsOf x) (omega (arith, long2)) .1 (λ e. omega arith)
-        ∙ get-set l1 (4 * s + 1) (4 * s + 1) (tagOf x) (omega (arith, long1)) .0 refl
-
-    word-2 : getD l3 (4 * s + 2) 0 ≡ bitsOf x
-    word-2 = get-set l2 (4 * s + 2) (4 * s + 2) (bitsOf x) (omega (arith, long2)) .0 refl
-
-    value-here : slotValue l3 (st .epoch) s ≡ x
-    unfolding slotValue
-    value-here = rw (word-0, word-1, word-2, eq-eqb (st .epoch) (st .epoch) refl) (decoded n S few dest x value)
-
-    value-there : (r : ℕ) → (r ≡ s → ⊥) → slotValue l3 (st .epoch) r ≡ slotValue (m .slots) (st .epoch) r
-    unfolding slotValue
-    value-there r o =
-        rw (
-          word-kept (4 * r) (λ e. o (omega arith)) (λ e. omega arith) (λ e. omega arith),
-          word-kept (4 * r + 1) (λ e. omega arith) (λ e. o (omega arith)) (λ e. omega arith),
-          word-kept (4 * r + 2) (λ e. omega arith) (λ e. omega arith) (λ e. o (omega arith)),
-        )
-
-    value-at : (r : ℕ) → (t : Bool) → eqb s r ≡ t → valueIn (stored .slots) r ≡ cond t x (valueIn (v .slots) r)
+    pub put-holds : (dest : ℕ → ℕ) {v : Values} → Holds n S dest v m
+        → Holds n S dest (record { slots = record { slot = s; value = atomIn n S dest m d } ∷ v .slots; recorded = v .recorded; expressions = v .expressions }) (turned m slot mark)
     unfolding valueIn
-    value-at r t e = rw e
-
-    values : (r : ℕ) → r < S → slotValue l3 (st .epoch) r ≡ valueIn (stored .slots) r
-    values r l = go (eqb s r) refl
-      where
-        go : (t : Bool) → eqb s r ≡ t → slotValue l3 (st .epoch) r ≡ valueIn (stored .slots) r
-        go true e = ap (slotValue l3 (st .epoch)) (sym (eqb-true s r e)) ∙ value-here ∙ sym (value-at r true e)
-        go false e = value-there r (λ q. eqb-false s r e (sym q)) ∙ h .slots r l ∙ sym (value-at r false e)
-
-    sounds : (r : ℕ) → r < S → Sound n S dest (valueIn (stored .slots) r)
-    sounds r l = go (eqb s r) refl
-      where
-        go : (t : Bool) → eqb s r ≡ t → Sound n S dest (valueIn (stored .slots) r)
-        go true e = rw (value-at r true e) value
-        go false e = rw (value-at r false e) (h .sound r l)
-
-    mark-kept : (r : ℕ) → getD l3 (4 * r + 3) 0 ≡ getD (m .slots) (4 * r + 3) 0
-    mark-kept r = word-kept (4 * r + 3) (λ e. omega arith) (λ e. omega arith) (λ e. omega arith)
-
-    put-recorded : (w : Atom) → Sound n S dest w → slotFound (recordedAt n S st m5 w) ≡ slotIn (v .recorded) w
-    unfolding recordedAt markAt
-    put-recorded (Integer y) z = h .recorded (Integer y) z
-    put-recorded (Float y) z = h .recorded (Float y) z
-    put-recorded (Definition q r) z = rw (mark-kept r) (h .recorded (Definition q r) z)
-
-    first-words : (r : ℕ) → getD l3 (4 * r) 0 ≤ st .epoch
-    first-words r = go (eqb r s) refl
-      where
-        go : (t : Bool) → eqb r s ≡ t → getD l3 (4 * r) 0 ≤ st .epoch
-        go true e = rw (eqb-true r s e, word-0) (omega arith)
-        go false e =
-            let o : r ≡ s → ⊥ = eqb-false r s e in
-            rw (word-kept (4 * r) (λ q. o (omega arith)) (λ q. omega arith) (λ q. omega arith)) (h .past .slots r)
-
-    pub hold-put : Holds n S dest stored st m5
-    hold-put =
+    put-holds dest {v} h =
         record {
-          past = record { slots = first-words; starts = λ r. rw (mark-kept r) (h .past .starts r); places = h .past .places };
-          slots = values;
-          sound = sounds;
-          recorded = put-recorded;
-          low = h .low;
-          expressions = h .expressions;
-          known = h .known;
+          slots = slots-put (λ r x. atomIn n S dest m x ≡ valueIn (record { slot = s; value = atomIn n S dest m d } ∷ v .slots) r)
+              (rw (eq-eqb s s refl)) (λ r l g. rw (ne-eqb s r (λ e. g (sym e))) (h .slots r l));
+          recorded = λ e l. rw (mark-same m put e refl (marks e)) (h .recorded e l);
+          recorded-low = h .recorded-low;
+          recorded-numbered = λ w r q. let z = h .recorded-numbered w r q in record { number = z .number; low = z .low; is = z .is };
+          expressions = λ op flags left right a b c e. found-put dest (expressionAt n S m (expressionKey op flags left right)) ∙ h .expressions op flags left right a b c e;
+          left-numbered = λ e w q. let z = h .left-numbered e w q in record { number = z .number; low = z .low; is = z .is };
+          right-numbered = λ e w q. let z = h .right-numbered e w q in record { number = z .number; low = z .low; is = z .is };
         }
 
-  -- nothing is known where all is of an earlier epoch
-  module _ (st : State) (m : Memory) (slots : (s : ℕ) → getD (m .slots) (4 * s) 0 < st .epoch) (starts : (s : ℕ) → getD (m .slots) (4 * s + 3) 0 / 65536 < st .epoch)
-      (places : (p : ℕ) → getD (m .places) p 0 / 65536 < st .epoch) (constants : st .rbase ≡ st .rcount) (expressions : st .ebase ≡ st .ecount) (locals : S ≤ 65536) where
-    no-mark : (l : List ℕ) (i : ℕ) → getD l i 0 / 65536 < st .epoch → markAt l (st .epoch) i ≡ Nothing
-    unfolding markAt
-    no-mark l i f = rw (ne-eqb (getD l i 0 / 65536) (st .epoch) (λ e. omega arith))
+  -- ---- the key of an expression: its digits are in it
+  module _ (op flags left right : ℕ) (a : op < 256) (b : flags < 256) (c : left < 16777216) where
+    pub key-left : (op + 256 * flags + 65536 * left + 1099511627776 * right) / 65536 % 16777216 ≡ left
+    key-left =
+        let x : ℕ = op + 256 * flags in
+        let e : (op + 256 * flags + 65536 * left + 1099511627776 * right) / 65536 ≡ left + 16777216 * right = omega arith in
+        rw e (omega arith)
 
-    none-recorded : (w : Atom) → slotFound (recordedAt n S st m w) ≡ none
-    unfolding recordedAt slotFound
-    none-recorded (Integer x) = rw (constants, none-left (m .constants) n (st .rcount) (constantKey 0 x))
-    none-recorded (Float x) = rw (constants, none-left (m .constants) n (st .rcount) (constantKey 1 x))
-    none-recorded (Definition q r) = rw (no-mark (m .places) q (places q), no-mark (m .slots) (4 * r + 3) (starts r)) (go (ltb q n) (ltb r S))
+    pub key-right : (op + 256 * flags + 65536 * left + 1099511627776 * right) / 1099511627776 ≡ right
+    key-right = omega arith
+
+  -- ---- a constant more, with the next number
+  module _ {m : Memory} (o : Ordered n S m) (k : Key) (kind : k .right ≤ 1) (other : k ≡ constantKey 0 0 → ⊥) (new : newest (m .constantTable) n (m .constants) k ≡ 0) (room : m .constants < n)
+      (u : List ℕ) (g : Added (m .constantTable) u n (m .epoch) (m .constants) k 0) (slot mark : ℕ → ℕ)
+      (slots : (r : ℕ) → r < S → slot r ≡ m .slot r) (marks : (e : ℕ) → e < S + 2 * n + 1 → mark e ≡ m .mark e) where
+    abbrev more : Memory
+    more = grown m slot mark u
+
+    abbrev next : ℕ
+    next = S + n + 1 + m .constants
+
+    kept-number : (r : ℕ) → r < S → numberAt more r ≡ numberAt m r
+    kept-number r l = number-same m more r refl (slots r l)
+
+    kept-mark : (e : ℕ) → e < S + 2 * n + 1 → markedAt more e ≡ markedAt m e
+    kept-mark e f = mark-same m more e refl (marks e f)
+
+    -- the keys of the entries, with the new one
+    entries : (P : ℕ → Key → Type 0) → P (m .constants) k → ((j : ℕ) → j < m .constants → P j (keyAt (m .constantTable) n j)) → (j : ℕ) → j < m .constants + 1 → P j (keyAt u n j)
+    entries P h f j l = go (eqb j (m .constants)) refl
       where
-        go : (t u : Bool) → slotFound (cond t Nothing (cond u Nothing Nothing)) ≡ none
-        go true u = refl
-        go false true = refl
-        go false false = refl
+        go : (t : Bool) → eqb j (m .constants) ≡ t → P j (keyAt u n j)
+        go true q = rw (eqb-true j (m .constants) q, g .is-key) h
+        go false q = let z = eqb-false j (m .constants) q in let y : j < m .constants = omega arith in rw (g .keys j y) (f j y)
 
-    start-sound : (s : ℕ) → s < S → Sound n S dest (Definition atStart s)
-    unfolding Sound
-    start-sound s l = (omega arith, inl (refl, l))
+    once-more : (j : ℕ) → j < m .constants + 1 → newest u n (m .constants + 1) (keyAt u n j) ≡ suc j
+    once-more =
+        entries (λ j l. newest u n (m .constants + 1) l ≡ suc j)
+        (g .answer k ∙ rw (key-same k) (omega arith))
+        (λ j l. g .answer (keyAt (m .constantTable) n j) ∙ go j l (sameKey k (keyAt (m .constantTable) n j)) refl)
+      where
+        go : (j : ℕ) → j < m .constants → (t : Bool) → sameKey k (keyAt (m .constantTable) n j) ≡ t
+            → cond t (m .constants + 1) (newest (m .constantTable) n (m .constants) (keyAt (m .constantTable) n j)) ≡ suc j
+        go j l true q =
+            let z : newest (m .constantTable) n (m .constants) k ≡ suc j
+            = ap (newest (m .constantTable) n (m .constants)) (same-key k (keyAt (m .constantTable) n j) q) ∙ o .once j l in
+            absurd (omega arith)
+        go j l false q = o .once j l
 
-    at-start : (s : ℕ) → slotValue (m .slots) (st .epoch) s ≡ Definition atStart s
-    unfolding slotValue
-    at-start s = let f = slots s in rw (ne-eqb (getD (m .slots) (4 * s) 0) (st .epoch) (λ e. omega arith))
-
-    pub hold-nothing : Holds n S dest empty st m
-    unfolding valueIn slotIn expressionIn atomFound
-    hold-nothing =
+    pub more-ordered : Ordered n S (grown m slot mark u)
+    more-ordered =
         record {
-          past = record { slots = λ s. let f = slots s in omega arith; starts = λ s. let f = starts s in omega arith; places = λ p. let f = places p in omega arith };
-          slots = λ s l. at-start s;
-          sound = start-sound;
-          recorded = λ w y. none-recorded w;
-          low = λ w r e. let z : _≡_ {A = ℕ} 0 1 = cc in absurd (omega arith);
-          expressions = λ e y. rw (expressions, none-left (m .expressions) n (st .ecount) (keyOf e));
-          known = λ e w q. let z : _≡_ {A = ℕ} 0 1 = cc in absurd (omega arith);
+          locals = o .locals;
+          constants = g .linked;
+          expressions = o .expressions;
+          few-constants = omega arith;
+          few-expressions = o .few-expressions;
+          slots-past = λ r l. rw (slots r l) (o .slots-past r l);
+          marks-past = λ e l. rw (marks e l) (o .marks-past e l);
+          fresh = λ e l f. rw (marks e f) (o .fresh e (omega arith) f);
+          slots-low = λ r l. rw (kept-number r l) (omega (arith, o .slots-low r l));
+          values-low = λ j l. omega (arith, o .values-low j l);
+          lefts-low = λ j l. omega (arith, o .lefts-low j l);
+          rights-low = λ j l. omega (arith, o .rights-low j l);
+          once = once-more;
+          not-zero = entries (λ j l. l ≡ constantKey 0 0 → ⊥) other (o .not-zero);
+          kinds = entries (λ j l. l .right ≤ 1) kind (o .kinds);
         }
 
-  -- the recorded slot where it still holds the value and has the type
-  module _ {v : Values} {st : State} {m : Memory} (h : Holds n S dest v st m) (types : List ℕ) (w : Atom) (type : ℕ) where
-    usable-found : (f : Found) → slotFound f ≡ slotIn (v .recorded) w → slotFound (usableIn n S types st m w type f) ≡ usable types v w type (slotIn (v .recorded) w)
+    module _ (dest : ℕ → ℕ) where
+      -- the new number has the constant, the others what they had
+      pub atom-next : atomIn n S dest more (S + n + 1 + m .constants) ≡ constantOf k
+      atom-next = atom-constant n S dest u (m .constants) ∙ ap constantOf (g .is-key)
+
+      pub atom-kept : (d : ℕ) → d < limit n S m → atomIn n S dest more d ≡ atomIn n S dest m d
+      atom-kept d l = start (ltb d S) refl
+        where
+          constant : (j : ℕ) → d ≡ S + n + 1 + j → atomIn n S dest more d ≡ atomIn n S dest m d
+          constant j e =
+              let y : j < m .constants = omega arith in
+              rw e (atom-constant n S dest u j ∙ ap constantOf (g .keys j y) ∙ sym (atom-constant n S dest (m .constantTable) j))
+
+          zeroed : (t : Bool) → eqb d (S + n) ≡ t → S + n ≤ d → atomIn n S dest more d ≡ atomIn n S dest m d
+          zeroed true e f = rw (eqb-true d (S + n) e) (atom-zero n S dest u ∙ sym (atom-zero n S dest (m .constantTable)))
+          zeroed false e f = let z = eqb-false d (S + n) e in constant (d - (S + n + 1)) (omega arith)
+
+          place : (t : Bool) → ltb d (S + n) ≡ t → S ≤ d → atomIn n S dest more d ≡ atomIn n S dest m d
+          place true e f =
+              let below : d < S + n = ltb-true d (S + n) e in
+              let at : d ≡ S + (d - S) = omega arith in
+              let p : d - S < n = omega arith in
+              ap (atomIn n S dest more) at ∙ atom-place n S dest u (d - S) p ∙ sym (atom-place n S dest (m .constantTable) (d - S) p) ∙ ap (atomIn n S dest m) (sym at)
+          place false e f = zeroed (eqb d (S + n)) refl (ltb-false d (S + n) e)
+
+          start : (t : Bool) → ltb d S ≡ t → atomIn n S dest more d ≡ atomIn n S dest m d
+          start true e = let y : d < S = ltb-true d S e in atom-start n S dest u d y ∙ sym (atom-start n S dest (m .constantTable) d y)
+          start false e = place (ltb d (S + n)) refl (ltb-false d S e)
+
+      -- a value that had a number still has it, and the constant had none
+      renumbered : {w : Atom} → HasNumber n S dest m w → HasNumber n S dest more w
+      renumbered z = record { number = z .number; low = omega (arith, z .low); is = atom-kept (z .number) (z .low) ∙ z .is }
+
+      unnumbered : {w : Atom} → w ≡ constantOf k → HasNumber n S dest m w → ⊥
+      unnumbered e z = no-number n S few dest o k kind other new (z .number) (z .low) (z .is ∙ e)
+
+      not-some : {A : Type 0} (x : Option A) → ((y : A) → x ≡ some y → ⊥) → x ≡ none
+      not-some (some y) f = absurd (f y refl)
+      not-some none f = refl
+
+      -- each number is an old one or the new one
+      numbers : (P : ℕ → Type 0) → P (S + n + 1 + m .constants) → ((d : ℕ) → d < limit n S m → P d) → (d : ℕ) → d < limit n S more → P d
+      numbers P h f d l = go (eqb d next) refl
+        where
+          go : (t : Bool) → eqb d next ≡ t → P d
+          go true q = rw (eqb-true d next q) h
+          go false q = let z = eqb-false d next q in f d (omega arith)
+
+      no-mark : markedAt m next ≡ Nothing
+      unfolding markedAt
+      no-mark = let f = o .fresh next (omega arith) (omega arith) in rw (ne-eqb (m .mark next / 65536) (m .epoch) (λ e. omega arith))
+
+      module _ {v : Values} (h : Holds n S dest v m) where
+        recorded-more : (d : ℕ) → d < limit n S more → slotFound (markedAt more d) ≡ slotIn (v .recorded) (atomIn n S dest more d)
+        unfolding slotFound
+        recorded-more =
+            numbers (λ d. slotFound (markedAt more d) ≡ slotIn (v .recorded) (atomIn n S dest more d))
+            (rw (kept-mark next (omega arith), no-mark, atom-next) (sym (not-some (slotIn (v .recorded) (constantOf k)) (λ r q. unnumbered refl (h .recorded-numbered (constantOf k) r q)))))
+            (λ d l. let f : d < S + 2 * n + 1 = omega arith in rw (kept-mark d f, atom-kept d l) (h .recorded d l))
+
+        -- an expression of the new number is not known
+        abbrev asked : ℕ → ℕ → ℕ → ℕ → Type 0
+        asked op flags left right =
+            atomFound n S dest more (expressionAt n S more (expressionKey op flags left right))
+            ≡ expressionIn (v .expressions) (record { opcode = op; flags = flags; left = atomIn n S dest more left; right = atomIn n S dest more right })
+
+        not-found : (x : ℕ) → ((j : ℕ) → x ≡ suc j → ⊥) → x ≡ 0
+        not-found zero f = refl
+        not-found (suc j) f = absurd (f j refl)
+
+        unknown : (op flags left right : ℕ)
+            → ((j : ℕ) → newest (m .expressionTable) n (m .expressions) (expressionKey op flags left right) ≡ suc j → ⊥)
+            → ((w : Atom) → expressionIn (v .expressions) (record { opcode = op; flags = flags; left = atomIn n S dest more left; right = atomIn n S dest more right }) ≡ some w → ⊥)
+            → asked op flags left right
+        unfolding atomFound expressionIf
+        unknown op flags left right f q =
+            rw (not-found (newest (m .expressionTable) n (m .expressions) (expressionKey op flags left right)) f)
+            (sym (not-some (expressionIn (v .expressions) (record { opcode = op; flags = flags; left = atomIn n S dest more left; right = atomIn n S dest more right })) q))
+
+        -- an expression of old numbers is what it was
+        found-more : (f : Found) → ((d : ℕ) → f ≡ At d → d < limit n S m) → atomFound n S dest more f ≡ atomFound n S dest m f
+        unfolding atomFound
+        found-more (At d) l = ap some (atom-kept d (l d refl))
+        found-more Nothing l = refl
+
+        value-used : (x : ℕ) → x ≤ m .expressions → (d : ℕ) → expressionIf n S (m .expressionTable) x ≡ At d → d < limit n S m
+        unfolding expressionIf
+        value-used zero l d e = let z : _≡_ {A = ℕ} 0 1 = cc in absurd (omega arith)
+        value-used (suc j) l d e =
+            let z : value (m .expressionTable) n j ≡ d = cc in
+            let y : j < m .expressions = omega arith in
+            rw (← z) (o .values-low j y)
+
+        expressions-more : (op flags left right : ℕ) → op < 256 → flags < 256 → left < limit n S more → right < limit n S more → asked op flags left right
+        expressions-more op flags left right a b c d =
+            numbers (λ x. asked op flags x right) new-left
+            (λ x l. numbers (λ y. asked op flags x y) (new-right x l) (λ y f. old x y l f) right d) left c
+          where
+            big : next ≤ 196608
+            big = let x = o .locals in let y = o .few-constants in omega arith
+
+            new-left : asked op flags next right
+            new-left =
+                unknown op flags next right
+                (λ j q.
+                let found = newest-key (m .expressionTable) n (expressionKey op flags next right) (m .expressions) j q in
+                let digit : keyAt (m .expressionTable) n j .left / 65536 % 16777216 ≡ next
+                = ap (λ (x : Key). x .left / 65536 % 16777216) (found .1) ∙ key-left op flags next right a b (omega (arith, big)) in
+                omega (arith, o .lefts-low j (found .0)))
+                (λ w q. unnumbered atom-next (h .left-numbered (record { opcode = op; flags = flags; left = atomIn n S dest more next; right = atomIn n S dest more right }) w q))
+
+            new-right : (x : ℕ) → x < limit n S m → asked op flags x next
+            new-right x l =
+                unknown op flags x next
+                (λ j q.
+                let found = newest-key (m .expressionTable) n (expressionKey op flags x next) (m .expressions) j q in
+                let digit : keyAt (m .expressionTable) n j .left / 1099511627776 ≡ next
+                = ap (λ (y : Key). y .left / 1099511627776) (found .1) ∙ key-right op flags x next a b (omega (arith, big)) in
+                omega (arith, o .rights-low j (found .0)))
+                (λ w q. unnumbered atom-next (h .right-numbered (record { opcode = op; flags = flags; left = atomIn n S dest more x; right = atomIn n S dest more next }) w q))
+
+            old : (x y : ℕ) → x < limit n S m → y < limit n S m → asked op flags x y
+            old x y l f =
+                let bound : newest (m .expressionTable) n (m .expressions) (expressionKey op flags x y) ≤ m .expressions = newest-le (m .expressionTable) n (expressionKey op flags x y) (m .expressions) in
+                rw (atom-kept x l, atom-kept y f)
+                (found-more (expressionAt n S m (expressionKey op flags x y)) (value-used (newest (m .expressionTable) n (m .expressions) (expressionKey op flags x y)) bound)
+                ∙ h .expressions op flags x y a b l f)
+
+        pub more-holds : Holds n S dest v (grown m slot mark u)
+        more-holds =
+            record {
+              slots = λ r l. rw (kept-number r l, atom-kept (numberAt m r) (o .slots-low r l)) (h .slots r l);
+              recorded = recorded-more;
+              recorded-low = h .recorded-low;
+              recorded-numbered = λ w r q. renumbered (h .recorded-numbered w r q);
+              expressions = expressions-more;
+              left-numbered = λ e w q. renumbered (h .left-numbered e w q);
+              right-numbered = λ e w q. renumbered (h .right-numbered e w q);
+            }
+
+  -- ---- an expression more
+  module _ {m : Memory} (o : Ordered n S m) (op flags left right d : ℕ) (a : op < 256) (b : flags < 256) (l : left < limit n S m) (r : right < limit n S m) (used : d < limit n S m)
+      (room : m .expressions < n) (u : List ℕ) (g : Added (m .expressionTable) u n (m .epoch) (m .expressions) (expressionKey op flags left right) d) (slot mark : ℕ → ℕ)
+      (slots : (s : ℕ) → s < S → slot s ≡ m .slot s) (marks : (e : ℕ) → e < S + 2 * n + 1 → mark e ≡ m .mark e) where
+    abbrev learnt : Memory
+    learnt = taught m slot mark u
+
+    big-left : left < 16777216
+    big-left = omega (arith, small o)
+
+    -- the entries, with the new one
+    terms : (P : ℕ → Key → ℕ → Type 0) → P (m .expressions) (expressionKey op flags left right) d
+        → ((j : ℕ) → j < m .expressions → P j (keyAt (m .expressionTable) n j) (value (m .expressionTable) n j)) → (j : ℕ) → j < m .expressions + 1 → P j (keyAt u n j) (value u n j)
+    terms P h f j y = go (eqb j (m .expressions)) refl
+      where
+        go : (t : Bool) → eqb j (m .expressions) ≡ t → P j (keyAt u n j) (value u n j)
+        go true q = rw (eqb-true j (m .expressions) q, g .is-key, g .is-value) h
+        go false q = let z = eqb-false j (m .expressions) q in let x : j < m .expressions = omega arith in rw (g .keys j x, g .values j x) (f j x)
+
+    pub learn-ordered : Ordered n S (taught m slot mark u)
+    learn-ordered =
+        record {
+          locals = o .locals;
+          constants = o .constants;
+          expressions = g .linked;
+          few-constants = o .few-constants;
+          few-expressions = omega arith;
+          slots-past = λ s y. rw (slots s y) (o .slots-past s y);
+          marks-past = λ e y. rw (marks e y) (o .marks-past e y);
+          fresh = λ e y f. rw (marks e f) (o .fresh e y f);
+          slots-low = λ s y. rw (number-same m learnt s refl (slots s y)) (o .slots-low s y);
+          values-low = terms (λ j x y. y < limit n S m) used (λ j y. o .values-low j y);
+          lefts-low = terms (λ j x y. x .left / 65536 % 16777216 < limit n S m) (rw (key-left op flags left right a b big-left) l) (λ j y. o .lefts-low j y);
+          rights-low = terms (λ j x y. x .left / 1099511627776 < limit n S m) (rw (key-right op flags left right a b big-left) r) (λ j y. o .rights-low j y);
+          once = o .once;
+          not-zero = o .not-zero;
+          kinds = o .kinds;
+        }
+
+    module _ (dest : ℕ → ℕ) {v : Values} (h : Holds n S dest v m) where
+      abbrev term : ℕ → ℕ → ℕ → ℕ → Expression
+      term op flags left right = record { opcode = op; flags = flags; left = atomIn n S dest m left; right = atomIn n S dest m right }
+
+      digits : (o f l o′ f′ l′ r r′ : ℕ) → o < 256 → f < 256 → o′ < 256 → f′ < 256 → l < 16777216 → l′ < 16777216
+          → o + 256 * f + 65536 * l + 1099511627776 * r ≡ o′ + 256 * f′ + 65536 * l′ + 1099511627776 * r′ → (o ≡ o′) × (f ≡ f′) × (l ≡ l′) × (r ≡ r′)
+      digits o f l o′ f′ l′ r r′ a b a′ b′ c c′ e = (omega arith, omega arith, omega arith, omega arith)
+
+      same-term : (op′ flags′ left′ right′ : ℕ) → op′ < 256 → flags′ < 256 → left′ < limit n S m → right′ < limit n S m
+          → sameKey (expressionKey op flags left right) (expressionKey op′ flags′ left′ right′) ≡ sameExpression (term op flags left right) (term op′ flags′ left′ right′)
+      unfolding sameExpression
+      same-term op′ flags′ left′ right′ a′ b′ l′ r′ =
+          rw (same-number n S few dest o left left′ l l′, same-number n S few dest o right right′ r r′)
+          (same-bool (sameKey (expressionKey op flags left right) (expressionKey op′ flags′ left′ right′)) (cond (eqb op op′ && eqb flags flags′) (eqb left left′ && eqb right right′) false) there back)
+        where
+          there : sameKey (expressionKey op flags left right) (expressionKey op′ flags′ left′ right′) ≡ true → cond (eqb op op′ && eqb flags flags′) (eqb left left′ && eqb right right′) false ≡ true
+          there q =
+              let e = same-key (expressionKey op flags left right) (expressionKey op′ flags′ left′ right′) q in
+              let p = digits op flags left op′ flags′ left′ right right′ a b a′ b′ big-left (omega (arith, small o)) (ap (λ (x : Key). x .left) e) in
+              rw (eq-eqb op op′ (p .0), eq-eqb flags flags′ (p .1), eq-eqb left left′ (p .2), eq-eqb right right′ (p .3))
+
+          apart : (s t x y : Bool) → cond (s && t) (x && y) false ≡ true → (s ≡ true) × (t ≡ true) × (x ≡ true) × (y ≡ true)
+          apart true true x y q = let z = both x y q in (refl, refl, z .0, z .1)
+          apart true false x y q = let z : _≡_ {A = ℕ} 0 1 = cc in absurd (omega arith)
+          apart false t x y q = let z : _≡_ {A = ℕ} 0 1 = cc in absurd (omega arith)
+
+          back : cond (eqb op op′ && eqb flags flags′) (eqb left left′ && eqb right right′) false ≡ true → sameKey (expressionKey op flags left right) (expressionKey op′ flags′ left′ right′) ≡ true
+          back q =
+              let p = apart (eqb op op′) (eqb flags flags′) (eqb left left′) (eqb right right′) q in
+              rw (eqb-true op op′ (p .0), eqb-true flags flags′ (p .1), eqb-true left left′ (p .2), eqb-true right right′ (p .3)) (key-same (expressionKey op′ flags′ left′ right′))
+
+      -- the number of the new expression, and those of the others
+      found-learnt : (t : Bool) (x : ℕ) → x ≤ m .expressions
+          → atomFound n S dest learnt (expressionIf n S u (cond t (m .expressions + 1) x)) ≡ cond t (some (atomIn n S dest m d)) (atomFound n S dest m (expressionIf n S (m .expressionTable) x))
+      unfolding atomFound expressionIf
+      found-learnt true x y = rw (one (m .expressions), g .is-value)
+        where
+          one : (z : ℕ) → z + 1 ≡ suc z
+          one z = omega arith
+      found-learnt false zero y = refl
+      found-learnt false (suc j) y = let z : j < m .expressions = omega arith in rw (g .values j z)
+
+      asked-more : (op′ flags′ left′ right′ : ℕ) → op′ < 256 → flags′ < 256 → left′ < limit n S m → right′ < limit n S m
+          → atomFound n S dest learnt (expressionAt n S learnt (expressionKey op′ flags′ left′ right′))
+          ≡ expressionIn (record { expression = term op flags left right; value = atomIn n S dest m d } ∷ v .expressions) (term op′ flags′ left′ right′)
+      unfolding expressionIn
+      asked-more op′ flags′ left′ right′ a′ b′ l′ r′ =
+          let old : ℕ = newest (m .expressionTable) n (m .expressions) (expressionKey op′ flags′ left′ right′) in
+          ap (λ (x : ℕ). atomFound n S dest learnt (expressionIf n S u x)) (g .answer (expressionKey op′ flags′ left′ right′))
+          ∙ found-learnt (sameKey (expressionKey op flags left right) (expressionKey op′ flags′ left′ right′)) (newest (m .expressionTable) n (m .expressions) (expressionKey op′ flags′ left′ right′))
+          (newest-le (m .expressionTable) n (expressionKey op′ flags′ left′ right′) (m .expressions))
+          ∙ rw (same-term op′ flags′ left′ right′ a′ b′ l′ r′, h .expressions op′ flags′ left′ right′ a′ b′ l′ r′)
+
+      known-more : (P : Expression → Type 0) → P (term op flags left right) → ((e : Expression) (w : Atom) → expressionIn (v .expressions) e ≡ some w → P e)
+          → ((e e′ : Expression) → sameExpression e e′ ≡ true → P e → P e′)
+          → (e : Expression) (w : Atom) → expressionIn (record { expression = term op flags left right; value = atomIn n S dest m d } ∷ v .expressions) e ≡ some w → P e
+      unfolding expressionIn
+      known-more P p f same e w = go (sameExpression (term op flags left right) e) refl
+        where
+          go : (t : Bool) → sameExpression (term op flags left right) e ≡ t → cond t (some (atomIn n S dest m d)) (expressionIn (v .expressions) e) ≡ some w → P e
+          go true q z = same (term op flags left right) e q p
+          go false q z = f e w z
+
+      same-parts : (e e′ : Expression) → sameExpression e e′ ≡ true → (e .left ≡ e′ .left) × (e .right ≡ e′ .right)
+      unfolding sameExpression
+      same-parts e e′ q = go (eqb (e .opcode) (e′ .opcode) && eqb (e .flags) (e′ .flags)) (sameAtom (e .left) (e′ .left)) refl (sameAtom (e .right) (e′ .right)) refl q
+        where
+          go : (s x : Bool) → sameAtom (e .left) (e′ .left) ≡ x → (y : Bool) → sameAtom (e .right) (e′ .right) ≡ y → cond s (x && y) false ≡ true → (e .left ≡ e′ .left) × (e .right ≡ e′ .right)
+          go true x f y k z = let p = both x y z in (same-atom (e .left) (e′ .left) (f ∙ p .0), same-atom (e .right) (e′ .right) (k ∙ p .1))
+          go false x f y k z = let w : _≡_ {A = ℕ} 0 1 = cc in absurd (omega arith)
+
+      renamed : {w : Atom} → HasNumber n S dest m w → HasNumber n S dest learnt w
+      renamed z = record { number = z .number; low = z .low; is = z .is }
+
+      pub learn-holds : Holds n S dest (learn v (record { opcode = op; flags = flags; left = atomIn n S dest m left; right = atomIn n S dest m right }) (atomIn n S dest m d)) (taught m slot mark u)
+      unfolding learn
+      learn-holds =
+          record {
+            slots = λ s y. rw (number-same m learnt s refl (slots s y)) (h .slots s y);
+            recorded = λ e y. let f : e < S + 2 * n + 1 = let z = o .few-constants in omega arith in rw (mark-same m learnt e refl (marks e f)) (h .recorded e y);
+            recorded-low = h .recorded-low;
+            recorded-numbered = λ w s q. renamed (h .recorded-numbered w s q);
+            expressions = asked-more;
+            left-numbered = known-more (λ e. HasNumber n S dest learnt (e .left)) (record { number = left; low = l; is = refl }) (λ e w q. renamed (h .left-numbered e w q))
+                (λ e e′ q z. rw (← same-parts e e′ q .0) z);
+            right-numbered = known-more (λ e. HasNumber n S dest learnt (e .right)) (record { number = right; low = r; is = refl }) (λ e w q. renamed (h .right-numbered e w q))
+                (λ e e′ q z. rw (← same-parts e e′ q .1) z);
+          }
+
+  -- ---- nothing is known where all is of an earlier epoch
+  module _ (m : Memory) (locals : S ≤ 65536) (constants : m .constants ≡ 0) (expressions : m .expressions ≡ 0)
+      (linked : Linked (m .constantTable) n (m .epoch) 0) (terms-linked : Linked (m .expressionTable) n (m .epoch) 0)
+      (slots : (s : ℕ) → s < S → m .slot s / 4294967296 < m .epoch) (marks : (d : ℕ) → d < S + 2 * n + 1 → m .mark d / 65536 < m .epoch) where
+    own : (s : ℕ) → s < S → numberAt m s ≡ s
+    unfolding numberAt
+    own s l = let f = slots s l in rw (ne-eqb (m .slot s / 4294967296) (m .epoch) (λ e. omega arith))
+
+    pub nothing-ordered : Ordered n S m
+    nothing-ordered =
+        record {
+          locals = locals;
+          constants = rw constants linked;
+          expressions = rw expressions terms-linked;
+          few-constants = omega arith;
+          few-expressions = omega arith;
+          slots-past = λ s l. let f = slots s l in omega arith;
+          marks-past = λ d l. let f = marks d l in omega arith;
+          fresh = λ d l f. marks d f;
+          slots-low = λ s l. rw (own s l) (omega arith);
+          values-low = λ j l. absurd (omega arith);
+          lefts-low = λ j l. absurd (omega arith);
+          rights-low = λ j l. absurd (omega arith);
+          once = λ j l. absurd (omega arith);
+          not-zero = λ j l. absurd (omega arith);
+          kinds = λ j l. absurd (omega arith);
+        }
+
+    unmarked : (d : ℕ) → d < S + 2 * n + 1 → markedAt m d ≡ Nothing
+    unfolding markedAt
+    unmarked d l = let f = marks d l in rw (ne-eqb (m .mark d / 65536) (m .epoch) (λ e. omega arith))
+
+    pub nothing-holds : (dest : ℕ → ℕ) → Holds n S dest empty m
+    unfolding valueIn slotIn expressionIn slotFound atomFound expressionIf newest
+    nothing-holds dest =
+        record {
+          slots = λ s l. rw (own s l) (atom-start n S dest (m .constantTable) s l);
+          recorded = λ d l. let f : d < S + 2 * n + 1 = omega arith in rw (unmarked d f);
+          recorded-low = λ w r e. let z : _≡_ {A = ℕ} 0 1 = cc in absurd (omega arith);
+          recorded-numbered = λ w r e. let z : _≡_ {A = ℕ} 0 1 = cc in absurd (omega arith);
+          expressions = λ op flags left right a b c d. rw expressions;
+          left-numbered = λ e w q. let z : _≡_ {A = ℕ} 0 1 = cc in absurd (omega arith);
+          right-numbered = λ e w q. let z : _≡_ {A = ℕ} 0 1 = cc in absurd (omega arith);
+        }
+
+  -- ---- the recorded slot where it still holds the value and has the type
+  module _ {m : Memory} (o : Ordered n S m) (dest : ℕ → ℕ) {v : Values} (h : Holds n S dest v m) (types : List ℕ) (d type : ℕ) (used : d < limit n S m) where
+    usable-found : (f : Found) → slotFound f ≡ slotIn (v .recorded) (atomIn n S dest m d)
+        → slotFound (usableIn n S types m d type f) ≡ usable types v (atomIn n S dest m d) type (slotIn (v .recorded) (atomIn n S dest m d))
     unfolding usableIn usable slotFound
-    usable-found Nothing e = rw (sym e)
+    usable-found Nothing e = rw (← e)
     usable-found (At r) e =
-        let low : r < S = h .low w r (sym e) in
-        rw (sym e, lt-ltb r S low, h .slots r low) (go (sameAtom (valueIn (v .slots) r) w && eqb (getD types r 0) type))
+        let low : r < S = h .recorded-low (atomIn n S dest m d) r (sym e) in
+        rw (← e, lt-ltb r S low, ← h .slots r low, same-number n S few dest o (numberAt m r) d (o .slots-low r low) used) (go (eqb (numberAt m r) d && eqb (getD types r 0) type))
       where
         go : (t : Bool) → slotFound (cond t (At r) Nothing) ≡ cond t (some r) none
         go true = refl
         go false = refl
 
-    pub usable-holds : Sound n S dest w → slotFound (usableAt n S types st m w type) ≡ recordedSlot types v w type
+    pub usable-holds : slotFound (usableAt n S types m d type) ≡ recordedSlot types v (atomIn n S dest m d) type
     unfolding recordedSlot
-    usable-holds y = usable-found (recordedAt n S st m w) (h .recorded w y)
+    usable-holds = usable-found (markedAt m d) (h .recorded d used)
+
+  -- a slot that is found to be usable is a slot, and has the number
+  pub usable-low : (types : List ℕ) (m : Memory) (d type : ℕ) (f : Found) (r : ℕ) → usableIn n S types m d type f ≡ At r → (r < S) × (numberAt m r ≡ d)
+  unfolding usableIn
+  usable-low types m d type Nothing r e = let z : _≡_ {A = ℕ} 0 1 = cc in absurd (omega arith)
+  usable-low types m d type (At q) r e = go (ltb q S) refl (eqb (numberAt m q) d) refl (eqb (getD types q 0) type) e
+    where
+      go : (t : Bool) → ltb q S ≡ t → (x : Bool) → eqb (numberAt m q) d ≡ x → (y : Bool) → cond t (cond (x && y) (At q) Nothing) Nothing ≡ At r → (r < S) × (numberAt m r ≡ d)
+      go true l true k true z = let p : q ≡ r = cc in rw (← p) (ltb-true q S l, eqb-true (numberAt m q) d k)
+      go true l true k false z = let w : _≡_ {A = ℕ} 0 1 = cc in absurd (omega arith)
+      go true l false k y z = let w : _≡_ {A = ℕ} 0 1 = cc in absurd (omega arith)
+      go false l x k y z = let w : _≡_ {A = ℕ} 0 1 = cc in absurd (omega arith)

@@ -1,8 +1,10 @@
 pub mod Unfolded
 pub mod Parts
-pub mod Encoding
+pub mod Atoms
 pub mod Holding
 pub mod Recording
+pub mod Growing
+pub mod Reading
 pub mod Walking
 pub mod Starting
 pub mod Loop

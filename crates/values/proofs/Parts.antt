@@ -8,7 +8,7 @@ use lib.ListN.{length, getD}
 use lib.Seq.{ext-getD}
 use borrow.Rule.Slice.PartMut.{putMid}
 use Rattle.words.specs.Regions.{mid-long, get-mid, mid-put, put-long, get-before, get-after}
-use Rattle.values.specs.Memory.{part, placesAt, constantsAt, expressionsAt, endAt, Memory, memoryOf}
+use Rattle.values.specs.Memory.{part}
 
 module _ (a e : ℕ) (t u : List ℕ) (from : a ≤ e) (to : e ≤ length t) (long : length u ≡ e - a) where
   inside : a + (e - a) ≤ length t
@@ -43,48 +43,3 @@ module _ (a e : ℕ) (t u : List ℕ) (from : a ≤ e) (to : e ≤ length t) (lo
       let at : b + i ≡ a + (e - a) + (b + i - e) = omega arith in
       rw at (get-after t a (e - a) u long inside (b + i - e) 0))
       low
-
--- the memory with one region replaced
-module _ (n S : ℕ) (t u : List ℕ) (long : endAt n S ≤ length t) where
-  abbrev m : Memory
-  m = memoryOf n S t
-
-  pub slots-put : length u ≡ placesAt S - 0 → memoryOf n S (putMid 0 (placesAt S - 0) t u)
-      ≡ record { slots = u; places = memoryOf n S t .places; constants = memoryOf n S t .constants; expressions = memoryOf n S t .expressions }
-  slots-put e =
-      rw (
-        part-put 0 (placesAt S) t u (omega arith) (omega arith) e,
-        part-after 0 (placesAt S) t u (omega arith) (omega arith) e (placesAt S) (constantsAt n S) (omega arith) (omega arith) (omega arith),
-        part-after 0 (placesAt S) t u (omega arith) (omega arith) e (constantsAt n S) (expressionsAt n S) (omega arith) (omega arith) (omega arith),
-        part-after 0 (placesAt S) t u (omega arith) (omega arith) e (expressionsAt n S) (endAt n S) (omega arith) (omega arith) (omega arith),
-      )
-
-  pub places-put : length u ≡ constantsAt n S - placesAt S → memoryOf n S (putMid (placesAt S) (constantsAt n S - placesAt S) t u)
-      ≡ record { slots = memoryOf n S t .slots; places = u; constants = memoryOf n S t .constants; expressions = memoryOf n S t .expressions }
-  places-put e =
-      rw (
-        part-before (placesAt S) (constantsAt n S) t u (omega arith) (omega arith) e 0 (placesAt S) (omega arith) (omega arith),
-        part-put (placesAt S) (constantsAt n S) t u (omega arith) (omega arith) e,
-        part-after (placesAt S) (constantsAt n S) t u (omega arith) (omega arith) e (constantsAt n S) (expressionsAt n S) (omega arith) (omega arith) (omega arith),
-        part-after (placesAt S) (constantsAt n S) t u (omega arith) (omega arith) e (expressionsAt n S) (endAt n S) (omega arith) (omega arith) (omega arith),
-      )
-
-  pub constants-put : length u ≡ expressionsAt n S - constantsAt n S → memoryOf n S (putMid (constantsAt n S) (expressionsAt n S - constantsAt n S) t u)
-      ≡ record { slots = memoryOf n S t .slots; places = memoryOf n S t .places; constants = u; expressions = memoryOf n S t .expressions }
-  constants-put e =
-      rw (
-        part-before (constantsAt n S) (expressionsAt n S) t u (omega arith) (omega arith) e 0 (placesAt S) (omega arith) (omega arith),
-        part-before (constantsAt n S) (expressionsAt n S) t u (omega arith) (omega arith) e (placesAt S) (constantsAt n S) (omega arith) (omega arith),
-        part-put (constantsAt n S) (expressionsAt n S) t u (omega arith) (omega arith) e,
-        part-after (constantsAt n S) (expressionsAt n S) t u (omega arith) (omega arith) e (expressionsAt n S) (endAt n S) (omega arith) (omega arith) (omega arith),
-      )
-
-  pub expressions-put : length u ≡ endAt n S - expressionsAt n S → memoryOf n S (putMid (expressionsAt n S) (endAt n S - expressionsAt n S) t u)
-      ≡ record { slots = memoryOf n S t .slots; places = memoryOf n S t .places; constants = memoryOf n S t .constants; expressions = u }
-  expressions-put e =
-      rw (
-        part-before (expressionsAt n S) (endAt n S) t u (omega arith) (omega arith) e 0 (placesAt S) (omega arith) (omega arith),
-        part-before (expressionsAt n S) (endAt n S) t u (omega arith) (omega arith) e (placesAt S) (constantsAt n S) (omega arith) (omega arith),
-        part-before (expressionsAt n S) (endAt n S) t u (omega arith) (omega arith) e (constantsAt n S) (expressionsAt n S) (omega arith) (omega arith),
-        part-put (expressionsAt n S) (endAt n S) t u (omega arith) (omega arith) e,
-      )

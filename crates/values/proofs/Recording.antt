@@ -1,286 +1,227 @@
 -- What the functions of the table do to the memory, each with the table of values that it then holds.
 -- Assumes nothing.
 use mathlib.Core.Path.{_≡_, refl, sym, ap, _∙_}
-use mathlib.Core.Bool.{Bool, true, false, cond, _&&_}
+use mathlib.Core.Bool.{Bool, true, false}
 use mathlib.Core.List.{List, _∷_}
-use mathlib.Core.Logic.{⊎-elim, _⊎_}
 use mathlib.Core.Option.{none, some}
-use Prim.Native.Nat.{ℕ, _+_, _*_, _-_, _≤_, _<_}
+use Prim.Native.Nat.{ℕ, zero, suc, _+_, _*_, _-_, _/_, _≤_, _<_}
 use native.Mathlib.Omega.{arith}
-use lib.Dec.{eqb, ltb}
+use lib.Dec.{eqb}
 use lib.ListN.{length, getD, set, length-set}
-use borrow.Rule.Slice.PartMut.{putMid}
-use borrow.Author.Tests.{ltb-true, eq-eqb}
-use Rattle.words.specs.Regions.{mid-long}
-use Rattle.values.specs.Table.{Values, atStart, sameAtom, valueIn, valueOf, recordedSlot, representative, orItself, store}
-use Rattle.values.specs.Entries.{Added}
-use Rattle.values.specs.Memory.{placesAt, constantsAt, expressionsAt, endAt, Memory, memoryOf, slotValue, constantKey, recordedAt, usableIn, usableAt, slotFound, Ready, Sound, Holds, tagOf, bitsOf, atomOf}
-use Rattle.values.specs.Kept.{Kept, Recorded, Represents, Stores, Learns, counted, taught}
-use Rattle.values.specs.declared.Atom.{Atom}
-use Rattle.values.specs.declared.Atom.the-variants.{Integer, Float, Definition}
+use lib.Seq.{getD-set-same, getD-set-other}
+use borrow.Rule.Slice.PartMut.{putMid, midOf}
+use borrow.Author.Tests.{eqb-true, eqb-false, eq-eqb}
+use Rattle.words.specs.Regions.{mid-long, mid-set-before}
+use Rattle.values.specs.Table.{Values, valueIn, valueOf, recordedSlot, representative, orItself, store}
+use Rattle.values.specs.Entries.{Linked}
+use Rattle.values.specs.Adding.{next-epoch}
+use Rattle.values.specs.Memory.{marksAt, constantsAt, expressionsAt, endAt, Memory, memoryOf, numberAt, markedAt, usableAt, slotFound, limit, Ordered, Ready, atomIn, Holds}
+use Rattle.values.specs.Kept.{Kept, Same, Clears, Represents, Stores}
 use Rattle.values.specs.declared.Found.{Found}
 use Rattle.values.specs.declared.Found.the-variants.{At, Nothing}
-use Rattle.values.specs.declared.State.{State}
-use Rattle.values.specs.declared.Key.{Key}
-use Rattle.values.proofs.Encoding.{decoded}
-use Rattle.values.proofs.Parts.{put-length, slots-put, places-put, constants-put, expressions-put}
-use Rattle.values.proofs.Holding.{hold-place, hold-start, hold-integer, hold-float, hold-learn, hold-put, usable-holds}
+use Rattle.values.proofs.Holding.{turned, number-same, mark-ordered, mark-holds, put-ordered, put-number, put-holds, nothing-ordered, nothing-holds, usable-holds, usable-low}
 
--- a slot that is found to be usable is a slot
-pub usable-low : (n S : ℕ) (types : List ℕ) (st : State) (m : Memory) (w : Atom) (type : ℕ) (f : Found) (r : ℕ) → usableIn n S types st m w type f ≡ At r → r < S
-unfolding usableIn
-usable-low n S types st m w type Nothing r e = let z : _≡_ {A = ℕ} 0 1 = cc in absurd (omega arith)
-usable-low n S types st m w type (At q) r e = go (ltb q S) refl (sameAtom (slotValue (m .slots) (st .epoch) q) w && eqb (getD types q 0) type) e
-  where
-    go : (t : Bool) → ltb q S ≡ t → (u : Bool) → cond t (cond u (At q) Nothing) Nothing ≡ At r → r < S
-    go true l true d = let x : q ≡ r = cc in let y : q < S = ltb-true q S l in omega arith
-    go true l false d = let z : _≡_ {A = ℕ} 0 1 = cc in absurd (omega arith)
-    go false l u d = let z : _≡_ {A = ℕ} 0 1 = cc in absurd (omega arith)
+-- a word of a slot or a mark stored: the counts and the tables of entries are as they were
+set-memory : (n S : ℕ) (t : List ℕ) (i w : ℕ) → 3 ≤ i → i < constantsAt n S
+    → memoryOf n S (set t i w) ≡ turned (memoryOf n S t) (λ s. getD (set t i w) (3 + s) 0) (λ d. getD (set t i w) (marksAt S + d) 0)
+set-memory n S t i w l h =
+    rw (
+      getD-set-other t i 0 w 0 (λ e. omega arith),
+      getD-set-other t i 1 w 0 (λ e. omega arith),
+      getD-set-other t i 2 w 0 (λ e. omega arith),
+      mid-set-before t (constantsAt n S) (expressionsAt n S - constantsAt n S) i w h,
+      mid-set-before t (expressionsAt n S) (endAt n S - expressionsAt n S) i w (omega arith),
+    )
 
-module _ {n S : ℕ} {st : State} {t : List ℕ} (g : Ready n S st t) where
+module _ {n S : ℕ} {t : List ℕ} (g : Ready n S t) where
   abbrev m : Memory
   m = memoryOf n S t
 
-  few : n ≤ 65536
-  few = g .constants .few
+  pub few : n ≤ 65536
+  few = g .order .constants .few
 
-  -- the lengths of the regions
-  pub slots-long : length (memoryOf n S t .slots) ≡ placesAt S - 0
-  slots-long = mid-long t 0 (placesAt S - 0) (omega (arith, g .long))
+  pub some-code : 0 < n
+  some-code = g .order .constants .some
 
-  pub places-long : length (memoryOf n S t .places) ≡ constantsAt n S - placesAt S
-  places-long = mid-long t (placesAt S) (constantsAt n S - placesAt S) (omega (arith, g .long))
+  -- nothing changes
+  pub unchanged : Kept n S 0 0 0 t t
+  unchanged = record { ready = g; long = refl; epochs = omega arith; constants = omega arith; expressions = omega arith }
 
-  pub constants-long : length (memoryOf n S t .constants) ≡ expressionsAt n S - constantsAt n S
-  constants-long = mid-long t (constantsAt n S) (expressionsAt n S - constantsAt n S) (omega (arith, g .long))
+  pub same-self : Same n S t t
+  same-self = record { numbers = λ s l. refl; constants = refl; table = refl }
 
-  pub expressions-long : length (memoryOf n S t .expressions) ≡ endAt n S - expressionsAt n S
-  expressions-long = mid-long t (expressionsAt n S) (endAt n S - expressionsAt n S) (omega (arith, g .long))
+  -- all is forgotten
+  module _ (more : memoryOf n S t .epoch < 4294967295) where
+    abbrev c₁ : List ℕ
+    c₁ = set t 0 (getD t 0 0 + 1)
 
-  -- a mark set: the tables of entries are as they were
-  marks-kept : {t′ : List ℕ} → length t′ ≡ length t → memoryOf n S t′ .constants ≡ m .constants → memoryOf n S t′ .expressions ≡ m .expressions → Kept n S 0 1 0 st t st t′
-  marks-kept {t′} l c e =
-      record {
-        ready = record {
-          locals = g .locals;
-          long = rw l (g .long);
-          constants = rw c (g .constants);
-          expressions = rw e (g .expressions);
-          constants-base = g .constants-base;
-          expressions-base = g .expressions-base;
-          epoch = g .epoch;
-        };
-        long = l;
-        epochs = omega arith;
-        constants = omega arith;
-        expressions = omega arith;
-      }
+    abbrev c₂ : List ℕ
+    c₂ = set c₁ 1 0
 
-  module _ (u : List ℕ) (s : ℕ) (fits : s < 65536) where
-    -- for a definition
-    module _ (p a : ℕ) (place : p < n) (e : u ≡ set (memoryOf n S t .places) p (65536 * st .epoch + s)) where
-      long1 : length u ≡ constantsAt n S - placesAt S
-      long1 = ap length e ∙ length-set (m .places) p (65536 * st .epoch + s) ∙ places-long
+    abbrev c₃ : List ℕ
+    c₃ = set c₂ 2 0
 
-      pub record-place : Recorded n S st t (Definition p a) s st (putMid (placesAt S) (constantsAt n S - placesAt S) t u)
-      unfolding Sound
-      record-place =
-          let q = places-put n S t u (g .long) long1 in
-          record {
-            kept = marks-kept (put-length (placesAt S) (constantsAt n S) t u (omega arith) (omega (arith, g .long)) long1) (ap (λ (x : Memory). x .constants) q) (ap (λ (x : Memory). x .expressions) q);
-            holds = λ dest v h y low.
-                let here : a ≡ dest p = ⊎-elim (λ z. absurd (let f = z .0 in omega (arith, few))) (λ z. z .1) (y .1) in
-                let long : p < length (m .places) = omega (arith, places-long) in
-                rw (q, e, here) (hold-place n S few dest h p s place low fits long);
-          }
+    long : length c₃ ≡ length t
+    long = simp length-set
 
-    -- for a slot's value at the block's start
-    module _ (p a : ℕ) (place : n ≤ p) (slot : a < S) (e : u ≡ set (memoryOf n S t .slots) (4 * a + 3) (65536 * st .epoch + s)) where
-      long2 : length u ≡ placesAt S - 0
-      long2 = ap length e ∙ length-set (m .slots) (4 * a + 3) (65536 * st .epoch + s) ∙ slots-long
+    word : (i : ℕ) → 3 ≤ i → getD c₃ i 0 ≡ getD t i 0
+    word i l = getD-set-other c₂ 2 i 0 0 (λ e. omega arith) ∙ getD-set-other c₁ 1 i 0 0 (λ e. omega arith) ∙ getD-set-other t 0 i (getD t 0 0 + 1) 0 (λ e. omega arith)
 
-      pub record-start : Recorded n S st t (Definition p a) s st (putMid 0 (placesAt S - 0) t u)
-      unfolding Sound
-      record-start =
-          let q = slots-put n S t u (g .long) long2 in
-          record {
-            kept = marks-kept (put-length 0 (placesAt S) t u (omega arith) (omega (arith, g .long)) long2) (ap (λ (x : Memory). x .constants) q) (ap (λ (x : Memory). x .expressions) q);
-            holds = λ dest v h y low.
-                let here : p ≡ atStart = ⊎-elim (λ z. z .0) (λ z. absurd (let f = z .0 in omega arith)) (y .1) in
-                let long : 4 * a + 3 < length (m .slots) = omega (arith, slots-long) in
-                rw (q, e, here) (hold-start n S few dest h a s slot low fits long);
-          }
+    epoch : getD c₃ 0 0 ≡ getD t 0 0 + 1
+    epoch = getD-set-other c₂ 2 0 0 0 (λ e. omega arith) ∙ getD-set-other c₁ 1 0 0 0 (λ e. omega arith) ∙ getD-set-same t 0 (getD t 0 0 + 1) 0 (omega (arith, g .long))
 
-    -- for a constant
-    module _ (k : Key) (b : Added (memoryOf n S t .constants) u n (st .rcount) k s) where
-      long3 : length u ≡ expressionsAt n S - constantsAt n S
-      long3 = b .long ∙ constants-long
+    constants : getD c₃ 1 0 ≡ 0
+    constants = getD-set-other c₂ 2 1 0 0 (λ e. omega arith) ∙ getD-set-same c₁ 1 0 0 (simp length-set (omega (arith, g .long)))
 
-      abbrev t3 : List ℕ
-      t3 = putMid (constantsAt n S) (expressionsAt n S - constantsAt n S) t u
+    expressions : getD c₃ 2 0 ≡ 0
+    expressions = getD-set-same c₂ 2 0 0 (simp length-set (omega (arith, g .long)))
 
-      memory3 : memoryOf n S t3 ≡ record { slots = m .slots; places = m .places; constants = u; expressions = m .expressions }
-      memory3 = constants-put n S t u (g .long) long3
+    region : (a k : ℕ) → 3 ≤ a → midOf a k c₃ ≡ midOf a k t
+    region a k l = mid-set-before c₂ a k 2 0 (omega arith) ∙ mid-set-before c₁ a k 1 0 (omega arith) ∙ mid-set-before t a k 0 (getD t 0 0 + 1) (omega arith)
 
-      entry-kept : Kept n S 0 1 0 st t (counted st (st .rcount + 1)) t3
-      entry-kept =
-          let l : length t3 ≡ length t = put-length (constantsAt n S) (expressionsAt n S) t u (omega arith) (omega (arith, g .long)) long3 in
-          record {
-            ready = record {
-              locals = g .locals;
-              long = rw l (g .long);
-              constants = rw (ap (λ (x : Memory). x .constants) memory3) (b .linked);
-              expressions = rw (ap (λ (x : Memory). x .expressions) memory3) (g .expressions);
-              constants-base = let f = g .constants-base in omega arith;
-              expressions-base = g .expressions-base;
-              epoch = g .epoch;
-            };
-            long = l;
-            epochs = omega arith;
-            constants = omega arith;
-            expressions = omega arith;
-          }
+    linked : Linked (memoryOf n S c₃ .constantTable) n (memoryOf n S c₃ .epoch) 0
+    linked = rw (region (constantsAt n S) (expressionsAt n S - constantsAt n S) (omega arith), epoch) (next-epoch (g .order .constants) (omega arith))
 
-    pub record-integer : (x : ℕ) → Added (memoryOf n S t .constants) u n (st .rcount) (constantKey 0 x) s
-        → Recorded n S st t (Integer x) s (counted st (st .rcount + 1)) (putMid (constantsAt n S) (expressionsAt n S - constantsAt n S) t u)
-    record-integer x b =
+    terms : Linked (memoryOf n S c₃ .expressionTable) n (memoryOf n S c₃ .epoch) 0
+    terms = rw (region (expressionsAt n S) (endAt n S - expressionsAt n S) (omega arith), epoch) (next-epoch (g .order .expressions) (omega arith))
+
+    slots : (s : ℕ) → s < S → getD c₃ (3 + s) 0 / 4294967296 < getD c₃ 0 0
+    slots s l = rw (word (3 + s) (omega arith), epoch) (let f = g .order .slots-past s l in omega arith)
+
+    marks : (d : ℕ) → d < S + 2 * n + 1 → getD c₃ (marksAt S + d) 0 / 65536 < getD c₃ 0 0
+    marks d l = rw (word (marksAt S + d) (omega arith), epoch) (let f = g .order .marks-past d l in omega arith)
+
+    pub clears : Clears n S t (set (set (set t 0 (getD t 0 0 + 1)) 1 0) 2 0)
+    clears =
         record {
-          kept = entry-kept (constantKey 0 x) b;
-          holds = λ dest v h y low. rw (memory3 (constantKey 0 x) b) (hold-integer n S few dest h x s u (g .constants-base) low b);
+          kept = record {
+            ready = record { long = rw long (g .long); order = nothing-ordered n S few (memoryOf n S c₃) (g .order .locals) constants expressions linked terms slots marks };
+            long = long;
+            epochs = rw epoch (omega arith);
+            constants = rw constants (omega arith);
+            expressions = rw expressions (omega arith);
+          };
+          holds = nothing-holds n S few (memoryOf n S c₃) (g .order .locals) constants expressions linked terms slots marks;
         }
 
-    pub record-float : (x : ℕ) → Added (memoryOf n S t .constants) u n (st .rcount) (constantKey 1 x) s
-        → Recorded n S st t (Float x) s (counted st (st .rcount + 1)) (putMid (constantsAt n S) (expressionsAt n S - constantsAt n S) t u)
-    record-float x b =
-        record {
-          kept = entry-kept (constantKey 1 x) b;
-          holds = λ dest v h y low. rw (memory3 (constantKey 1 x) b) (hold-float n S few dest h x s u (g .constants-base) low b);
-        }
+  -- the slot that stands for slot s, whose value has the number d
+  module _ (types : List ℕ) (s d : ℕ) (low : s < S) (is : d ≡ numberAt (memoryOf n S t) s) where
+    used : d < limit n S m
+    used = rw is (g .order .slots-low s low)
 
-  -- no such value occurs
-  pub record-none : (p a s : ℕ) → n ≤ p → S ≤ a → Recorded n S st t (Definition p a) s st t
-  unfolding Sound
-  record-none p a s f l =
-      record {
-        kept = marks-kept refl refl refl;
-        holds = λ dest v h y low. absurd (⊎-elim (λ z. let r = z .1 in omega arith) (λ z. let r = z .0 in omega arith) (y .1));
-      }
+    value : (dest : ℕ → ℕ) {v : Values} → Holds n S dest v m → valueOf v s ≡ atomIn n S dest m d
+    value dest h = sym (h .slots s low) ∙ ap (atomIn n S dest m) (sym is)
 
-  -- the recorded slot stands for the value, or the slot itself is recorded
-  module _ (types : List ℕ) (s : ℕ) (w : Atom) (low : s < S) where
-    pub represent-found : {f : Found} {r : ℕ} → f ≡ usableAt n S types st (memoryOf n S t) w (getD types s 0) → f ≡ At r → Represents n S types st t s w r st t
+    pub represent-found : {f : Found} {r : ℕ} → f ≡ usableAt n S types (memoryOf n S t) d (getD types s 0) → f ≡ At r → Represents n S types t s d r t
     unfolding representative orItself slotFound
     represent-found {f} {r} e q =
-        let found : usableAt n S types st m w (getD types s 0) ≡ At r = sym e ∙ q in
+        let found : usableAt n S types m d (getD types s 0) ≡ At r = sym e ∙ q in
+        let lower = usable-low n S few types m d (getD types s 0) (markedAt m d) r found in
         record {
-          kept = marks-kept refl refl refl;
-          low = usable-low n S types st m w (getD types s 0) (recordedAt n S st m w) r found;
-          holds = λ dest v h z.
+          kept = unchanged;
+          same = same-self;
+          low = lower .0;
+          number = lower .1;
+          holds = λ dest v h.
               let known : some r ≡ recordedSlot types v (valueOf v s) (getD types s 0)
-              = ap slotFound (sym found) ∙ usable-holds n S few dest h types w (getD types s 0) (rw z (h .sound s low)) ∙ ap (λ (b : Atom). recordedSlot types v b (getD types s 0)) z in
+              = ap slotFound (sym found) ∙ usable-holds n S few (g .order) dest h types d (getD types s 0) used ∙ ap (λ x. recordedSlot types v x (getD types s 0)) (sym (value dest h)) in
               rw (sym known) (refl, h);
         }
 
-    pub represent-itself : {f : Found} {st′ : State} {t′ : List ℕ} → f ≡ usableAt n S types st (memoryOf n S t) w (getD types s 0) → f ≡ Nothing
-        → Recorded n S st t w s st′ t′ → Represents n S types st t s w s st′ t′
+    abbrev t₁ : List ℕ
+    t₁ = set t (3 + S + d) (65536 * getD t 0 0 + s)
+
+    inside : 3 + S + d < constantsAt n S
+    inside = let a = g .order .few-constants in let b = used in omega arith
+
+    memory₁ : memoryOf n S t₁ ≡ turned m (λ r. getD t₁ (3 + r) 0) (λ e. getD t₁ (marksAt S + e) 0)
+    memory₁ = set-memory n S t (3 + S + d) (65536 * getD t 0 0 + s) (omega arith) inside
+
+    slots₁ : (r : ℕ) → r < S → getD t₁ (3 + r) 0 ≡ getD t (3 + r) 0
+    slots₁ r l = getD-set-other t (3 + S + d) (3 + r) (65536 * getD t 0 0 + s) 0 (λ e. omega arith)
+
+    here₁ : getD t₁ (marksAt S + d) 0 ≡ 65536 * getD t 0 0 + s
+    here₁ = getD-set-same t (3 + S + d) (65536 * getD t 0 0 + s) 0 (let a = g .long in let b = inside in omega arith)
+
+    there₁ : (e : ℕ) → (e ≡ d → ⊥) → getD t₁ (marksAt S + e) 0 ≡ getD t (marksAt S + e) 0
+    there₁ e f = getD-set-other t (3 + S + d) (marksAt S + e) (65536 * getD t 0 0 + s) 0 (λ q. f (omega arith))
+
+    order₁ : Ordered n S (memoryOf n S t₁)
+    order₁ = rw memory₁ (mark-ordered n S few (g .order) d s low used (λ r. getD t₁ (3 + r) 0) (λ e. getD t₁ (marksAt S + e) 0) slots₁ here₁ there₁)
+
+    long₁ : length t₁ ≡ length t
+    long₁ = length-set t (3 + S + d) (65536 * getD t 0 0 + s)
+
+    pub represent-itself : {f : Found} → f ≡ usableAt n S types (memoryOf n S t) d (getD types s 0) → f ≡ Nothing → Represents n S types t s d s (set t (3 + S + d) (65536 * getD t 0 0 + s))
     unfolding representative orItself slotFound
-    represent-itself {f} {st′} {t′} e q d =
-        let found : usableAt n S types st m w (getD types s 0) ≡ Nothing = sym e ∙ q in
+    represent-itself {f} e q =
+        let found : usableAt n S types m d (getD types s 0) ≡ Nothing = sym e ∙ q in
         record {
-          kept = d .kept;
+          kept = record {
+            ready = record { long = rw long₁ (g .long); order = order₁ };
+            long = long₁;
+            epochs = rw (ap (λ (x : Memory). x .epoch) memory₁) (omega arith);
+            constants = rw (ap (λ (x : Memory). x .constants) memory₁) (omega arith);
+            expressions = rw (ap (λ (x : Memory). x .expressions) memory₁) (omega arith);
+          };
+          same = record {
+            numbers = λ r l. number-same m (memoryOf n S t₁) r (ap (λ (x : Memory). x .epoch) memory₁) (slots₁ r l);
+            constants = ap (λ (x : Memory). x .constants) memory₁;
+            table = ap (λ (x : Memory). x .constantTable) memory₁;
+          };
           low = low;
-          holds = λ dest v h z.
-              let sound : Sound n S dest w = rw z (h .sound s low) in
+          number = sym is;
+          holds = λ dest v h.
               let known : none ≡ recordedSlot types v (valueOf v s) (getD types s 0)
-              = ap slotFound (sym found) ∙ usable-holds n S few dest h types w (getD types s 0) sound ∙ ap (λ (b : Atom). recordedSlot types v b (getD types s 0)) z in
-              rw (sym known) (refl, rw (sym z) (d .holds dest v h sound low));
+              = ap slotFound (sym found) ∙ usable-holds n S few (g .order) dest h types d (getD types s 0) used ∙ ap (λ x. recordedSlot types v x (getD types s 0)) (sym (value dest h)) in
+              rw (sym known, memory₁, value dest h) (refl, mark-holds n S few (g .order) d s low used (λ r. getD t₁ (3 + r) 0) (λ e. getD t₁ (marksAt S + e) 0) slots₁ here₁ there₁ dest h);
         }
 
-    -- a value that comes as its words
-    pub by-words : {slot : ℕ} {st′ : State} {t′ : List ℕ} {tag bits : ℕ} → tag ≡ tagOf w → bits ≡ bitsOf w → Represents n S types st t s (atomOf tag bits) slot st′ t′ → Represents n S types st t s w slot st′ t′
-    by-words a b d =
+  -- a number stored in a slot, before the slot is represented
+  module _ (s d : ℕ) (low : s < S) (used : d < limit n S (memoryOf n S t)) where
+    abbrev t₂ : List ℕ
+    t₂ = set t (3 + s) (4294967296 * getD t 0 0 + d)
+
+    inside₂ : 3 + s < constantsAt n S
+    inside₂ = omega arith
+
+    memory₂ : memoryOf n S t₂ ≡ turned m (λ r. getD t₂ (3 + r) 0) (λ e. getD t₂ (marksAt S + e) 0)
+    memory₂ = set-memory n S t (3 + s) (4294967296 * getD t 0 0 + d) (omega arith) inside₂
+
+    here₂ : getD t₂ (3 + s) 0 ≡ 4294967296 * getD t 0 0 + d
+    here₂ = getD-set-same t (3 + s) (4294967296 * getD t 0 0 + d) 0 (let a = g .long in omega arith)
+
+    there₂ : (r : ℕ) → r < S → (r ≡ s → ⊥) → getD t₂ (3 + r) 0 ≡ getD t (3 + r) 0
+    there₂ r l f = getD-set-other t (3 + s) (3 + r) (4294967296 * getD t 0 0 + d) 0 (λ q. f (omega arith))
+
+    marks₂ : (e : ℕ) → getD t₂ (marksAt S + e) 0 ≡ getD t (marksAt S + e) 0
+    marks₂ e = getD-set-other t (3 + s) (marksAt S + e) (4294967296 * getD t 0 0 + d) 0 (λ q. omega arith)
+
+    long₂ : length t₂ ≡ length t
+    long₂ = length-set t (3 + s) (4294967296 * getD t 0 0 + d)
+
+    pub put-ready : Ready n S (set t (3 + s) (4294967296 * getD t 0 0 + d))
+    put-ready =
         record {
-          kept = d .kept;
-          low = d .low;
-          holds = λ dest v h z.
-              d .holds dest v h (rw (a, b) (decoded n S few dest w (rw z (h .sound s low))) ∙ z);
+          long = rw long₂ (g .long);
+          order = rw memory₂ (put-ordered n S few (g .order) s d low used (λ r. getD t₂ (3 + r) 0) (λ e. getD t₂ (marksAt S + e) 0) here₂ there₂ marks₂);
         }
 
-  -- a value stored in a slot, before its slot is represented
-  module _ (u : List ℕ) (s : ℕ) (x : Atom) (low : s < S)
-      (e : u ≡ set (set (set (memoryOf n S t .slots) (4 * s) (st .epoch)) (4 * s + 1) (tagOf x)) (4 * s + 2) (bitsOf x)) where
-    abbrev t5 : List ℕ
-    t5 = putMid 0 (placesAt S - 0) t u
+    pub put-is : d ≡ numberAt (memoryOf n S (set t (3 + s) (4294967296 * getD t 0 0 + d))) s
+    put-is = rw memory₂ (sym (put-number n S few (g .order) s d low used (λ r. getD t₂ (3 + r) 0) (λ e. getD t₂ (marksAt S + e) 0) here₂ there₂ marks₂))
 
-    long5 : length u ≡ placesAt S - 0
-    long5 = ap length e ∙ simp length-set slots-long
-
-    memory5 : memoryOf n S t5 ≡ record { slots = u; places = m .places; constants = m .constants; expressions = m .expressions }
-    memory5 = slots-put n S t u (g .long) long5
-
-    length5 : length t5 ≡ length t
-    length5 = put-length 0 (placesAt S) t u (omega arith) (omega (arith, g .long)) long5
-
-    pub put-ready : Ready n S st (putMid 0 (placesAt S - 0) t u)
-    put-ready = marks-kept length5 (ap (λ (y : Memory). y .constants) memory5) (ap (λ (y : Memory). y .expressions) memory5) .ready
-
-    value-put : (v : Values) → x ≡ valueIn (record { slot = s; value = x } ∷ v .slots) s
-    unfolding valueIn
-    value-put v = rw (eq-eqb s s refl)
-
-    pub stores : (types : List ℕ) {slot : ℕ} {st′ : State} {t′ : List ℕ} → Represents n S types st (putMid 0 (placesAt S - 0) t u) s x slot st′ t′ → Stores n S types st t s x st′ t′
+    pub stores : (types : List ℕ) {slot : ℕ} {t′ : List ℕ} → Represents n S types (set t (3 + s) (4294967296 * getD t 0 0 + d)) s d slot t′ → Stores n S types t s d t′
     unfolding store
-    stores types {slot} {st′} {t′} d =
+    stores types {slot} {t′} b =
         record {
           kept = record {
-            ready = d .kept .ready;
-            long = d .kept .long ∙ length5;
-            epochs = d .kept .epochs;
-            constants = d .kept .constants;
-            expressions = d .kept .expressions;
+            ready = b .kept .ready;
+            long = b .kept .long ∙ long₂;
+            epochs = omega (arith, b .kept .epochs, ap (λ (x : Memory). x .epoch) memory₂);
+            constants = omega (arith, b .kept .constants, ap (λ (x : Memory). x .constants) memory₂);
+            expressions = omega (arith, b .kept .expressions, ap (λ (x : Memory). x .expressions) memory₂);
           };
-          holds = λ dest v h y.
-              let long : 4 * s + 4 ≤ length (m .slots) = omega (arith, slots-long) in
-              let put : Holds n S dest (record { slots = record { slot = s; value = x } ∷ v .slots; recorded = v .recorded; expressions = v .expressions }) st (memoryOf n S t5)
-              = rw (memory5, e) (hold-put n S few dest h s x low y long) in
-              d .holds dest (record { slots = record { slot = s; value = x } ∷ v .slots; recorded = v .recorded; expressions = v .expressions }) put (value-put v) .1;
+          holds = λ dest v h.
+              b .holds dest (record { slots = record { slot = s; value = atomIn n S dest m d } ∷ v .slots; recorded = v .recorded; expressions = v .expressions })
+              (rw memory₂ (put-holds n S few (g .order) s d low used (λ r. getD t₂ (3 + r) 0) (λ e. getD t₂ (marksAt S + e) 0) here₂ there₂ marks₂ dest h)) .1;
         }
-
-  -- one expression more
-  module _ (u : List ℕ) (k : Key) (p s : ℕ) (b : Added (memoryOf n S t .expressions) u n (st .ecount) k (p + 4294967296 * s)) where
-    abbrev t6 : List ℕ
-    t6 = putMid (expressionsAt n S) (endAt n S - expressionsAt n S) t u
-
-    long6 : length u ≡ endAt n S - expressionsAt n S
-    long6 = b .long ∙ expressions-long
-
-    memory6 : memoryOf n S t6 ≡ record { slots = m .slots; places = m .places; constants = m .constants; expressions = u }
-    memory6 = expressions-put n S t u (g .long) long6
-
-    pub learns : Learns n S st t k p s (taught st) (putMid (expressionsAt n S) (endAt n S - expressionsAt n S) t u)
-    learns =
-        let l : length t6 ≡ length t = put-length (expressionsAt n S) (endAt n S) t u (omega arith) (omega (arith, g .long)) long6 in
-        record {
-          kept = record {
-            ready = record {
-              locals = g .locals;
-              long = rw l (g .long);
-              constants = rw (ap (λ (x : Memory). x .constants) memory6) (g .constants);
-              expressions = rw (ap (λ (x : Memory). x .expressions) memory6) (b .linked);
-              constants-base = g .constants-base;
-              expressions-base = let f = g .expressions-base in omega arith;
-              epoch = g .epoch;
-            };
-            long = l;
-            epochs = omega arith;
-            constants = omega arith;
-            expressions = omega arith;
-          };
-          holds = λ dest v e h y q z. rw memory6 (hold-learn n S few dest h e p s u (g .expressions-base) y z (rw q at b));
-        }
-
-  -- a slot that is found fits 16 bits
-  pub found-fits : (types : List ℕ) (w : Atom) (type : ℕ) {f : Found} {r : ℕ} → f ≡ usableAt n S types st (memoryOf n S t) w type → f ≡ At r → r < 65536
-  found-fits types w type {f} {r} e q =
-      let low : r < S = usable-low n S types st m w type (recordedAt n S st m w) r (sym e ∙ q) in
-      omega (arith, g .locals)

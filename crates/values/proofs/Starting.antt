@@ -1,34 +1,19 @@
--- An empty table of values: what two regions of 0 say.
+-- An empty table of values: what two regions of 0 and the first epoch say.
 -- Assumes nothing.
-use mathlib.Core.Path.{_≡_, refl, sym, ap, _∙_}
-use mathlib.Core.Bool.{Bool, true, false}
+use mathlib.Core.Path.{_≡_, sym, ap, _∙_}
 use mathlib.Core.List.{List}
-use Prim.Native.Nat.{ℕ, _+_, _*_, _-_, _≤_, _<_}
+use Prim.Native.Nat.{ℕ, _+_, _*_, _-_, _/_, _≤_, _<_}
 use native.Mathlib.Omega.{arith}
-use lib.Dec.{ltb}
-use lib.ListN.{length, getD, replicate, length-replicate, getD-replicate, List·getD-eq-default}
-use borrow.Author.Tests.{ltb-true, ltb-false}
+use lib.ListN.{length, getD, set, length-set, replicate, length-replicate, getD-replicate}
+use lib.Seq.{getD-set-same, getD-set-other}
 use borrow.Rule.Slice.PartMut.{putMid, midOf}
 use Rattle.words.specs.Regions.{mid-long, get-mid, get-before}
-use Rattle.values.specs.Memory.{part, placesAt, constantsAt, expressionsAt, endAt, memoryOf}
-use Rattle.values.specs.Walk.{started, Begins}
+use Rattle.values.specs.Entries.{Linked}
 use Rattle.values.specs.Adding.{no-entries}
+use Rattle.values.specs.Memory.{marksAt, constantsAt, expressionsAt, endAt, memoryOf}
+use Rattle.values.specs.Walk.{Begins}
 use Rattle.values.proofs.Parts.{put-length, part-put}
-use Rattle.values.proofs.Holding.{hold-nothing}
-
--- a region of a list is 0 where its elements are
-zero-part : (a e : ℕ) (t : List ℕ) → a ≤ e → e ≤ length t → ((i : ℕ) → a ≤ i → i < e → getD t i 0 ≡ 0) → (j : ℕ) → getD (part a e t) j 0 ≡ 0
-zero-part a e t from to z j = go (ltb j (e - a)) refl
-  where
-    go : (b : Bool) → ltb j (e - a) ≡ b → getD (part a e t) j 0 ≡ 0
-    go true q =
-        let l : j < e - a = ltb-true j (e - a) q in
-        get-mid t a (e - a) j 0 l ∙ z (a + j) (omega arith) (omega arith)
-    go false q =
-        let l : e - a ≤ j = ltb-false j (e - a) q in
-        let long : length (part a e t) ≡ e - a = mid-long t a (e - a) (omega arith) in
-        let past : length (part a e t) ≤ j = omega arith in
-        List·getD-eq-default (part a e t) 0 past
+use Rattle.values.proofs.Holding.{nothing-ordered, nothing-holds}
 
 -- the elements of a region that was filled with 0
 zero-put : (a e : ℕ) (t u : List ℕ) (k : ℕ) → a ≤ e → e ≤ length t → k ≡ e - a → u ≡ replicate k 0 → (i : ℕ) → a ≤ i → i < e → getD (putMid a (e - a) t u) i 0 ≡ 0
@@ -44,7 +29,7 @@ zero-put a e t u k from to q z i l m =
 
 module _ (n S : ℕ) (t u w : List ℕ) (some : 0 < n) (few : n ≤ 65536) (locals : S ≤ 65536) (long : endAt n S ≤ length t) where
   abbrev heads : ℕ
-  heads = 4 * S + n + n
+  heads = 4 + 2 * S + 3 * n
 
   abbrev last : ℕ
   last = expressionsAt n S + n
@@ -55,6 +40,9 @@ module _ (n S : ℕ) (t u w : List ℕ) (some : 0 < n) (few : n ≤ 65536) (loca
 
     abbrev t₂ : List ℕ
     t₂ = putMid (expressionsAt n S) (last - expressionsAt n S) t₁ w
+
+    abbrev t₃ : List ℕ
+    t₃ = set t₂ 0 1
 
     long-u : length u ≡ heads - 0
     long-u = ap length zu ∙ length-replicate k 0 ∙ ku
@@ -71,53 +59,66 @@ module _ (n S : ℕ) (t u w : List ℕ) (some : 0 < n) (few : n ≤ 65536) (loca
     length₂ : length t₂ ≡ length t
     length₂ = put-length (expressionsAt n S) last t₁ w (omega arith) room long-w ∙ length₁
 
-    low : (i : ℕ) → i < heads → getD t₂ i 0 ≡ 0
-    low i h =
+    length₃ : length t₃ ≡ length t
+    length₃ = length-set t₂ 0 1 ∙ length₂
+
+    epoch : getD t₃ 0 0 ≡ 1
+    epoch = getD-set-same t₂ 0 1 0 (omega (arith, length₂, long))
+
+    low : (i : ℕ) → 0 < i → i < heads → getD t₃ i 0 ≡ 0
+    low i g h =
         let inside : expressionsAt n S + (last - expressionsAt n S) ≤ length t₁ = omega (arith, room) in
-        get-before t₁ (expressionsAt n S) (last - expressionsAt n S) w long-w inside i 0 (omega arith)
+        getD-set-other t₂ 0 i 1 0 (λ e. omega arith)
+        ∙ get-before t₁ (expressionsAt n S) (last - expressionsAt n S) w long-w inside i 0 (omega arith)
         ∙ zero-put 0 heads t u k (omega arith) (omega arith) ku zu i (omega arith) h
 
-    high : (i : ℕ) → expressionsAt n S ≤ i → i < last → getD t₂ i 0 ≡ 0
-    high i g h = zero-put (expressionsAt n S) last t₁ w l (omega arith) room lw zw i g h
+    high : (i : ℕ) → expressionsAt n S ≤ i → i < last → getD t₃ i 0 ≡ 0
+    high i g h = getD-set-other t₂ 0 i 1 0 (λ e. omega arith) ∙ zero-put (expressionsAt n S) last t₁ w l (omega arith) room lw zw i g h
 
-    end : endAt n S ≤ length t₂
-    end = rw length₂ long
+    end : endAt n S ≤ length t₃
+    end = rw length₃ long
 
-    slots-zero : (j : ℕ) → getD (memoryOf n S t₂ .slots) j 0 ≡ 0
-    slots-zero j = zero-part 0 (placesAt S) t₂ (omega arith) (omega (arith, end)) (λ i g h. low i (omega arith)) j
+    linked : Linked (memoryOf n S t₃ .constantTable) n (memoryOf n S t₃ .epoch) 0
+    linked =
+        let size : length (memoryOf n S t₃ .constantTable) ≡ expressionsAt n S - constantsAt n S = mid-long t₃ (constantsAt n S) (expressionsAt n S - constantsAt n S) (omega (arith, end)) in
+        rw epoch
+        (no-entries (memoryOf n S t₃ .constantTable) n some few (omega arith)
+        (λ b h. get-mid t₃ (constantsAt n S) (expressionsAt n S - constantsAt n S) b 0 (omega arith) ∙ low (constantsAt n S + b) (omega arith) (omega arith)))
 
-    places-zero : (j : ℕ) → getD (memoryOf n S t₂ .places) j 0 ≡ 0
-    places-zero j = zero-part (placesAt S) (constantsAt n S) t₂ (omega arith) (omega (arith, end)) (λ i g h. low i (omega arith)) j
+    terms : Linked (memoryOf n S t₃ .expressionTable) n (memoryOf n S t₃ .epoch) 0
+    terms =
+        let size : length (memoryOf n S t₃ .expressionTable) ≡ endAt n S - expressionsAt n S = mid-long t₃ (expressionsAt n S) (endAt n S - expressionsAt n S) (omega (arith, end)) in
+        rw epoch
+        (no-entries (memoryOf n S t₃ .expressionTable) n some few (omega arith)
+        (λ b h. get-mid t₃ (expressionsAt n S) (endAt n S - expressionsAt n S) b 0 (omega arith) ∙ high (expressionsAt n S + b) (omega arith) (omega arith)))
 
-    constants-zero : (b : ℕ) → b < n → getD (memoryOf n S t₂ .constants) b 0 ≡ 0
-    constants-zero b h = get-mid t₂ (constantsAt n S) (expressionsAt n S - constantsAt n S) b 0 (omega arith) ∙ low (constantsAt n S + b) (omega arith)
+    slots : (s : ℕ) → s < S → getD t₃ (3 + s) 0 / 4294967296 < getD t₃ 0 0
+    slots s h = rw (low (3 + s) (omega arith) (omega arith), epoch) (omega arith)
 
-    expressions-zero : (b : ℕ) → b < n → getD (memoryOf n S t₂ .expressions) b 0 ≡ 0
-    expressions-zero b h = get-mid t₂ (expressionsAt n S) (endAt n S - expressionsAt n S) b 0 (omega arith) ∙ high (expressionsAt n S + b) (omega arith) (omega arith)
+    marks : (d : ℕ) → d < S + 2 * n + 1 → getD t₃ (marksAt S + d) 0 / 65536 < getD t₃ 0 0
+    marks d h = rw (low (marksAt S + d) (omega arith) (omega arith), epoch) (omega arith)
 
-    begun : Begins n S t t₂
+    constants : getD t₃ 1 0 ≡ 0
+    constants = low 1 (omega arith) (omega arith)
+
+    expressions : getD t₃ 2 0 ≡ 0
+    expressions = low 2 (omega arith) (omega arith)
+
+    begun : Begins n S t t₃
     begun =
-        let c : length (memoryOf n S t₂ .constants) ≡ expressionsAt n S - constantsAt n S = mid-long t₂ (constantsAt n S) (expressionsAt n S - constantsAt n S) (omega (arith, end)) in
-        let d : length (memoryOf n S t₂ .expressions) ≡ endAt n S - expressionsAt n S = mid-long t₂ (expressionsAt n S) (endAt n S - expressionsAt n S) (omega (arith, end)) in
         record {
-          ready = record {
-            locals = locals;
-            long = end;
-            constants = no-entries (memoryOf n S t₂ .constants) n some few (omega arith) constants-zero;
-            expressions = no-entries (memoryOf n S t₂ .expressions) n some few (omega arith) expressions-zero;
-            constants-base = omega arith;
-            expressions-base = omega arith;
-            epoch = omega arith;
-          };
-          holds = λ dest.
-              hold-nothing n S few dest started (memoryOf n S t₂)
-              (λ s. omega (arith, slots-zero (4 * s))) (λ s. omega (arith, slots-zero (4 * s + 3))) (λ p. omega (arith, places-zero p)) refl refl locals;
+          ready = record { long = end; order = nothing-ordered n S few (memoryOf n S t₃) locals constants expressions linked terms slots marks };
+          long = length₃;
+          epoch = epoch;
+          constants = constants;
+          expressions = expressions;
+          holds = nothing-holds n S few (memoryOf n S t₃) locals constants expressions linked terms slots marks;
         }
 
   -- what the code of `begin` is proved by
-  pub begins : u ≡ replicate (length (midOf 0 (4 * S + n + n - 0) t)) 0
-      → w ≡ replicate (length (midOf (expressionsAt n S) (expressionsAt n S + n - expressionsAt n S) (putMid 0 (4 * S + n + n - 0) t u))) 0
-      → Begins n S t (putMid (expressionsAt n S) (expressionsAt n S + n - expressionsAt n S) (putMid 0 (4 * S + n + n - 0) t u) w)
+  pub begins : u ≡ replicate (length (midOf 0 (4 + 2 * S + 3 * n - 0) t)) 0
+      → w ≡ replicate (length (midOf (expressionsAt n S) (expressionsAt n S + n - expressionsAt n S) (putMid 0 (4 + 2 * S + 3 * n - 0) t u))) 0
+      → Begins n S t (set (putMid (expressionsAt n S) (expressionsAt n S + n - expressionsAt n S) (putMid 0 (4 + 2 * S + 3 * n - 0) t u) w) 0 1)
   begins zu zw =
       let ku : length (midOf 0 (heads - 0) t) ≡ heads - 0 = mid-long t 0 (heads - 0) (omega arith) in
       let long-u : length u ≡ heads - 0 = ap length zu ∙ length-replicate (length (midOf 0 (heads - 0) t)) 0 ∙ ku in

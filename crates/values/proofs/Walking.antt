@@ -5,28 +5,30 @@ use mathlib.Core.Bool.{Bool, true, false, cond, _&&_}
 use mathlib.Core.List.{List, [], _∷_}
 use mathlib.Core.Logic.{⊎-elim, _⊎_, inl, inr}
 use mathlib.Core.Option.{Option, none, some}
-use Prim.Native.Nat.{ℕ, _+_, _%_, _^_, _≤_, _<_}
+use Prim.Native.Nat.{ℕ, zero, suc, _+_, _%_, _^_, _≤_, _<_}
 use native.Mathlib.Omega.{arith}
 use lib.Dec.{eqb}
 use lib.ListN.{length, getD}
 use types.Run.{OneOf, miss}
 use borrow.Author.Tests.{eq-eqb, ne-eqb}
 use denote.Enum.Declared.{tagOf as variantOf}
+use Rattle.words.specs.Lists.{isIn}
 use Rattle.instruction.specs.declared.Instruction.{Instruction}
 use Rattle.instruction.specs.declared.Class.{Class}
 use Rattle.instruction.specs.declared.Class.the-variants.{Hint, LoadInt, LoadConst, Copy, CopyN, Unary, Binary, Jump, JumpIf, JumpIfNot, ForLoop, Return, Panic, Outside, Invalid}
 use Rattle.instruction.proofs.Class.{the-type as class-type}
 use Rattle.instruction.specs.Class.{numberOf, namedClass, named-number}
 use Rattle.instruction.specs.Instruction.{plain, withImm32}
-use Rattle.values.specs.Fold.{fitsImm32}
-use Rattle.effects.specs.Shape.{Sections, Tables, tablesOf}
-use Rattle.values.specs.Table.{Values, Expression, Represented, empty, valueOf, expressionIn, recordedSlot, representative, learn}
-use Rattle.values.specs.Number.{Numbered, setA, setB, setBC, loadOrStay, stored as storedBy, copyOrStay, byExpression, byValue, numberUnary, numberBinary, numberCopy, numberConstant, numberRead, decided, numberJump, cleared as clearedBy, numberBy}
-use Rattle.values.specs.Folded.{answered, expressionOf}
-use Rattle.values.specs.Entries.{newest}
-use Rattle.values.specs.Memory.{Memory, atomOf, memoryOf, keyOf, slotValue, usableAt, slotFound, atomFound, Ready, Sound, SoundExpression, Holds}
-use Rattle.values.specs.Kept.{cleared, Kept, Chooses, Stores, Learns}
-use Rattle.values.specs.Walk.{sectionsOf, wordOf, Stands, Known, Becomes, Defines, Room, Second, foldBy, secondOf, atomIn, IsWord, HasWord, binaryClass, onZero, Named, combined, operated, scalarIn, undecidedBy, takes, pureBy, otherBy, by-other}
+use Rattle.values.specs.Fold.{foldingUnary, foldingBinary, foldWord, fitsImm32}
+use Rattle.effects.specs.Shape.{Sections, Tables}
+use Rattle.values.specs.Table.{Values, Expression, valueOf, expressionIn, recordedSlot, representative, learn}
+use Rattle.values.specs.Number.{Numbered, setA, setB, setBC, foldUnary, foldBinary, loadOrStay, stored as storedBy, copyOrStay, byExpression, byValue, numberUnary, numberBinary, numberCopy, numberConstant, numberRead, decided, numberJump, cleared as clearedBy, numberBy}
+use Rattle.values.specs.Folded.{integerOf, answered, expressionOf}
+use Rattle.values.specs.Entries.{Key, value, newest}
+use Rattle.values.specs.Chain.{newest-le}
+use Rattle.values.specs.Memory.{memoryOf, numberAt, constantOf, constantKey, expressionKey, slotFound, limit, usableAt, integerAt, expressionIf, expressionAt, Ready, atomAt, atomIn, atomFound, Holds}
+use Rattle.values.specs.Kept.{Kept, Same, Clears, Represents, Stores, Interns, Learns}
+use Rattle.values.specs.Walk.{sectionsOf, wordOf, Stands, Becomes, Room, Second, secondNumber, foldBy, secondOf, atomOf, KindOf, binaryClass, onZero, Named, combined, operated, scalarIn, undecidedBy, takes, pureBy, otherBy, by-other}
 use Rattle.values.specs.declared.Atom.{Atom}
 use Rattle.values.specs.declared.Atom.the-variants.{Integer, Float, Definition}
 use Rattle.values.specs.declared.Found.{Found}
@@ -35,195 +37,243 @@ use Rattle.values.specs.declared.Loaded.{Loaded}
 use Rattle.values.specs.declared.Loaded.the-variants.{Value, Unknown}
 use Rattle.values.specs.declared.Folded.{Folded}
 use Rattle.values.specs.declared.Folded.the-variants.{Word, Not}
-use Rattle.values.specs.declared.Key.{Key}
-use Rattle.values.specs.declared.State.{State}
-use Rattle.values.specs.declared.Chosen.{Chosen}
-use Rattle.values.specs.declared.Step.{Step}
 use Rattle.values.proofs.Atom.{the-type}
-use Rattle.values.proofs.Holding.{usable-holds, hold-nothing}
+use Rattle.values.proofs.Atoms.{atom-place, atom-zero, integer-at}
+use Rattle.values.proofs.Holding.{usable-holds}
+use Rattle.values.proofs.Recording.{few, unchanged, same-self}
+
+-- ---- what stays in order
 
 -- more may be allowed than was used
-pub widen : {n S k r e k′ r′ e′ : ℕ} {st : State} {t : List ℕ} {st′ : State} {t′ : List ℕ} → k ≤ k′ → r ≤ r′ → e ≤ e′ → Kept n S k r e st t st′ t′ → Kept n S k′ r′ e′ st t st′ t′
-widen a b c d =
+pub widen : {n S k c e k′ c′ e′ : ℕ} {t t′ : List ℕ} → k ≤ k′ → c ≤ c′ → e ≤ e′ → Kept n S k c e t t′ → Kept n S k′ c′ e′ t t′
+widen a b d w =
     record {
-      ready = d .ready;
-      long = d .long;
-      epochs = omega (arith, d .epochs);
-      constants = omega (arith, d .constants);
-      expressions = omega (arith, d .expressions);
+      ready = w .ready;
+      long = w .long;
+      epochs = omega (arith, w .epochs);
+      constants = omega (arith, w .constants);
+      expressions = omega (arith, w .expressions);
     }
 
--- the entries of expressions say what the table says
-known-expression : {n S : ℕ} {st : State} {m : Memory} {k : Key} {d : Expression} {f : Found} {dest : ℕ → ℕ} {v : Values} → k ≡ keyOf d → f ≡ newest (m .expressions) n (st .ebase) (st .ecount) k
-    → SoundExpression n S dest d → Holds n S dest v st m → atomFound f ≡ expressionIn (v .expressions) d
-known-expression {n} {S} {st} {m} {k} {d} q e y h = ap atomFound (e ∙ ap (newest (m .expressions) n (st .ebase) (st .ecount)) q) ∙ h .expressions d y
+-- one change after another
+pub kept-then : {n S k c e k′ c′ e′ : ℕ} {t t₁ t′ : List ℕ} → Kept n S k c e t t₁ → Kept n S k′ c′ e′ t₁ t′ → Kept n S (k + k′) (c + c′) (e + e′) t t′
+kept-then d w =
+    record {
+      ready = w .ready;
+      long = w .long ∙ d .long;
+      epochs = omega (arith, w .epochs, d .epochs);
+      constants = omega (arith, w .constants, d .constants);
+      expressions = omega (arith, w .expressions, d .expressions);
+    }
 
-module _ {n : ℕ} {types : List ℕ} {st : State} {t : List ℕ} where
+-- nothing changed
+pub kept-same : {n S k c e : ℕ} {t : List ℕ} → Ready n S t → Kept n S k c e t t
+kept-same g = widen (omega arith) (omega arith) (omega arith) (unchanged g)
+
+pub room-kept : {n S : ℕ} {t t′ : List ℕ} → Room n S t → Kept n S 0 0 0 t t′ → Room n S t′
+room-kept g d =
+    record {
+      ready = d .ready;
+      constants = omega (arith, g .constants, d .constants);
+      expressions = omega (arith, g .expressions, d .expressions);
+      epoch = omega (arith, g .epoch, d .epochs);
+    }
+
+-- ---- numbers and values
+
+module _ {n S : ℕ} {t t₁ : List ℕ} (s : Same n S t t₁) where
+  pub same-limit : {d : ℕ} → d < limit n S (memoryOf n S t) → d < limit n S (memoryOf n S t₁)
+  same-limit l = omega (arith, s .constants)
+
+  -- the value of a slot that had the number d
+  same-value : {dest : ℕ → ℕ} {v : Values} (r d : ℕ) → r < S → numberAt (memoryOf n S t) r ≡ d → Holds n S dest v (memoryOf n S t₁) → atomIn n S dest (memoryOf n S t₁) d ≡ valueOf v r
+  same-value {dest} r d l e h = ap (atomIn n S dest (memoryOf n S t₁)) (sym (s .numbers r l ∙ e)) ∙ h .slots r l
+
+pub same-then : {n S : ℕ} {t t₁ t₂ : List ℕ} → Same n S t t₁ → Same n S t₁ t₂ → Same n S t t₂
+same-then s r = record { numbers = λ x l. r .numbers x l ∙ s .numbers x l; constants = r .constants ∙ s .constants; table = r .table ∙ s .table }
+
+-- the value with the number d, and what is known, in the memory t
+abbrev pub valueAt : ℕ → List ℕ → List ℕ → (ℕ → ℕ) → ℕ → Atom
+valueAt n types t dest d = atomIn n (length types) dest (memoryOf n (length types) t) d
+
+abbrev pub Knows : ℕ → List ℕ → List ℕ → (ℕ → ℕ) → Values → Type 0
+Knows n types t dest v = Holds n (length types) dest v (memoryOf n (length types) t)
+
+module _ {n : ℕ} (types : List ℕ) {t : List ℕ} where
+  -- a copy of the recorded slot
+  pub copy-found : {f : Found} {r d : ℕ} (i : Instruction) {j : Instruction} → Ready n (length types) t → d < limit n (length types) (memoryOf n (length types) t)
+      → f ≡ usableAt n (length types) types (memoryOf n (length types) t) d (getD types (i .a) 0) → f ≡ At r → j ≡ plain 3 (i .a) r 0
+      → (j .a ≡ i .a) × ((dest : ℕ → ℕ) (z : List ℕ) (l : ℕ) (T : Tables) (v : Values) → Knows n types t dest v
+      → j ≡ copyOrStay (sectionsOf types z l T) i (recordedSlot types v (valueAt n types t dest d) (getD types (i .a) 0)))
+  unfolding copyOrStay slotFound
+  copy-found {f} {r} {d} i {j} g low e q s = (
+    rw s,
+    λ dest z l T v h.
+        let known : some r ≡ recordedSlot types v (valueAt n types t dest d) (getD types (i .a) 0)
+        = ap slotFound (sym (sym e ∙ q)) ∙ usable-holds n (length types) (few g) (g .order) dest h types d (getD types (i .a) 0) low in
+        rw (sym known) s,
+  )
+
+  pub copy-none : {f : Found} {d : ℕ} (i : Instruction) → Ready n (length types) t → d < limit n (length types) (memoryOf n (length types) t)
+      → f ≡ usableAt n (length types) types (memoryOf n (length types) t) d (getD types (i .a) 0) → f ≡ Nothing
+      → (dest : ℕ → ℕ) (z : List ℕ) (l : ℕ) (T : Tables) (v : Values) → Knows n types t dest v
+      → i ≡ copyOrStay (sectionsOf types z l T) i (recordedSlot types v (valueAt n types t dest d) (getD types (i .a) 0))
+  unfolding copyOrStay slotFound
+  copy-none {f} {d} i g low e q dest z l T v h =
+      let known : none ≡ recordedSlot types v (valueAt n types t dest d) (getD types (i .a) 0)
+      = ap slotFound (sym (sym e ∙ q)) ∙ usable-holds n (length types) (few g) (g .order) dest h types d (getD types (i .a) 0) low in
+      rw (sym known)
+
+-- the number of an expression's value is in use
+pub found-low : {n S : ℕ} {t : List ℕ} {f : Found} → Ready n S t → (k : Key) (d : ℕ) → f ≡ expressionAt n S (memoryOf n S t) k → f ≡ At d → d < limit n S (memoryOf n S t)
+unfolding expressionIf
+found-low {n} {S} {t} g k d e q = go (newest (memoryOf n S t .expressionTable) n (memoryOf n S t .expressions) k) refl (sym e ∙ q)
+  where
+    go : (j : ℕ) → newest (memoryOf n S t .expressionTable) n (memoryOf n S t .expressions) k ≡ j → expressionIf n S (memoryOf n S t .expressionTable) j ≡ At d → d < limit n S (memoryOf n S t)
+    go zero l z = let y : _≡_ {A = ℕ} 0 1 = cc in absurd (omega arith)
+    go (suc j) l z =
+        let same : value (memoryOf n S t .expressionTable) n j ≡ d = cc in
+        let low : j < memoryOf n S t .expressions = omega (arith, newest-le (memoryOf n S t .expressionTable) n k (memoryOf n S t .expressions)) in
+        rw (← same) (g .order .values-low j low)
+
+-- the value of an expression of two numbers
+known-expression : {n S : ℕ} (t : List ℕ) {k : Key} {f : Found} {dest : ℕ → ℕ} {v : Values} (op flags left right : ℕ) → op < 256 → flags < 256
+    → left < limit n S (memoryOf n S t) → right < limit n S (memoryOf n S t) → k ≡ expressionKey op flags left right → f ≡ expressionAt n S (memoryOf n S t) k → Holds n S dest v (memoryOf n S t)
+    → atomFound n S dest (memoryOf n S t) f ≡ expressionIn (v .expressions) (expressionOf op flags (atomIn n S dest (memoryOf n S t) left) (atomIn n S dest (memoryOf n S t) right))
+known-expression {n} {S} t {k} {f} {dest} op flags left right a b c d q e h =
+    ap (atomFound n S dest (memoryOf n S t)) (e ∙ ap (expressionAt n S (memoryOf n S t)) q) ∙ h .expressions op flags left right a b c d
+
+-- ---- steps
+
+module _ {n : ℕ} {types : List ℕ} {t : List ℕ} where
+  -- a step after another change of the memory, ρ by the definition
+  pub after : {k c e k′ c′ e′ : ℕ} {t₁ t′ : List ℕ} {x : Instruction} {Good Good′ : (ℕ → ℕ) → List ℕ → Type 0} {f f′ : (ℕ → ℕ) → Sections → Values → Numbered} (ρ : (ℕ → ℕ) → Values → Values)
+      → Kept n (length types) k c e t t₁
+      → ((dest : ℕ → ℕ) (v : Values) → Knows n types t dest v → Knows n types t₁ dest (ρ dest v))
+      → ((dest : ℕ → ℕ) (z : List ℕ) (l : ℕ) (T : Tables) (v : Values) → Good′ dest z → Knows n types t dest v
+      → Good dest z × (f dest (sectionsOf types z l T) (ρ dest v) ≡ f′ dest (sectionsOf types z l T) v))
+      → Becomes n types k′ c′ e′ t₁ x t′ Good f → Becomes n types (k + k′) (c + c′) (e + e′) t x t′ Good′ f′
+  after ρ d w g b =
+      record {
+        kept = kept-then d (b .kept);
+        holds = λ dest z l T v y h.
+            let q = g dest z l T v y h in
+            rw (sym (q .1)) (b .holds dest z l T (ρ dest v) (q .0) (w dest v h));
+      }
+
   -- the same step, told of another definition that agrees
-  pub as-becomes : {k r e k′ r′ e′ : ℕ} {x : Step} {t′ : List ℕ} {Good Good′ : (ℕ → ℕ) → List ℕ → Type 0} {f f′ : Sections → Values → Numbered} → k ≤ k′ → r ≤ r′ → e ≤ e′
-      → ((dest : ℕ → ℕ) (c : List ℕ) (l : ℕ) (T : Tables) (v : Values) → Good′ dest c → Holds n (length types) dest v st (memoryOf n (length types) t)
-      → Good dest c × (f (sectionsOf types c l T) v ≡ f′ (sectionsOf types c l T) v))
-      → Becomes n types k r e st t x t′ Good f → Becomes n types k′ r′ e′ st t x t′ Good′ f′
+  pub as-becomes : {k c e k′ c′ e′ : ℕ} {t′ : List ℕ} {x : Instruction} {Good Good′ : (ℕ → ℕ) → List ℕ → Type 0} {f f′ : (ℕ → ℕ) → Sections → Values → Numbered} → k ≤ k′ → c ≤ c′ → e ≤ e′
+      → ((dest : ℕ → ℕ) (z : List ℕ) (l : ℕ) (T : Tables) (v : Values) → Good′ dest z → Knows n types t dest v
+      → Good dest z × (f dest (sectionsOf types z l T) v ≡ f′ dest (sectionsOf types z l T) v))
+      → Becomes n types k c e t x t′ Good f → Becomes n types k′ c′ e′ t x t′ Good′ f′
   as-becomes a b d g w =
       record {
         kept = widen a b d (w .kept);
-        holds = λ dest c l T v y h.
-            let q = g dest c l T v y h in
-            rw (sym (q .1)) (w .holds dest c l T v (q .0) h);
-      }
-
-  pub widened : {k r e k′ r′ e′ : ℕ} {x : Step} {t′ : List ℕ} {Good : (ℕ → ℕ) → List ℕ → Type 0} {f : Sections → Values → Numbered} → k ≤ k′ → r ≤ r′ → e ≤ e′
-      → Becomes n types k r e st t x t′ Good f → Becomes n types k′ r′ e′ st t x t′ Good f
-  widened a b d w = record { kept = widen a b d (w .kept); holds = w .holds }
-
-  -- a step after an operand was represented, ρ by the definition
-  pub after-operand : {k r e : ℕ} (ρ : Values → Represented) {o : Chosen} {t₁ : List ℕ} {x : Step} {t′ : List ℕ} {Good Good′ : (ℕ → ℕ) → List ℕ → Type 0} {f f′ : Sections → Values → Numbered}
-      → Kept n (length types) 0 1 0 st t (o .state) t₁
-      → ((dest : ℕ → ℕ) (v : Values) → Holds n (length types) dest v st (memoryOf n (length types) t)
-      → (o .slot ≡ ρ v .slot) × Holds n (length types) dest (ρ v .table) (o .state) (memoryOf n (length types) t₁))
-      → ((dest : ℕ → ℕ) (c : List ℕ) (l : ℕ) (T : Tables) (v : Values) → Good′ dest c → Holds n (length types) dest (ρ v .table) (o .state) (memoryOf n (length types) t₁)
-      → o .slot ≡ ρ v .slot → Good dest c × (f (sectionsOf types c l T) (ρ v .table) ≡ f′ (sectionsOf types c l T) v))
-      → Becomes n types k r e (o .state) t₁ x t′ Good f → Becomes n types k (1 + r) e st t x t′ Good′ f′
-  after-operand {k} {r} {e} ρ {o} d w g b =
-      record {
-        kept = record {
-          ready = b .kept .ready;
-          long = b .kept .long ∙ d .long;
-          epochs = omega (arith, b .kept .epochs, d .epochs);
-          constants = omega (arith, b .kept .constants, d .constants);
-          expressions = omega (arith, b .kept .expressions, d .expressions);
-        };
-        holds = λ dest c l T v y h.
-            let p = w dest v h in
-            let z = g dest c l T v y (p .1) (p .0) in
-            rw (sym (z .1)) (b .holds dest c l T (ρ v .table) (z .0) (p .1));
+        holds = λ dest z l T v y h.
+            let q = g dest z l T v y h in
+            rw (sym (q .1)) (w .holds dest z l T v (q .0) h);
       }
 
   -- a store
-  pub store-becomes : {i : Instruction} {v : Atom} {st′ : State} {t′ : List ℕ} → Stores n (length types) types st t (i .a) v st′ t′
-      → Becomes n types 0 1 0 st t (record { instruction = i; state = st′ }) t′ (λ dest c. Sound n (length types) dest v) (λ S x. storedBy S i x v)
+  pub store-becomes : {i : Instruction} {d : ℕ} {t′ : List ℕ} → Stores n (length types) types t (i .a) d t′
+      → Becomes n types 0 0 0 t i t′ (λ dest z. Unit {0}) (λ dest S x. storedBy S i x (valueAt n types t dest d))
   unfolding storedBy
-  store-becomes d = record { kept = d .kept; holds = λ dest c l T v y h. (refl, d .holds dest v h y) }
+  store-becomes d = record { kept = d .kept; holds = λ dest z l T v y h. (refl, d .holds dest v h) }
+
+  -- a store of a constant
+  pub store-interned : (i : Instruction) {x : Instruction} {kind bits d : ℕ} {t₁ t′ : List ℕ} → Interns n (length types) t kind bits d t₁
+      → Becomes n types 0 0 0 t₁ x t′ (λ dest z. Unit {0}) (λ dest S v. storedBy S i v (valueAt n types t₁ dest d))
+      → Becomes n types 0 1 0 t x t′ (λ dest z. Unit {0}) (λ dest S v. storedBy S i v (constantOf (constantKey kind bits)))
+  store-interned i d b = after (λ dest v. v) (d .kept) (d .holds) (λ dest z l T v y h. (tt, rw (d .is dest))) b
 
   -- all values are forgotten
-  pub forget-becomes : {i : Instruction} {x : Step} {Good : (ℕ → ℕ) → List ℕ → Type 0} {f : Sections → Values → Numbered} → Room n (length types) st t → x .instruction ≡ i → x .state ≡ cleared st
-      → ((c : List ℕ) (l : ℕ) (T : Tables) (v : Values) → f (sectionsOf types c l T) v ≡ clearedBy (sectionsOf types c l T) i) → Becomes n types 1 3 1 st t x t Good f
-  forget-becomes {i} {x} g p q e =
+  pub forget-becomes : {i x : Instruction} {t′ : List ℕ} {c e : ℕ} {Good : (ℕ → ℕ) → List ℕ → Type 0} {f : (ℕ → ℕ) → Sections → Values → Numbered} → (x ≡ i) × Clears n (length types) t t′
+      → ((dest : ℕ → ℕ) (z : List ℕ) (l : ℕ) (T : Tables) (v : Values) → f dest (sectionsOf types z l T) v ≡ clearedBy (sectionsOf types z l T) i) → Becomes n types 1 c e t x t′ Good f
+  forget-becomes p e =
       record {
-        kept = rw q (record {
-          ready = record {
-            locals = g .ready .locals;
-            long = g .ready .long;
-            constants = g .ready .constants;
-            expressions = g .ready .expressions;
-            constants-base = omega arith;
-            expressions-base = omega arith;
-            epoch = g .epoch;
-          };
-          long = refl;
-          epochs = omega arith;
-          constants = omega arith;
-          expressions = omega arith;
-        });
-        holds = λ dest c l T v y h.
-            let m = memoryOf n (length types) t in
-            let none : Holds n (length types) dest empty (cleared st) m
-            = hold-nothing n (length types) (g .ready .constants .few) dest (cleared st) m
-            (λ s. omega (arith, h .past .slots s)) (λ s. omega (arith, h .past .starts s)) (λ s. omega (arith, h .past .places s)) refl refl (g .ready .locals) in
-            rw (e c l T v) (p, rw q none);
+        kept = widen (omega arith) (omega arith) (omega arith) (p .1 .kept);
+        holds = λ dest z l T v y h. rw (e dest z l T v) (p .0, p .1 .holds dest);
       }
 
   -- nothing changes but the instruction
-  pub stay-becomes : {x : Step} {Good : (ℕ → ℕ) → List ℕ → Type 0} {f : Sections → Values → Numbered} → Ready n (length types) st t → x .state ≡ st
-      → ((dest : ℕ → ℕ) (c : List ℕ) (l : ℕ) (T : Tables) (v : Values) → Holds n (length types) dest v st (memoryOf n (length types) t)
-      → f (sectionsOf types c l T) v ≡ record { instruction = x .instruction; table = v }) → Becomes n types 1 3 1 st t x t Good f
-  stay-becomes {x} g q e =
-      record {
-        kept = rw q (record { ready = g; long = refl; epochs = omega arith; constants = omega arith; expressions = omega arith });
-        holds = λ dest c l T v y h. rw (e dest c l T v h) (refl, rw q h);
-      }
+  pub stay-becomes : {x : Instruction} {k c e : ℕ} {Good : (ℕ → ℕ) → List ℕ → Type 0} {f : (ℕ → ℕ) → Sections → Values → Numbered} → Ready n (length types) t
+      → ((dest : ℕ → ℕ) (z : List ℕ) (l : ℕ) (T : Tables) (v : Values) → Knows n types t dest v
+      → f dest (sectionsOf types z l T) v ≡ record { instruction = x; table = v }) → Becomes n types k c e t x t Good f
+  stay-becomes g e = record { kept = kept-same g; holds = λ dest z l T v y h. rw (e dest z l T v h) (refl, h) }
 
-  -- an equal expression
-  pub copy-found : {f : Found} {r : ℕ} (i : Instruction) {j : Instruction} (w : Atom) {x : Step} {t′ : List ℕ} → Ready n (length types) st t → f ≡ usableAt n (length types) types st (memoryOf n (length types) t) w (getD types (i .a) 0) → f ≡ At r
-      → j ≡ plain 3 (i .a) r 0 → Becomes n types 0 1 0 st t x t′ (λ dest c. Sound n (length types) dest w) (λ S v. storedBy S j v w)
-      → Becomes n types 0 1 0 st t x t′ (λ dest c. Sound n (length types) dest w) (λ S v. storedBy S (copyOrStay S i (recordedSlot (S .types) v w (getD (S .types) (i .a) 0))) v w)
-  unfolding copyOrStay slotFound
-  copy-found {f} {r} i {j} w g e q z b =
+  pub copied-becomes : (d : ℕ) (i : Instruction) {j x : Instruction} {t′ : List ℕ}
+      → ((dest : ℕ → ℕ) (z : List ℕ) (l : ℕ) (T : Tables) (v : Values) → Knows n types t dest v
+      → j ≡ copyOrStay (sectionsOf types z l T) i (recordedSlot types v (valueAt n types t dest d) (getD types (i .a) 0)))
+      → Becomes n types 0 0 0 t x t′ (λ dest z. Unit {0}) (λ dest S v. storedBy S j v (valueAt n types t dest d))
+      → Becomes n types 0 0 0 t x t′ (λ dest z. Unit {0})
+      (λ dest S v. storedBy S (copyOrStay S i (recordedSlot (S .types) v (valueAt n types t dest d) (getD (S .types) (i .a) 0))) v (valueAt n types t dest d))
+  copied-becomes d i g b =
       as-becomes (omega arith) (omega arith) (omega arith)
-      (λ dest c l T v y h.
-      let known : some r ≡ recordedSlot types v w (getD types (i .a) 0)
-      = ap slotFound (sym (sym e ∙ q)) ∙ usable-holds n (length types) (g .constants .few) dest h types w (getD types (i .a) 0) y in
-      (y, rw (sym known, z)))
-      b
+      (λ dest z l T v y h. (y, ap (λ (j : Instruction). storedBy (sectionsOf types z l T) j v (valueAt n types t dest d)) (g dest z l T v h))) b
 
-  pub copy-none : {f : Found} (i : Instruction) (w : Atom) {x : Step} {t′ : List ℕ} → Ready n (length types) st t → f ≡ usableAt n (length types) types st (memoryOf n (length types) t) w (getD types (i .a) 0) → f ≡ Nothing
-      → Becomes n types 0 1 0 st t x t′ (λ dest c. Sound n (length types) dest w) (λ S v. storedBy S i v w)
-      → Becomes n types 0 1 0 st t x t′ (λ dest c. Sound n (length types) dest w) (λ S v. storedBy S (copyOrStay S i (recordedSlot (S .types) v w (getD (S .types) (i .a) 0))) v w)
-  unfolding copyOrStay slotFound
-  copy-none {f} i w g e q b =
-      as-becomes (omega arith) (omega arith) (omega arith)
-      (λ dest c l T v y h.
-      let known : none ≡ recordedSlot types v w (getD types (i .a) 0)
-      = ap slotFound (sym (sym e ∙ q)) ∙ usable-holds n (length types) (g .constants .few) dest h types w (getD types (i .a) 0) y in
-      (y, rw (sym known)))
+  -- a new expression, whose value is what place p defines
+  pub defines : {i x : Instruction} {p op flags left right : ℕ} {t₁ t′ : List ℕ} → Learns n (length types) t op flags left right (length types + p) t₁
+      → Becomes n types 0 0 0 t₁ x t′ (λ dest z. Unit {0}) (λ dest S v. storedBy S i v (valueAt n types t₁ dest (length types + p)))
+      → Becomes n types 0 0 1 t x t′ (λ dest z. Stands n p i dest)
+      (λ dest S v. storedBy S i (learn v (expressionOf op flags (valueAt n types t dest left) (valueAt n types t dest right)) (Definition p (i .a))) (Definition p (i .a)))
+  defines {i} {x} {p} {op} {flags} {left} {right} {t₁} d b =
+      after
+      (λ dest v.
+      learn v (expressionOf op flags (valueAt n types t dest left) (valueAt n types t dest right))
+      (valueAt n types t dest (length types + p)))
+      (d .kept) (d .holds)
+      (λ dest z l T v y h.
+      let here : valueAt n types t dest (length types + p) ≡ Definition p (i .a)
+      = atom-place n (length types) dest (memoryOf n (length types) t .constantTable) p (y .place) ∙ ap (Definition p) (sym (y .own)) in
+      let there : valueAt n types t₁ dest (length types + p) ≡ Definition p (i .a)
+      = atom-place n (length types) dest (memoryOf n (length types) t₁ .constantTable) p (y .place) ∙ ap (Definition p) (sym (y .own)) in
+      (tt, rw (here, there)))
       b
-
-  -- a new expression
-  pub defines : {i : Instruction} {p : ℕ} {k : Key} {st₁ : State} {t₁ : List ℕ} {x : Step} {t′ : List ℕ} → Learns n (length types) st t k p (i .a) st₁ t₁
-      → Becomes n types 0 1 0 st₁ t₁ x t′ (λ dest c. Sound n (length types) dest (Definition p (i .a))) (λ S v. storedBy S i v (Definition p (i .a)))
-      → Defines n types st t i p k x t′
-  unfolding storedBy
-  defines {i} {p} {k} {st₁} {t₁} {x} {t′} d b =
-      record {
-        kept = record {
-          ready = b .kept .ready;
-          long = b .kept .long ∙ d .kept .long;
-          epochs = omega (arith, b .kept .epochs, d .kept .epochs);
-          constants = omega (arith, b .kept .constants, d .kept .constants);
-          expressions = omega (arith, b .kept .expressions, d .kept .expressions);
-        };
-        holds = λ dest v e y z q h.
-            b .holds dest [] 0 (tablesOf [] [] []) (learn v e (Definition p (i .a))) y (d .holds dest v e h z q y);
-      }
 
   -- looked up: found, or new
-  module _ (i : Instruction) (p : ℕ) (left right : Atom) {k : Key} {x : Step} {t′ : List ℕ} (q : k ≡ keyOf (expressionOf (i .op) (i .flags) left right)) where
-    pub expression-found : {f : Found} {a : ℕ} → f ≡ newest (memoryOf n (length types) t .expressions) n (st .ebase) (st .ecount) k → f ≡ At a
-        → Becomes n types 0 1 0 st t x t′ (λ dest c. Sound n (length types) dest (atomOf 2 a)) (λ S v. storedBy S (copyOrStay S i (recordedSlot (S .types) v (atomOf 2 a) (getD (S .types) (i .a) 0))) v (atomOf 2 a))
-        → Becomes n types 0 1 1 st t x t′ (λ dest c. Known n (length types) p i left right dest) (λ S v. byExpression S p i v (expressionOf (i .op) (i .flags) left right) (expressionIn (v .expressions) (expressionOf (i .op) (i .flags) left right)))
-    unfolding byExpression atomFound atomOf
-    expression-found {f} {a} d z b =
+  module _ (i : Instruction) (p left right : ℕ) {k : Key} {x : Instruction} {t′ : List ℕ} (lowl : left < limit n (length types) (memoryOf n (length types) t)) (lowr : right < limit n (length types) (memoryOf n (length types) t))
+      (q : k ≡ expressionKey (i .op) (i .flags) left right) where
+    pub expression-found : {f : Found} (d : ℕ) → f ≡ expressionAt n (length types) (memoryOf n (length types) t) k → f ≡ At d
+        → Becomes n types 0 0 0 t x t′ (λ dest z. Unit {0})
+        (λ dest S v. storedBy S (copyOrStay S i (recordedSlot (S .types) v (valueAt n types t dest d) (getD (S .types) (i .a) 0))) v (valueAt n types t dest d))
+        → Becomes n types 0 0 1 t x t′ (λ dest z. Stands n p i dest)
+        (λ dest S v. byExpression S p i v (expressionOf (i .op) (i .flags) (valueAt n types t dest left) (valueAt n types t dest right)) (expressionIn (v .expressions) (expressionOf (i .op) (i .flags) (valueAt n types t dest left) (valueAt n types t dest right))))
+    unfolding byExpression atomFound
+    expression-found {f} d e z b =
         as-becomes (omega arith) (omega arith) (omega arith)
-        (λ dest c l T v y h.
-        let known : some (atomOf 2 a) ≡ expressionIn (v .expressions) (expressionOf (i .op) (i .flags) left right) = ap atomFound (sym z) ∙ known-expression q d (y .expression) h in
-        (h .known (expressionOf (i .op) (i .flags) left right) (atomOf 2 a) (sym known), rw (sym known)))
+        (λ dest w l T v y h.
+        let known : some (valueAt n types t dest d) ≡ expressionIn (v .expressions) (expressionOf (i .op) (i .flags) (valueAt n types t dest left) (valueAt n types t dest right))
+        = ap (atomFound n (length types) dest (memoryOf n (length types) t)) (sym z) ∙ known-expression t (i .op) (i .flags) left right (y .op) (y .flags) lowl lowr q e h in
+        (tt, rw (sym known)))
         b
 
-    pub expression-none : {f : Found} → f ≡ newest (memoryOf n (length types) t .expressions) n (st .ebase) (st .ecount) k → f ≡ Nothing → Defines n types st t i p k x t′
-        → Becomes n types 0 1 1 st t x t′ (λ dest c. Known n (length types) p i left right dest) (λ S v. byExpression S p i v (expressionOf (i .op) (i .flags) left right) (expressionIn (v .expressions) (expressionOf (i .op) (i .flags) left right)))
-    unfolding byExpression atomFound storedBy
-    expression-none {f} d z b =
-        record {
-          kept = b .kept;
-          holds = λ dest c l T v y h.
-              let known : none ≡ expressionIn (v .expressions) (expressionOf (i .op) (i .flags) left right) = ap atomFound (sym z) ∙ known-expression q d (y .expression) h in
-              rw (sym known) (b .holds dest v (expressionOf (i .op) (i .flags) left right) (y .definition) (y .expression) q h);
-        }
+    pub expression-none : {f : Found} → f ≡ expressionAt n (length types) (memoryOf n (length types) t) k → f ≡ Nothing → i .op < 256 → i .flags < 256
+        → ((op flags left right : ℕ) → op < 256 → flags < 256 → left < limit n (length types) (memoryOf n (length types) t) → right < limit n (length types) (memoryOf n (length types) t) → k ≡ expressionKey op flags left right
+        → Becomes n types 0 0 1 t x t′ (λ dest z. Stands n p i dest)
+        (λ dest S v. storedBy S i (learn v (expressionOf op flags (valueAt n types t dest left) (valueAt n types t dest right)) (Definition p (i .a))) (Definition p (i .a))))
+        → Becomes n types 0 0 1 t x t′ (λ dest z. Stands n p i dest)
+        (λ dest S v. byExpression S p i v (expressionOf (i .op) (i .flags) (valueAt n types t dest left) (valueAt n types t dest right)) (expressionIn (v .expressions) (expressionOf (i .op) (i .flags) (valueAt n types t dest left) (valueAt n types t dest right))))
+    unfolding byExpression atomFound
+    expression-none {f} e z a c b =
+        as-becomes (omega arith) (omega arith) (omega arith)
+        (λ dest w l T v y h.
+        let known : none ≡ expressionIn (v .expressions) (expressionOf (i .op) (i .flags) (valueAt n types t dest left) (valueAt n types t dest right))
+        = ap (atomFound n (length types) dest (memoryOf n (length types) t)) (sym z) ∙ known-expression t (i .op) (i .flags) left right a c lowl lowr q e h in
+        (y, rw (sym known)))
+        (b (i .op) (i .flags) left right a c lowl lowr q)
 
   -- folded, or looked up
-  pub folded-word : (i : Instruction) (p : ℕ) (left right : Atom) {f : Folded} {j : Instruction} {w : ℕ} {x : Step} {t′ : List ℕ} → f ≡ Word w → w < 2 ^ 64 → j ≡ loadOrStay i w
-      → Becomes n types 0 1 0 st t x t′ (λ dest c. Sound n (length types) dest (Integer w)) (λ S v. storedBy S j v (Integer w))
-      → Becomes n types 0 1 1 st t x t′ (λ dest c. Known n (length types) p i left right dest) (λ S v. byValue S p i v (expressionOf (i .op) (i .flags) left right) (wordOf f))
-  unfolding byValue wordOf Sound
-  folded-word i p left right {f} {j} {w} q fits z b =
-      as-becomes (omega arith) (omega arith) (omega arith) (λ dest c l T v y h. (fits, rw (q, z))) b
+  pub folded-word : (i : Instruction) (p : ℕ) (g : (ℕ → ℕ) → Expression) {f : Folded} {j : Instruction} {w : ℕ} {x : Instruction} {t′ : List ℕ} → f ≡ Word w → j ≡ loadOrStay i w
+      → Becomes n types 0 1 0 t x t′ (λ dest z. Unit {0}) (λ dest S v. storedBy S j v (constantOf (constantKey 0 w)))
+      → Becomes n types 0 1 1 t x t′ (λ dest z. Stands n p i dest) (λ dest S v. byValue S p i v (g dest) (wordOf f))
+  unfolding byValue wordOf constantOf
+  folded-word i p g q s b = as-becomes (omega arith) (omega arith) (omega arith) (λ dest z l T v y h. (tt, rw (q, s))) b
 
-  pub folded-not : (i : Instruction) (p : ℕ) (left right : Atom) {f : Folded} {x : Step} {t′ : List ℕ} → f ≡ Not
-      → Becomes n types 0 1 1 st t x t′ (λ dest c. Known n (length types) p i left right dest) (λ S v. byExpression S p i v (expressionOf (i .op) (i .flags) left right) (expressionIn (v .expressions) (expressionOf (i .op) (i .flags) left right)))
-      → Becomes n types 0 1 1 st t x t′ (λ dest c. Known n (length types) p i left right dest) (λ S v. byValue S p i v (expressionOf (i .op) (i .flags) left right) (wordOf f))
+  pub folded-not : (i : Instruction) (p : ℕ) (g : (ℕ → ℕ) → Expression) {f : Folded} {x : Instruction} {t′ : List ℕ} → f ≡ Not
+      → Becomes n types 0 0 1 t x t′ (λ dest z. Stands n p i dest) (λ dest S v. byExpression S p i v (g dest) (expressionIn (v .expressions) (g dest)))
+      → Becomes n types 0 1 1 t x t′ (λ dest z. Stands n p i dest) (λ dest S v. byValue S p i v (g dest) (wordOf f))
   unfolding byValue wordOf
-  folded-not i p left right {f} q b =
-      as-becomes (omega arith) (omega arith) (omega arith) (λ dest c l T v y h. (y, rw q)) b
+  folded-not i p g q b = as-becomes (omega arith) (omega arith) (omega arith) (λ dest z l T v y h. (y, rw q)) b
 
 -- an instruction that becomes LoadInt keeps its destination
 pub load-a : (i : Instruction) (v : ℕ) → loadOrStay i v .a ≡ i .a
@@ -234,204 +284,249 @@ load-a i v = go (fitsImm32 v)
     go true = refl
     go false = refl
 
-pub word-answered : (o : Option ℕ) → wordOf (answered o) ≡ o
+-- ---- folding looks at known integers alone
+
+word-answered : (o : Option ℕ) → wordOf (answered o) ≡ o
 unfolding wordOf answered
 word-answered (some v) = refl
 word-answered none = refl
 
-definition-sound : (S : ℕ) {n p : ℕ} {i : Instruction} {dest : ℕ → ℕ} → Stands n p i dest → Sound n S dest (Definition p (i .a))
-unfolding Sound
-definition-sound S y = (y .a, inr (y .place, y .own))
+unfoldable foldOne : ℕ → ℕ → Option ℕ → Option ℕ
+foldOne op flags (some x) = cond (isIn op foldingUnary) (some (foldWord op flags x 0)) none
+foldOne op flags none = none
 
-zero-sound : (n S : ℕ) (dest : ℕ → ℕ) → Sound n S dest (Integer 0)
-unfolding Sound
-zero-sound n S dest = omega arith
+unfoldable foldTwo : ℕ → ℕ → Option ℕ → Option ℕ → Option ℕ
+foldTwo op flags (some x) (some y) = cond (isIn op foldingBinary) (some (foldWord op flags x y)) none
+foldTwo op flags (some x) none = none
+foldTwo op flags none y = none
 
-word-sound : (n S : ℕ) (dest : ℕ → ℕ) (w : Atom) → IsWord w → Sound n S dest w
-unfolding Sound IsWord
-word-sound n S dest (Integer x) h = h
-word-sound n S dest (Float x) h = h
-word-sound n S dest (Definition p s) h = absurd h
+fold-one : (e : Expression) (v : Atom) → foldUnary e v ≡ foldOne (e .opcode) (e .flags) (integerOf v)
+unfolding foldUnary foldOne integerOf
+fold-one e (Integer x) = refl
+fold-one e (Float x) = refl
+fold-one e (Definition p s) = refl
+
+fold-two : (e : Expression) (v w : Atom) → foldBinary e v w ≡ foldTwo (e .opcode) (e .flags) (integerOf v) (integerOf w)
+unfolding foldBinary foldTwo integerOf
+fold-two e (Integer x) (Integer y) = refl
+fold-two e (Integer x) (Float y) = refl
+fold-two e (Integer x) (Definition q t) = refl
+fold-two e (Float x) w = refl
+fold-two e (Definition p s) w = refl
+
+module _ (n S : ℕ) (c : List ℕ) (op flags left right : ℕ) where
+  pub fold-binary-numbers : {b : Bool} (x y : Atom) {r : Folded} → b ≡ true → integerOf x ≡ integerAt n S c left → integerOf y ≡ integerAt n S c right
+      → r ≡ answered (foldBinary (expressionOf op flags x y) x y)
+      → (dest : ℕ → ℕ) → wordOf r ≡ foldBy b (expressionOf op flags (atomAt n S dest c left) (atomAt n S dest c right))
+  unfolding foldBy
+  fold-binary-numbers x y e p q z dest =
+      let lefts : integerOf x ≡ integerOf (atomAt n S dest c left) = p ∙ integer-at n S dest c left in
+      let rights : integerOf y ≡ integerOf (atomAt n S dest c right) = q ∙ integer-at n S dest c right in
+      rw e
+      (ap wordOf z
+      ∙ word-answered (foldBinary (expressionOf op flags x y) x y)
+      ∙ fold-two (expressionOf op flags x y) x y
+      ∙ ap (λ (o : Option ℕ). foldTwo op flags o (integerOf y)) lefts
+      ∙ ap (foldTwo op flags (integerOf (atomAt n S dest c left))) rights
+      ∙ sym (fold-two (expressionOf op flags (atomAt n S dest c left) (atomAt n S dest c right)) (atomAt n S dest c left) (atomAt n S dest c right)))
+
+  pub fold-unary-number : {b : Bool} (x : Atom) {r : Folded} → b ≡ false → integerOf x ≡ integerAt n S c left → ((y : Atom) → r ≡ answered (foldUnary (expressionOf op flags x y) x))
+      → (dest : ℕ → ℕ) → wordOf r ≡ foldBy b (expressionOf op flags (atomAt n S dest c left) (atomAt n S dest c right))
+  unfolding foldBy
+  fold-unary-number x e p z dest =
+      let lefts : integerOf x ≡ integerOf (atomAt n S dest c left) = p ∙ integer-at n S dest c left in
+      rw e
+      (ap wordOf (z (Integer 0))
+      ∙ word-answered (foldUnary (expressionOf op flags x (Integer 0)) x)
+      ∙ fold-one (expressionOf op flags x (Integer 0)) x
+      ∙ ap (foldOne op flags) lefts
+      ∙ sym (fold-one (expressionOf op flags (atomAt n S dest c left) (atomAt n S dest c right)) (atomAt n S dest c left)))
 
 -- other operands, the same destination
 other-operands : {n p : ℕ} {i : Instruction} {dest : ℕ → ℕ} (b c : ℕ) → Stands n p i dest → Stands n p (setBC i b c) dest
 other-operands b c y = record { op = y .op; flags = y .flags; a = y .a; place = y .place; own = y .own }
 
-not-integer : (S : Sections) (f : ℕ → Bool) (i : Instruction) (v : Values) (w : Atom) → OneOf (1 ∷ 2 ∷ []) (variantOf the-type w) → undecidedBy S i v ≡ numberJump S f i v w
-unfolding undecidedBy numberJump
-not-integer S f i v (Integer x) k = absurd (miss (1 ∷ 2 ∷ []) 0 tt k)
-not-integer S f i v (Float x) k = refl
-not-integer S f i v (Definition p s) k = refl
+-- a known integer, or none
+is-integer : (w : Atom) (x : ℕ) → integerOf w ≡ some x → w ≡ Integer x
+unfolding integerOf
+is-integer (Integer y) x e = cc
+is-integer (Float y) x e = let z : _≡_ {A = ℕ} 0 1 = cc in absurd (omega arith)
+is-integer (Definition p s) x e = let z : _≡_ {A = ℕ} 0 1 = cc in absurd (omega arith)
 
-pub return-other : (types : List ℕ) (i : Instruction) (c : List ℕ) (l : ℕ) (T : Tables) (v : Values) → (eqb (i .b) 1 && scalarIn types (i .a)) ≡ false
-    → numberBy (sectionsOf types c l T) Return 0 i v ≡ clearedBy (sectionsOf types c l T) i
+-- what the `else` of a `let Atom::Integer(x) = ..` knows is the tag alone
+no-integer : (w : Atom) → OneOf (1 ∷ 2 ∷ []) (variantOf the-type w) → integerOf w ≡ none
+unfolding integerOf
+no-integer (Integer x) k = absurd (miss (1 ∷ 2 ∷ []) 0 tt k)
+no-integer (Float x) k = refl
+no-integer (Definition p s) k = refl
+
+not-integer : (S : Sections) (f : ℕ → Bool) (i : Instruction) (v : Values) (w : Atom) → integerOf w ≡ none → undecidedBy S i v ≡ numberJump S f i v w
+unfolding undecidedBy numberJump integerOf
+not-integer S f i v (Integer x) e = let z : _≡_ {A = ℕ} 0 1 = cc in absurd (omega arith)
+not-integer S f i v (Float x) e = refl
+not-integer S f i v (Definition p s) e = refl
+
+known-integer : (n : ℕ) (types t : List ℕ) (dest : ℕ → ℕ) (v : Values) → Knows n types t dest v → (s d : ℕ) (w : Atom) → s < length types → d ≡ numberAt (memoryOf n (length types) t) s
+    → integerOf w ≡ integerAt n (length types) (memoryOf n (length types) t .constantTable) d → integerOf (valueOf v s) ≡ integerOf w
+known-integer n types t dest v h s d w low e q =
+    ap integerOf (sym (h .slots s low) ∙ ap (valueAt n types t dest) (sym e)) ∙ sym (integer-at n (length types) dest (memoryOf n (length types) t .constantTable) d) ∙ sym q
+
+pub return-other : (types : List ℕ) (i : Instruction) (z : List ℕ) (l : ℕ) (T : Tables) (v : Values) → (eqb (i .b) 1 && scalarIn types (i .a)) ≡ false
+    → numberBy (sectionsOf types z l T) Return 0 i v ≡ clearedBy (sectionsOf types z l T) i
 unfolding numberBy
-return-other types i c l T v e = rw e
+return-other types i z l T v e = rw e
 
 -- no store to a scalar
-pub other-cleared : (types : List ℕ) (i : Instruction) (p : ℕ) (k : Class) {s : Bool} → s ≡ scalarIn types (i .a) → s ≡ false → (c : List ℕ) (l : ℕ) (T : Tables) (v : Values)
-    → otherBy (sectionsOf types c l T) k p i v ≡ clearedBy (sectionsOf types c l T) i
+pub other-cleared : (types : List ℕ) (i : Instruction) (p : ℕ) (k : Class) {s : Bool} → s ≡ scalarIn types (i .a) → s ≡ false → (z : List ℕ) (l : ℕ) (T : Tables) (v : Values)
+    → otherBy (sectionsOf types z l T) k p i v ≡ clearedBy (sectionsOf types z l T) i
 unfolding otherBy
-other-cleared types i p k e q c l T v =
+other-cleared types i p k e q z l T v =
     let known : scalarIn types (i .a) ≡ false = sym e ∙ q in
     rw known
 
 -- no constant is known
-pub constant-unknown : (types : List ℕ) (i : Instruction) {f : Loaded} {o : Option Atom} → atomIn f ≡ o → f ≡ Unknown → (c : List ℕ) (l : ℕ) (T : Tables) (v : Values)
-    → numberConstant (sectionsOf types c l T) i v o ≡ clearedBy (sectionsOf types c l T) i
-unfolding numberConstant atomIn
-constant-unknown types i {f} {o} e q c l T v =
-    let known : o ≡ none = sym e ∙ ap atomIn q in
+pub constant-unknown : (types : List ℕ) (i : Instruction) {f : Loaded} {o : Option Atom} → atomOf f ≡ o → f ≡ Unknown → (z : List ℕ) (l : ℕ) (T : Tables) (v : Values)
+    → numberConstant (sectionsOf types z l T) i v o ≡ clearedBy (sectionsOf types z l T) i
+unfolding numberConstant atomOf
+constant-unknown types i {f} {o} e q z l T v =
+    let known : o ≡ none = sym e ∙ ap atomOf q in
     rw known
 
-module _ {n : ℕ} {types : List ℕ} {st : State} {t : List ℕ} where
-  -- what is chosen for an operand is its representative
-  chosen : {s : ℕ} {o : Chosen} {t₁ : List ℕ} → s < length types → Chooses n (length types) types st t s o t₁ → (dest : ℕ → ℕ) (v : Values)
-      → Holds n (length types) dest v st (memoryOf n (length types) t)
-      → (o .slot ≡ representative types v s .slot) × Holds n (length types) dest (representative types v s .table) (o .state) (memoryOf n (length types) t₁)
-  chosen {s} low d dest v h = d .holds dest v h (h .slots s low)
+-- the kind of a constant that is known
+pub kind-known : {f : Loaded} {kind bits : ℕ} → KindOf f → f ≡ Value kind bits → kind ≤ 1
+unfolding KindOf
+kind-known h e = rw e at h
 
-  -- the second operand
-  pub second-chosen : {s : ℕ} {b : Bool} {o : Chosen} {t₁ : List ℕ} → s < length types → b ≡ true → Chooses n (length types) types st t s o t₁ → Second n (length types) types st t s b o t₁
+-- the second operand of a binary opcode; a unary one has none
+module _ {n S : ℕ} (types : List ℕ) {t : List ℕ} where
+  pub second-chosen : {s d slot : ℕ} {b : Bool} {t₁ : List ℕ} → b ≡ true → Represents n S types t s d slot t₁ → Second n S types t s d b slot t₁
   unfolding secondOf
-  second-chosen {s} {b} low e d = rw e (record { kept = d .kept; low = λ z. d .low; holds = chosen low d })
+  second-chosen e d = rw e (record { kept = d .kept; same = d .same; low = λ z. d .low; number = λ z. d .number; holds = d .holds })
 
-  pub second-none : {s : ℕ} {b : Bool} {o : Chosen} → Ready n (length types) st t → b ≡ false → o .slot ≡ s → o .state ≡ st → Second n (length types) types st t s b o t
+  pub second-none : {s d : ℕ} {b : Bool} → Ready n S t → b ≡ false → Second n S types t s d b s t
   unfolding secondOf
-  second-none {s} {b} {o} g e p q =
+  second-none g e =
       rw e (record {
-        kept = rw q (record { ready = g; long = refl; epochs = omega arith; constants = omega arith; expressions = omega arith });
+        kept = kept-same g;
+        same = same-self g;
         low = λ z. let f : _≡_ {A = ℕ} 0 1 = cc in absurd (omega arith);
-        holds = λ dest v h. (p, rw q h);
+        number = λ z. let f : _≡_ {A = ℕ} 0 1 = cc in absurd (omega arith);
+        holds = λ dest v h. (refl, h);
       })
 
-  pub combine-becomes : (i : Instruction) (p : ℕ) (b : Bool) {left right : Atom} (f : Folded) {x : Step} {t′ : List ℕ} → i .b < length types → (b ≡ true → i .c < length types)
-      → left ≡ slotValue (memoryOf n (length types) t .slots) (st .epoch) (i .b) → right ≡ cond b (slotValue (memoryOf n (length types) t .slots) (st .epoch) (i .c)) (Integer 0)
-      → wordOf f ≡ foldBy b (expressionOf (i .op) (i .flags) left right)
-      → Becomes n types 0 1 1 st t x t′ (λ dest c. Known n (length types) p i left right dest) (λ S v. byValue S p i v (expressionOf (i .op) (i .flags) left right) (wordOf f))
-      → Becomes n types 0 1 1 st t x t′ (λ dest c. Stands n p i dest) (λ S v. combined S b p i v)
-  unfolding combined
-  combine-becomes i p b {left} {right} f lowb lowc q r z w =
-      as-becomes (omega arith) (omega arith) (omega arith)
-      (λ dest c l T v y h.
-      let knownl : left ≡ valueOf v (i .b) = q ∙ h .slots (i .b) lowb in
-      let other = second-sound b dest v h lowc in
-      let knownr : right ≡ cond b (valueOf v (i .c)) (Integer 0) = r ∙ other .0 in (
-        record {
-          expression = record { opcode = y .op; flags = y .flags; left = rw knownl (h .sound (i .b) lowb); right = rw knownr (other .1) };
-          definition = definition-sound (length types) y;
-        },
-        rw (z, knownl, knownr),
-      ))
+  -- its value
+  second-value : {s d slot : ℕ} (b : Bool) {t₁ : List ℕ} {dest : ℕ → ℕ} {v : Values} → d ≡ secondNumber n S (memoryOf n S t) s b → Second n S types t s d b slot t₁ → Holds n S dest v (memoryOf n S t₁)
+      → atomIn n S dest (memoryOf n S t₁) d ≡ cond b (valueOf v slot) (Integer 0)
+  unfolding secondNumber
+  second-value {s} {d} {slot} true e w h = same-value (w .same) slot d (w .low refl) (w .number refl) h
+  second-value {s} {d} {slot} false {t₁} {dest} e w h = ap (atomIn n S dest (memoryOf n S t₁)) e ∙ atom-zero n S dest (memoryOf n S t₁ .constantTable)
+
+module _ {n : ℕ} {types : List ℕ} {t : List ℕ} where
+  pub operator-becomes : (i : Instruction) (p : ℕ) (b : Bool) {left right slot slot₂ : ℕ} {t₁ t₂ : List ℕ} (f : Folded) {x : Instruction} {t′ : List ℕ}
+      → Represents n (length types) types t (i .b) left slot t₁ → right ≡ secondNumber n (length types) (memoryOf n (length types) t₁) (i .c) b
+      → Second n (length types) types t₁ (i .c) right b slot₂ t₂
+      → ((dest : ℕ → ℕ) → wordOf f ≡ foldBy b (expressionOf (i .op) (i .flags) (valueAt n types t₂ dest left) (valueAt n types t₂ dest right)))
+      → Becomes n types 0 1 1 t₂ x t′ (λ dest z. Stands n p (setBC i slot slot₂) dest)
+      (λ dest S v. byValue S p (setBC i slot slot₂) v (expressionOf (i .op) (i .flags) (valueAt n types t₂ dest left) (valueAt n types t₂ dest right)) (wordOf f))
+      → Becomes n types 0 1 1 t x t′ (λ dest z. Stands n p i dest) (λ dest S v. operated S b p i v)
+  unfolding operated combined
+  operator-becomes i p b {left} {right} {slot} {slot₂} {t₁} {t₂} f d e d₂ g w =
+      after (λ dest v. secondOf types (representative types v (i .b) .table) (i .c) b .table) (kept-then (d .kept) (d₂ .kept))
+      (λ dest v h. d₂ .holds dest (representative types v (i .b) .table) (d .holds dest v h .1) .1)
+      (λ dest z l T v y h.
+      let h₁ = d .holds dest v h in
+      let h₂ = d₂ .holds dest (representative types v (i .b) .table) (h₁ .1) in
+      let lefts : valueAt n types t₂ dest left ≡ valueOf (secondOf types (representative types v (i .b) .table) (i .c) b .table) slot
+      = same-value (same-then (d .same) (d₂ .same)) slot left (d .low) (d .number) (h₂ .1) in
+      let rights : valueAt n types t₂ dest right ≡ cond b (valueOf (secondOf types (representative types v (i .b) .table) (i .c) b .table) slot₂) (Integer 0)
+      = second-value types b e d₂ (h₂ .1) in
+      (other-operands slot slot₂ y, rw (g dest, lefts, rights, h₁ .0, h₂ .0)))
       w
-    where
-      second-sound : (b : Bool) (dest : ℕ → ℕ) (v : Values) → Holds n (length types) dest v st (memoryOf n (length types) t) → (b ≡ true → i .c < length types)
-          → (cond b (slotValue (memoryOf n (length types) t .slots) (st .epoch) (i .c)) (Integer 0) ≡ cond b (valueOf v (i .c)) (Integer 0)) × Sound n (length types) dest (cond b (valueOf v (i .c)) (Integer 0))
-      second-sound true dest v h low = (h .slots (i .c) (low refl), h .sound (i .c) (low refl))
-      second-sound false dest v h low = (refl, zero-sound n (length types) dest)
 
-  pub operator-becomes : (i : Instruction) (p : ℕ) (b : Bool) {o o₂ : Chosen} {t₁ t₂ : List ℕ} {x : Step} {t′ : List ℕ} → i .b < length types
-      → Chooses n (length types) types st t (i .b) o t₁ → Second n (length types) types (o .state) t₁ (i .c) b o₂ t₂
-      → Becomes n types 0 1 1 (o₂ .state) t₂ x t′ (λ dest c. Stands n p (setBC i (o .slot) (o₂ .slot)) dest) (λ S v. combined S b p (setBC i (o .slot) (o₂ .slot)) v)
-      → Becomes n types 1 3 1 st t x t′ (λ dest c. Stands n p i dest) (λ S v. operated S b p i v)
-  unfolding operated
-  operator-becomes i p b {o} {o₂} {t₁} {t₂} {x} {t′} low d d₂ w =
-      widened (omega arith) (omega arith) (omega arith)
-      (after-operand (λ v. representative types v (i .b)) (d .kept) (chosen low d) (λ dest c l T v y h s. (y, rw s)) second)
-    where
-      second : Becomes n types 0 2 1 (o .state) t₁ x t′ (λ dest c. Stands n p i dest)
-          (λ S v. combined S b p (setBC i (o .slot) (secondOf (S .types) v (i .c) b .slot)) (secondOf (S .types) v (i .c) b .table))
-      second = after-operand (λ v. secondOf types v (i .c) b) (d₂ .kept) (d₂ .holds) (λ dest c l T v y h s. (other-operands (o .slot) (o₂ .slot) y, rw s)) w
-
-  pub copy-becomes : (i : Instruction) {o : Chosen} {t₁ : List ℕ} {w : Atom} {x : Step} {t′ : List ℕ} → i .b < length types
-      → Chooses n (length types) types st t (i .b) o t₁ → w ≡ slotValue (memoryOf n (length types) t₁ .slots) (o .state .epoch) (o .slot)
-      → Becomes n types 0 1 0 (o .state) t₁ x t′ (λ dest c. Sound n (length types) dest w) (λ S v. storedBy S (setB i (o .slot)) v w)
-      → Becomes n types 1 3 1 st t x t′ (λ dest c. Unit {0}) (λ S v. numberCopy S i v)
+  pub copy-becomes : (i : Instruction) {d slot : ℕ} {t₁ : List ℕ} {x : Instruction} {t′ : List ℕ} → Represents n (length types) types t (i .b) d slot t₁
+      → Becomes n types 0 0 0 t₁ x t′ (λ dest z. Unit {0}) (λ dest S v. storedBy S (setB i slot) v (valueAt n types t₁ dest d))
+      → Becomes n types 0 0 0 t x t′ (λ dest z. Unit {0}) (λ dest S v. numberCopy S i v)
   unfolding numberCopy
-  copy-becomes i {o} {t₁} {w} low d q b =
-      widened (omega arith) (omega arith) (omega arith)
-      (after-operand (λ v. representative types v (i .b)) (d .kept) (chosen low d)
-      (λ dest c l T v y h s.
-      let known : w ≡ valueOf (representative types v (i .b) .table) (o .slot) = q ∙ h .slots (o .slot) (d .low) in
-      (rw known (h .sound (o .slot) (d .low)), rw (known, s)))
-      b)
+  copy-becomes i {d} {slot} {t₁} r b =
+      after (λ dest v. representative types v (i .b) .table) (r .kept) (λ dest v h. r .holds dest v h .1)
+      (λ dest z l T v y h.
+      let q = r .holds dest v h in
+      let known : valueAt n types t₁ dest d ≡ valueOf (representative types v (i .b) .table) slot = same-value (r .same) slot d (r .low) (r .number) (q .1) in
+      (tt, rw (known, q .0)))
+      b
 
-  pub constant-becomes : (i : Instruction) {f : Loaded} {o : Option Atom} {w : Atom} {x : Step} {t′ : List ℕ} → atomIn f ≡ o → HasWord f → f ≡ Value w
-      → Becomes n types 0 1 0 st t x t′ (λ dest c. Sound n (length types) dest w) (λ S v. storedBy S i v w)
-      → Becomes n types 1 3 1 st t x t′ (λ dest c. Unit {0}) (λ S v. numberConstant S i v o)
-  unfolding numberConstant atomIn HasWord
-  constant-becomes i {f} {o} {w} e y q b =
-      let known : o ≡ some w = sym e ∙ ap atomIn q in
-      as-becomes (omega arith) (omega arith) (omega arith) (λ dest c l T v z h. (word-sound n (length types) dest w (rw q at y), rw known)) b
+  pub constant-becomes : (i : Instruction) {f : Loaded} {o : Option Atom} {kind bits : ℕ} {x : Instruction} {t′ : List ℕ} → atomOf f ≡ o → f ≡ Value kind bits
+      → Becomes n types 0 1 0 t x t′ (λ dest z. Unit {0}) (λ dest S v. storedBy S i v (constantOf (constantKey kind bits)))
+      → Becomes n types 1 1 0 t x t′ (λ dest z. Unit {0}) (λ dest S v. numberConstant S i v o)
+  unfolding numberConstant atomOf
+  constant-becomes i {f} {o} {kind} {bits} e q b =
+      let known : o ≡ some (constantOf (constantKey kind bits)) = sym e ∙ ap atomOf q in
+      as-becomes (omega arith) (omega arith) (omega arith) (λ dest z l T v y h. (tt, rw known)) b
 
-  pub read-becomes : (i : Instruction) {o : Chosen} {t₁ : List ℕ} {x : Step} → i .a < length types → Chooses n (length types) types st t (i .a) o t₁
-      → x .instruction ≡ setA i (o .slot) → x .state ≡ o .state → Becomes n types 1 3 1 st t x t₁ (λ dest c. Unit {0}) (λ S v. numberRead S i v)
+  pub read-becomes : (i : Instruction) {d slot : ℕ} {t₁ : List ℕ} {x : Instruction} → Represents n (length types) types t (i .a) d slot t₁
+      → x ≡ setA i slot → Becomes n types 0 0 0 t x t₁ (λ dest z. Unit {0}) (λ dest S v. numberRead S i v)
   unfolding numberRead
-  read-becomes i {o} {t₁} {x} low d p q =
+  read-becomes i d p =
       record {
-        kept = rw q (widen (omega arith) (omega arith) (omega arith) (d .kept));
-        holds = λ dest c l T v y h.
-            let r = chosen low d dest v h in
-            (p ∙ ap (setA i) (r .0), rw q (r .1));
+        kept = d .kept;
+        holds = λ dest z l T v y h.
+            let r = d .holds dest v h in
+            (p ∙ ap (setA i) (r .0), r .1);
       }
 
   -- an undecided jump
-  pub undecided-read : (i : Instruction) {s : Bool} {x : Step} {t′ : List ℕ} → s ≡ scalarIn types (i .a) → s ≡ true → Becomes n types 1 3 1 st t x t′ (λ dest c. Unit {0}) (λ S v. numberRead S i v)
-      → Becomes n types 1 3 1 st t x t′ (λ dest c. Unit {0}) (λ S v. undecidedBy S i v)
+  pub undecided-read : (i : Instruction) {s : Bool} {x : Instruction} {t′ : List ℕ} → s ≡ scalarIn types (i .a) → s ≡ true → Becomes n types 0 0 0 t x t′ (λ dest z. Unit {0}) (λ dest S v. numberRead S i v)
+      → Becomes n types 0 0 0 t x t′ (λ dest z. Unit {0}) (λ dest S v. undecidedBy S i v)
   unfolding undecidedBy
   undecided-read i e q b =
       let known : scalarIn types (i .a) ≡ true = sym e ∙ q in
-      as-becomes (omega arith) (omega arith) (omega arith) (λ dest c l T v y h. (y, rw known)) b
+      as-becomes (omega arith) (omega arith) (omega arith) (λ dest z l T v y h. (y, rw known)) b
 
-  pub undecided-stay : (i : Instruction) {s : Bool} {x : Step} → Ready n (length types) st t → s ≡ scalarIn types (i .a) → s ≡ false → x .instruction ≡ i → x .state ≡ st
-      → Becomes n types 1 3 1 st t x t (λ dest c. Unit {0}) (λ S v. undecidedBy S i v)
+  pub undecided-stay : (i : Instruction) {s : Bool} → Ready n (length types) t → s ≡ scalarIn types (i .a) → s ≡ false → Becomes n types 0 0 0 t i t (λ dest z. Unit {0}) (λ dest S v. undecidedBy S i v)
   unfolding undecidedBy
-  undecided-stay i g e q z s =
+  undecided-stay i g e q =
       let known : scalarIn types (i .a) ≡ false = sym e ∙ q in
-      stay-becomes g s (λ dest c l T v h. rw (known, z))
+      stay-becomes g (λ dest z l T v h. rw known)
 
-  -- a jump: what the `else` of the `let` knows is the tag alone
-  pub jump-undecided : (i : Instruction) (f : ℕ → Bool) {w : Atom} {x : Step} {t′ : List ℕ} → i .a < length types → w ≡ slotValue (memoryOf n (length types) t .slots) (st .epoch) (i .a)
-      → OneOf (1 ∷ 2 ∷ []) (variantOf the-type w) → Becomes n types 1 3 1 st t x t′ (λ dest c. Unit {0}) (λ S v. undecidedBy S i v)
-      → Becomes n types 1 3 1 st t x t′ (λ dest c. Unit {0}) (λ S v. numberJump S f i v (valueOf v (i .a)))
-  jump-undecided i f {w} low q k b =
-      as-becomes (omega arith) (omega arith) (omega arith)
-      (λ dest c l T v y h.
-      let known : w ≡ valueOf v (i .a) = q ∙ h .slots (i .a) low in
-      (y, not-integer (sectionsOf types c l T) f i v w k ∙ ap (numberJump (sectionsOf types c l T) f i v) known))
-      b
+  -- a jump on a slot whose value has the number d
+  module _ (i : Instruction) (f : ℕ → Bool) {d : ℕ} (w : Atom) (low : i .a < length types) (e : d ≡ numberAt (memoryOf n (length types) t) (i .a))
+      (q : integerOf w ≡ integerAt n (length types) (memoryOf n (length types) t .constantTable) d) where
+    pub jump-undecided : {x : Instruction} {t′ : List ℕ} → OneOf (1 ∷ 2 ∷ []) (variantOf the-type w) → Becomes n types 0 0 0 t x t′ (λ dest z. Unit {0}) (λ dest S v. undecidedBy S i v)
+        → Becomes n types 0 0 0 t x t′ (λ dest z. Unit {0}) (λ dest S v. numberJump S f i v (valueOf v (i .a)))
+    jump-undecided k b =
+        as-becomes (omega arith) (omega arith) (omega arith)
+        (λ dest z l T v y h. (y, not-integer (sectionsOf types z l T) f i v (valueOf v (i .a)) (known-integer n types t dest v h (i .a) d w low e q ∙ no-integer w k)))
+        b
 
-  pub jump-decided : (i : Instruction) (f : ℕ → Bool) {w : Atom} {a : ℕ} {b : Bool} {x : Step} → Ready n (length types) st t → i .a < length types
-      → w ≡ slotValue (memoryOf n (length types) t .slots) (st .epoch) (i .a) → w ≡ Integer a → f a ≡ b
-      → x .instruction ≡ cond b (plain 57 0 (i .b) (i .c)) (plain 0 0 0 0) → x .state ≡ st
-      → Becomes n types 1 3 1 st t x t (λ dest c. Unit {0}) (λ S v. numberJump S f i v (valueOf v (i .a)))
-  unfolding numberJump decided
-  jump-decided i f {w} {a} {b} g low q z e p s =
-      stay-becomes g s
-      (λ dest c l T v h.
-      let known : valueOf v (i .a) ≡ Integer a = sym (q ∙ h .slots (i .a) low) ∙ z in
-      rw (known, e, p))
+    pub jump-decided : {a : ℕ} {b : Bool} {x : Instruction} → Ready n (length types) t → w ≡ Integer a → f a ≡ b → x ≡ cond b (plain 57 0 (i .b) (i .c)) (plain 0 0 0 0)
+        → Becomes n types 0 0 0 t x t (λ dest z. Unit {0}) (λ dest S v. numberJump S f i v (valueOf v (i .a)))
+    unfolding numberJump decided integerOf
+    jump-decided {a} g k s p =
+        stay-becomes g
+        (λ dest z l T v h.
+        let known : valueOf v (i .a) ≡ Integer a = is-integer (valueOf v (i .a)) a (known-integer n types t dest v h (i .a) d w low e q ∙ ap integerOf k) in
+        rw (known, s, p))
 
   -- a return
-  pub return-read : (i : Instruction) {s : Bool} {x : Step} {t′ : List ℕ} → i .b ≡ 1 → s ≡ scalarIn types (i .a) → s ≡ true
-      → Becomes n types 1 3 1 st t x t′ (λ dest c. Unit {0}) (λ S v. numberRead S i v) → Becomes n types 1 3 1 st t x t′ (λ dest c. Unit {0}) (λ S v. numberBy S Return 0 i v)
+  pub return-read : (i : Instruction) {s : Bool} {x : Instruction} {t′ : List ℕ} → i .b ≡ 1 → s ≡ scalarIn types (i .a) → s ≡ true
+      → Becomes n types 0 0 0 t x t′ (λ dest z. Unit {0}) (λ dest S v. numberRead S i v) → Becomes n types 1 0 0 t x t′ (λ dest z. Unit {0}) (λ dest S v. numberBy S Return 0 i v)
   unfolding numberBy
   return-read i r e q b =
       let known : scalarIn types (i .a) ≡ true = sym e ∙ q in
-      as-becomes (omega arith) (omega arith) (omega arith) (λ dest c l T v y h. (y, rw (eq-eqb (i .b) 1 r, known))) b
+      as-becomes (omega arith) (omega arith) (omega arith) (λ dest z l T v y h. (y, rw (eq-eqb (i .b) 1 r, known))) b
 
   -- a store to a scalar, or none
-  pub other-pure : (i : Instruction) (p : ℕ) (k : Class) {s : Bool} {x : Step} {t′ : List ℕ} {Good : (ℕ → ℕ) → List ℕ → Type 0} → s ≡ scalarIn types (i .a) → s ≡ true
-      → Becomes n types 1 3 1 st t x t′ Good (λ S v. pureBy S k p i v) → Becomes n types 1 3 1 st t x t′ Good (λ S v. otherBy S k p i v)
+  pub other-pure : (i : Instruction) (p : ℕ) (k : Class) {s : Bool} {x : Instruction} {t′ : List ℕ} {Good : (ℕ → ℕ) → List ℕ → Type 0} → s ≡ scalarIn types (i .a) → s ≡ true
+      → Becomes n types 1 1 1 t x t′ Good (λ dest S v. pureBy S k p i v) → Becomes n types 1 1 1 t x t′ Good (λ dest S v. otherBy S k p i v)
   unfolding otherBy
   other-pure i p k e q b =
       let known : scalarIn types (i .a) ≡ true = sym e ∙ q in
-      as-becomes (omega arith) (omega arith) (omega arith) (λ dest c l T v y h. (y, rw known)) b
+      as-becomes (omega arith) (omega arith) (omega arith) (λ dest z l T v y h. (y, rw known)) b
 
   -- by class
-  pub pure-by : (i : Instruction) (p : ℕ) {k j : Class} {x : Step} {t′ : List ℕ} {Good Good′ : (ℕ → ℕ) → List ℕ → Type 0} (f : Sections → Values → Numbered) → k ≡ j
-      → ((dest : ℕ → ℕ) (c : List ℕ) (l : ℕ) (T : Tables) (v : Values) → Good′ dest c → Good dest c × (f (sectionsOf types c l T) v ≡ pureBy (sectionsOf types c l T) j p i v))
-      → {a b d : ℕ} → a ≤ 1 → b ≤ 3 → d ≤ 1 → Becomes n types a b d st t x t′ Good f → Becomes n types 1 3 1 st t x t′ Good′ (λ S v. pureBy S k p i v)
+  pub pure-by : (i : Instruction) (p : ℕ) {k j : Class} {x : Instruction} {t′ : List ℕ} {Good Good′ : (ℕ → ℕ) → List ℕ → Type 0} (f : (ℕ → ℕ) → Sections → Values → Numbered) → k ≡ j
+      → ((dest : ℕ → ℕ) (z : List ℕ) (l : ℕ) (T : Tables) (v : Values) → Good′ dest z → Good dest z × (f dest (sectionsOf types z l T) v ≡ pureBy (sectionsOf types z l T) j p i v))
+      → {a b d : ℕ} → a ≤ 1 → b ≤ 1 → d ≤ 1 → Becomes n types a b d t x t′ Good f → Becomes n types 1 1 1 t x t′ Good′ (λ dest S v. pureBy S k p i v)
   pure-by i p f e g u w z b = as-becomes u w z (λ dest c l T v y h. let q = g dest c l T v y in (q .0, rw e (q .1))) b
 
 -- a class by its number

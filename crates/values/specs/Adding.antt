@@ -3,77 +3,60 @@
 use mathlib.Core.Path.{_≡_, refl, sym, ap, _∙_}
 use mathlib.Core.Bool.{Bool, true, false, cond}
 use mathlib.Core.List.{List}
-use Prim.Native.Nat.{ℕ, zero, suc, _+_, _*_, _-_, _≤_, _<_}
+use Prim.Native.Nat.{ℕ, zero, suc, _+_, _*_, _-_, _/_, _%_, _≤_, _<_}
 use native.Mathlib.Numerals.{add-one}
 use native.Mathlib.Omega.{arith}
 use lib.ListN.{length, getD, set, length-set}
 use lib.Seq.{getD-set-same, getD-set-other}
 use lib.Dec.{eqb, ltb}
-use borrow.Author.Tests.{eqb-true, eqb-false, le-leb, ltb-true, ltb-false}
-use Rattle.values.specs.Entries.{keyAt, value, link, bucketOf, bucketAt, sameKey, newest, latest, Linked, Added}
-use Rattle.values.specs.declared.Key.{Key}
-use Rattle.values.specs.declared.Found.the-variants.{At}
+use borrow.Author.Tests.{eqb-true, eqb-false, eq-eqb, ne-eqb, ltb-true, ltb-false}
+use Rattle.values.specs.Entries.{Key, keyAt, value, link, bucketOf, bucketAt, headAt, sameKey, newest, latest, Linked, Added}
 
--- five words stored at a
-abbrev pub put5 : List ℕ → ℕ → Key → ℕ → ℕ → List ℕ
-put5 w a k x3 x4 = set (set (set (set (set w a (k .head)) (a + 1) (k .left)) (a + 2) (k .right)) (a + 3) x3) (a + 4) x4
+-- four words stored at a
+abbrev pub put4 : List ℕ → ℕ → Key → ℕ → ℕ → List ℕ
+put4 w a k x2 x3 = set (set (set (set w a (k .left)) (a + 1) (k .right)) (a + 2) x2) (a + 3) x3
 
 -- a store away from i, and at i
 away : (w : List ℕ) (j i v : ℕ) {x : ℕ} → (i ≡ j → ⊥) → getD w i 0 ≡ x → getD (set w j v) i 0 ≡ x
 away w j i v n e = getD-set-other w j i v 0 n ∙ e
 
-module _ (w : List ℕ) (a : ℕ) (k : Key) (x3 x4 : ℕ) where
+module _ (w : List ℕ) (a : ℕ) (k : Key) (x2 x3 : ℕ) where
   -- elsewhere the words are as they were
-  pub put5-away : (i : ℕ) → (i ≡ a → ⊥) → (i ≡ a + 1 → ⊥) → (i ≡ a + 2 → ⊥) → (i ≡ a + 3 → ⊥) → (i ≡ a + 4 → ⊥)
-      → getD (put5 w a k x3 x4) i 0 ≡ getD w i 0
-  put5-away i n0 n1 n2 n3 n4 = rw (getD-set-other, getD-set-other, getD-set-other, getD-set-other, getD-set-other)
+  pub put4-away : (i : ℕ) → (i ≡ a → ⊥) → (i ≡ a + 1 → ⊥) → (i ≡ a + 2 → ⊥) → (i ≡ a + 3 → ⊥) → getD (put4 w a k x2 x3) i 0 ≡ getD w i 0
+  put4-away i n0 n1 n2 n3 = rw (getD-set-other, getD-set-other, getD-set-other, getD-set-other)
 
-  module _ (r : a + 5 ≤ length w) where
+  module _ (r : a + 4 ≤ length w) where
     abbrev w1 : List ℕ
-    w1 = set w a (k .head)
+    w1 = set w a (k .left)
 
     abbrev w2 : List ℕ
-    w2 = set w1 (a + 1) (k .left)
+    w2 = set w1 (a + 1) (k .right)
 
     abbrev w3 : List ℕ
-    w3 = set w2 (a + 2) (k .right)
+    w3 = set w2 (a + 2) x2
 
-    abbrev w4 : List ℕ
-    w4 = set w3 (a + 3) x3
+    pub put4-0 : getD (put4 w a k x2 x3) a 0 ≡ k .left
+    put4-0 =
+        away w3 (a + 3) a x3 (λ e. omega arith)
+        (away w2 (a + 2) a x2 (λ e. omega arith)
+        (away w1 (a + 1) a (k .right) (λ e. omega arith) (getD-set-same w a (k .left) 0 (omega arith))))
 
-    pub put5-0 : getD (put5 w a k x3 x4) a 0 ≡ k .head
-    put5-0 =
-        away w4 (a + 4) a x4 (λ e. omega arith)
-        (away w3 (a + 3) a x3 (λ e. omega arith)
-        (away w2 (a + 2) a (k .right) (λ e. omega arith)
-        (away w1 (a + 1) a (k .left) (λ e. omega arith) (getD-set-same w a (k .head) 0 (omega arith)))))
+    pub put4-1 : getD (put4 w a k x2 x3) (a + 1) 0 ≡ k .right
+    put4-1 =
+        away w3 (a + 3) (a + 1) x3 (λ e. omega arith)
+        (away w2 (a + 2) (a + 1) x2 (λ e. omega arith) (getD-set-same w1 (a + 1) (k .right) 0 (simp length-set (omega arith))))
 
-    pub put5-1 : getD (put5 w a k x3 x4) (a + 1) 0 ≡ k .left
-    put5-1 =
-        away w4 (a + 4) (a + 1) x4 (λ e. omega arith)
-        (away w3 (a + 3) (a + 1) x3 (λ e. omega arith)
-        (away w2 (a + 2) (a + 1) (k .right) (λ e. omega arith) (getD-set-same w1 (a + 1) (k .left) 0 (simp length-set (omega arith)))))
+    pub put4-2 : getD (put4 w a k x2 x3) (a + 2) 0 ≡ x2
+    put4-2 = away w3 (a + 3) (a + 2) x3 (λ e. omega arith) (getD-set-same w2 (a + 2) x2 0 (simp length-set (omega arith)))
 
-    pub put5-2 : getD (put5 w a k x3 x4) (a + 2) 0 ≡ k .right
-    put5-2 =
-        away w4 (a + 4) (a + 2) x4 (λ e. omega arith)
-        (away w3 (a + 3) (a + 2) x3 (λ e. omega arith) (getD-set-same w2 (a + 2) (k .right) 0 (simp length-set (omega arith))))
-
-    pub put5-3 : getD (put5 w a k x3 x4) (a + 3) 0 ≡ x3
-    put5-3 = away w4 (a + 4) (a + 3) x4 (λ e. omega arith) (getD-set-same w3 (a + 3) x3 0 (simp length-set (omega arith)))
-
-    pub put5-4 : getD (put5 w a k x3 x4) (a + 4) 0 ≡ x4
-    put5-4 = getD-set-same w4 (a + 4) x4 0 (simp length-set (omega arith))
+    pub put4-3 : getD (put4 w a k x2 x3) (a + 3) 0 ≡ x3
+    put4-3 = getD-set-same w3 (a + 3) x3 0 (simp length-set (omega arith))
 
 -- two tables with the same first n entries
-module _ (w u : List ℕ) (h n : ℕ) (e : (i : ℕ) → h ≤ i → i < h + 5 * n → getD u i 0 ≡ getD w i 0) where
+module _ (w u : List ℕ) (h n : ℕ) (e : (i : ℕ) → h ≤ i → i < h + 4 * n → getD u i 0 ≡ getD w i 0) where
   pub key-agree : (j : ℕ) → j < n → keyAt u h j ≡ keyAt w h j
   key-agree j l =
-      rw (
-        e (h + 5 * j) (omega arith) (omega arith),
-        e (h + 5 * j + 1) (omega arith) (omega arith),
-        e (h + 5 * j + 2) (omega arith) (omega arith),
-      )
+      rw (e (h + 4 * j) (omega arith) (omega arith), e (h + 4 * j + 1) (omega arith) (omega arith))
 
   pub bucket-agree : (j : ℕ) → j < n → bucketAt u h j ≡ bucketAt w h j
   bucket-agree j l = ap (bucketOf h) (key-agree j l)
@@ -83,61 +66,88 @@ module _ (w u : List ℕ) (h n : ℕ) (e : (i : ℕ) → h ≤ i → i < h + 5 *
   latest-agree b zero l = refl
   latest-agree b (suc m) l = rw (bucket-agree m l, latest-agree b m (omega arith))
 
-  pub newest-agree : (base : ℕ) (k : Key) (m : ℕ) → m ≤ n → newest u h base m k ≡ newest w h base m k
+  pub newest-agree : (k : Key) (m : ℕ) → m ≤ n → newest u h m k ≡ newest w h m k
   unfolding newest
-  newest-agree base k zero l = refl
-  newest-agree base k (suc m) l =
-      rw (ap (λ (x : Key). sameKey x k) (key-agree m l), e (h + 5 * m + 3) (omega arith) (omega arith), newest-agree base k m (omega arith))
+  newest-agree k zero l = refl
+  newest-agree k (suc m) l = rw (ap (λ (x : Key). sameKey x k) (key-agree m l), newest-agree k m (omega arith))
+
+  pub value-agree : (j : ℕ) → j < n → value u h j ≡ value w h j
+  value-agree j l = e (h + 4 * j + 2) (omega arith) (omega arith)
 
 -- the buffer w after an insertion in bucket b
-abbrev pub inserted : List ℕ → ℕ → ℕ → ℕ → Key → ℕ → List ℕ
-inserted w h count b k v = set (put5 w (h + 5 * count) k v (getD w b 0)) b (count + 1)
+abbrev pub inserted : List ℕ → ℕ → ℕ → ℕ → ℕ → Key → ℕ → List ℕ
+inserted w h epoch count b k v = set (put4 w (h + 4 * count) k v (headAt w epoch b)) b (4294967296 * epoch + (count + 1))
 
 -- its words, u
-pub record Stored (w u : List ℕ) (h count b : ℕ) (k : Key) (v : ℕ) : Type 0 where
+pub record Stored (w u : List ℕ) (h epoch count b : ℕ) (k : Key) (v : ℕ) : Type 0 where
   pub long : length u ≡ length w
   pub is-key : keyAt u h count ≡ k
   pub is-value : value u h count ≡ v
-  pub is-link : link u h count ≡ getD w b 0
-  pub is-head : getD u b 0 ≡ count + 1
-  pub before : (i : ℕ) → i < h + 5 * count → (i ≡ b → ⊥) → getD u i 0 ≡ getD w i 0
+  pub is-link : link u h count ≡ headAt w epoch b
+  pub is-head : getD u b 0 ≡ 4294967296 * epoch + (count + 1)
+  pub before : (i : ℕ) → i < h + 4 * count → (i ≡ b → ⊥) → getD u i 0 ≡ getD w i 0
 
-pub stored : (w : List ℕ) (h count b : ℕ) (k : Key) (v : ℕ) → b < h → h + 5 * count + 5 ≤ length w → Stored w (inserted w h count b k v) h count b k v
-stored w h count b k v low r =
-    let a : ℕ = h + 5 * count in
-    let l : ℕ = getD w b 0 in
-    let off : (i : ℕ) → (i ≡ b → ⊥) → getD (inserted w h count b k v) i 0 ≡ getD (put5 w (h + 5 * count) k v (getD w b 0)) i 0
-    = λ i n. getD-set-other (put5 w (h + 5 * count) k v (getD w b 0)) b i (count + 1) 0 n
+pub stored : (w : List ℕ) (h epoch count b : ℕ) (k : Key) (v : ℕ) → b < h → h + 4 * count + 4 ≤ length w → Stored w (inserted w h epoch count b k v) h epoch count b k v
+stored w h epoch count b k v low r =
+    let a : ℕ = h + 4 * count in
+    let l : ℕ = headAt w epoch b in
+    let x : ℕ = 4294967296 * epoch + (count + 1) in
+    let off : (i : ℕ) → (i ≡ b → ⊥) → getD (inserted w h epoch count b k v) i 0 ≡ getD (put4 w (h + 4 * count) k v (headAt w epoch b)) i 0
+    = λ i n. getD-set-other (put4 w (h + 4 * count) k v (headAt w epoch b)) b i (4294967296 * epoch + (count + 1)) 0 n
     in
     record {
       long = simp length-set;
-      is-key =
-          rw (
-            off a (λ e. omega arith) ∙ put5-0 w a k v l r,
-            off (a + 1) (λ e. omega arith) ∙ put5-1 w a k v l r,
-            off (a + 2) (λ e. omega arith) ∙ put5-2 w a k v l r,
-          );
-      is-value = off (a + 3) (λ e. omega arith) ∙ put5-3 w a k v l r;
-      is-link = off (a + 4) (λ e. omega arith) ∙ put5-4 w a k v l r;
-      is-head = getD-set-same (put5 w a k v l) b (count + 1) 0 (simp length-set (omega arith));
-      before = λ i m n. off i n ∙ put5-away w a k v l i (λ e. omega arith) (λ e. omega arith) (λ e. omega arith) (λ e. omega arith) (λ e. omega arith);
+      is-key = rw (off a (λ e. omega arith) ∙ put4-0 w a k v l r, off (a + 1) (λ e. omega arith) ∙ put4-1 w a k v l r);
+      is-value = off (a + 2) (λ e. omega arith) ∙ put4-2 w a k v l r;
+      is-link = off (a + 3) (λ e. omega arith) ∙ put4-3 w a k v l r;
+      is-head = getD-set-same (put4 w a k v l) b x 0 (simp length-set (omega arith));
+      before = λ i m n. off i n ∙ put4-away w a k v l i (λ e. omega arith) (λ e. omega arith) (λ e. omega arith) (λ e. omega arith);
     }
 
-module _ (w u : List ℕ) (h count : ℕ) (k : Key) (v : ℕ) (g : Linked w h count) (low : bucketOf h k < h) (s : Stored w u h count (bucketOf h k) k v) where
+-- a head that was just set, and one that was not
+module _ (u : List ℕ) (epoch b i : ℕ) (fits : i < 4294967296) where
+  pub head-set : getD u b 0 ≡ 4294967296 * epoch + i → (getD u b 0 / 4294967296 ≡ epoch) × (headAt u epoch b ≡ i)
+  unfolding headAt
+  head-set e =
+      let high : (4294967296 * epoch + i) / 4294967296 ≡ epoch = omega arith in
+      let low : (4294967296 * epoch + i) % 4294967296 ≡ i = omega arith in
+      (rw e high, rw (e, high, low, eq-eqb epoch epoch refl))
+
+pub head-same : (u w : List ℕ) (epoch b : ℕ) → getD u b 0 ≡ getD w b 0 → headAt u epoch b ≡ headAt w epoch b
+unfolding headAt
+head-same u w epoch b e = rw e
+
+module _ (w u : List ℕ) (h epoch count : ℕ) (k : Key) (v : ℕ) (g : Linked w h epoch count) (low : bucketOf h k < h) (few : count < 65536) (s : Stored w u h epoch count (bucketOf h k) k v) where
   -- the earlier entries are as they were
-  kept : (i : ℕ) → h ≤ i → i < h + 5 * count → getD u i 0 ≡ getD w i 0
+  kept : (i : ℕ) → h ≤ i → i < h + 4 * count → getD u i 0 ≡ getD w i 0
   kept i l m = s .before i m (λ e. omega arith)
 
   own : bucketAt u h count ≡ bucketOf h k
   own = ap (bucketOf h) (s .is-key)
 
-  heads : (b : ℕ) → b < h → getD u b 0 ≡ latest u h b (suc count)
+  set-here : (getD u (bucketOf h k) 0 / 4294967296 ≡ epoch) × (headAt u epoch (bucketOf h k) ≡ count + 1)
+  set-here = head-set u epoch (bucketOf h k) (count + 1) (omega arith) (s .is-head)
+
+  past : (b : ℕ) → b < h → getD u b 0 / 4294967296 ≤ epoch
+  past b l = go (eqb (bucketOf h k) b) refl
+    where
+      go : (t : Bool) → eqb (bucketOf h k) b ≡ t → getD u b 0 / 4294967296 ≤ epoch
+      go true e =
+          let z : getD u b 0 / 4294967296 ≡ epoch = rw (← eqb-true (bucketOf h k) b e) (set-here .0) in
+          omega arith
+      go false e = rw (s .before b (omega arith) (λ q. eqb-false _ _ e (sym q))) (g .past b l)
+
+  heads : (b : ℕ) → b < h → headAt u epoch b ≡ latest u h b (suc count)
   unfolding latest
   heads b l = go (eqb (bucketOf h k) b) refl ∙ rw own
     where
-      go : (t : Bool) → eqb (bucketOf h k) b ≡ t → getD u b 0 ≡ cond (eqb (bucketOf h k) b) (suc count) (latest u h b count)
-      go true e = rw e (ap (λ (i : ℕ). getD u i 0) (sym (eqb-true _ _ e)) ∙ s .is-head ∙ add-one count)
-      go false e = rw e (s .before b (omega arith) (λ q. eqb-false _ _ e (sym q)) ∙ g .heads b l ∙ sym (latest-agree w u h count kept b count (omega arith)))
+      go : (t : Bool) → eqb (bucketOf h k) b ≡ t → headAt u epoch b ≡ cond (eqb (bucketOf h k) b) (suc count) (latest u h b count)
+      go true e = rw e (ap (λ (i : ℕ). headAt u epoch i) (sym (eqb-true _ _ e)) ∙ set-here .1 ∙ add-one count)
+      go false e =
+          rw e
+          (head-same u w epoch b (s .before b (omega arith) (λ q. eqb-false _ _ e (sym q)))
+          ∙ g .heads b l
+          ∙ sym (latest-agree w u h count kept b count (omega arith)))
 
   links : (j : ℕ) → j < suc count → link u h j ≡ latest u h (bucketAt u h j) j
   links j l = go (ltb j count) refl
@@ -145,7 +155,7 @@ module _ (w u : List ℕ) (h count : ℕ) (k : Key) (v : ℕ) (g : Linked w h co
       go : (t : Bool) → ltb j count ≡ t → link u h j ≡ latest u h (bucketAt u h j) j
       go true e =
           let q : j < count = ltb-true j count e in
-          kept (h + 5 * j + 4) (omega arith) (omega arith)
+          kept (h + 4 * j + 3) (omega arith) (omega arith)
           ∙ g .links j q
           ∙ sym (latest-agree w u h count kept (bucketAt w h j) j (omega arith))
           ∙ ap (λ (x : ℕ). latest u h x j) (sym (bucket-agree w u h count kept j q))
@@ -157,33 +167,61 @@ module _ (w u : List ℕ) (h count : ℕ) (k : Key) (v : ℕ) (g : Linked w h co
           ∙ sym (latest-agree w u h count kept (bucketOf h k) count (omega arith))
           ∙ ap (λ (x : ℕ). latest u h x count) (sym own))
 
-  answer : (base : ℕ) (l : Key) → base ≤ count → newest u h base (suc count) l ≡ cond (sameKey k l) (At v) (newest w h base count l)
+  answer : (l : Key) → newest u h (suc count) l ≡ cond (sameKey k l) (suc count) (newest w h count l)
   unfolding newest
-  answer base l b =
-      rw (le-leb base count b, ap (λ (x : Key). sameKey x l) (s .is-key), s .is-value, newest-agree w u h count kept base l count (omega arith))
+  answer l = rw (ap (λ (x : Key). sameKey x l) (s .is-key), newest-agree w u h count kept l count (omega arith))
 
-  pub added : h + 5 * count + 5 ≤ length w → Added w u h count k v
+  pub added : h + 4 * count + 4 ≤ length w → Added w u h epoch count k v
   added r =
       record {
         linked = record {
           some = g .some;
           few = g .few;
+          fits = g .fits;
           room = rw (s .long) (omega arith);
+          past = past;
           heads = λ b l. rw (add-one count) (heads b l);
           links = λ j l. links j (omega arith);
         };
-        answer = λ base l b. rw (add-one count) (answer base l b);
+        answer = λ l. rw (add-one count) (answer l);
+        is-key = s .is-key;
+        is-value = s .is-value;
+        keys = key-agree w u h count kept;
+        values = value-agree w u h count kept;
         long = s .long;
       }
 
 -- what the code of `insert` is proved by
-pub insert-adds : {w : List ℕ} {h count b : ℕ} {k : Key} {v : ℕ} → Linked w h count → h + 5 * count + 5 ≤ length w → b ≡ bucketOf h k → b < h
-    → Added w (inserted w h count b k v) h count k v
-insert-adds {w} {h} {count} {b} {k} {v} g r e l =
+pub insert-adds : {w : List ℕ} {h epoch count b : ℕ} {k : Key} {v l : ℕ} → Linked w h epoch count → h + 4 * count + 4 ≤ length w → count < 65536 → b ≡ bucketOf h k → b < h → l ≡ headAt w epoch b
+    → Added w (set (put4 w (h + 4 * count) k v l) b (4294967296 * epoch + (count + 1))) h epoch count k v
+insert-adds {w} {h} {epoch} {count} {b} {k} {v} g r f e l q =
     let low : bucketOf h k < h = omega arith in
-    rw e (added w _ h count k v g low (stored w h count (bucketOf h k) k v low r) r)
+    rw (q, e) (added w _ h epoch count k v g low f (stored w h epoch count (bucketOf h k) k v low r) r)
+
+-- the next epoch starts with an empty table
+pub next-epoch : {w : List ℕ} {h epoch count : ℕ} → Linked w h epoch count → epoch + 1 < 4294967296 → Linked w h (epoch + 1) 0
+unfolding latest headAt
+next-epoch {w} {h} {epoch} {count} g f =
+    record {
+      some = g .some;
+      few = g .few;
+      fits = f;
+      room = omega (arith, g .room);
+      past = λ b l. omega (arith, g .past b l);
+      heads = λ b l. let q = g .past b l in rw (ne-eqb (getD w b 0 / 4294967296) (epoch + 1) (λ e. omega arith));
+      links = λ j m. absurd (omega arith);
+    }
 
 -- an empty table
-pub no-entries : (w : List ℕ) (h : ℕ) → 0 < h → h ≤ 65536 → h ≤ length w → ((b : ℕ) → b < h → getD w b 0 ≡ 0) → Linked w h 0
-unfolding latest
-no-entries w h l f r z = record { some = l; few = f; room = omega arith; heads = z; links = λ j m. absurd (omega arith) }
+pub no-entries : (w : List ℕ) (h : ℕ) → 0 < h → h ≤ 65536 → h ≤ length w → ((b : ℕ) → b < h → getD w b 0 ≡ 0) → Linked w h 1 0
+unfolding latest headAt
+no-entries w h l f r z =
+    record {
+      some = l;
+      few = f;
+      fits = omega arith;
+      room = omega arith;
+      past = λ b m. rw (z b m) (omega arith);
+      heads = λ b m. rw (z b m);
+      links = λ j m. absurd (omega arith);
+    }

@@ -9,8 +9,15 @@ use Rattle.words.specs.Lists.{isIn, every, every-at}
 use Rattle.values.specs.Fold.{foldingBinary}
 use Rattle.values.specs.Table.{Expression}
 use Rattle.values.specs.declared.Atom.{Atom}
+use Rattle.values.specs.declared.Atom.the-variants.{Integer, Float, Definition}
 use Rattle.values.specs.declared.Folded.{Folded}
 use Rattle.values.specs.declared.Folded.the-variants.{Word, Not}
+
+-- the known integer of a value: what folding looks at
+unfoldable pub integerOf : Atom → Option ℕ
+integerOf (Integer x) = some x
+integerOf (Float x) = none
+integerOf (Definition p s) = none
 
 unfoldable pub answered : Option ℕ → Folded
 answered (some v) = Word v

@@ -1,60 +1,56 @@
 -- What the functions of the table of values promise: what stays in order, and which table of values the memory then holds.
 -- Assumes nothing.
 use mathlib.Core.Path.{_≡_}
-use mathlib.Core.List.{List, _∷_}
+use mathlib.Core.List.{List}
 use Prim.Native.Nat.{ℕ, _+_, _≤_, _<_}
 use lib.ListN.{length}
-use Rattle.values.specs.Table.{Values, Expression, valueOf, representative, store, learn}
-use Rattle.values.specs.Memory.{memoryOf, slotValue, keyOf, Ready, Sound, SoundExpression, Holds}
-use Rattle.values.specs.declared.Atom.{Atom}
-use Rattle.values.specs.declared.Atom.the-variants.{Definition}
-use Rattle.values.specs.declared.State.{State}
-use Rattle.values.specs.declared.Chosen.{Chosen}
-use Rattle.values.specs.declared.Key.{Key}
+use Rattle.values.specs.Table.{Values, empty, representative, store, learn}
+use Rattle.values.specs.Memory.{memoryOf, numberAt, constantOf, constantKey, limit, atomIn, Ready, Holds}
 
-abbrev pub cleared : State → State
-cleared st = record { epoch = st .epoch + 1; rbase = st .rcount; rcount = st .rcount; ebase = st .ecount; ecount = st .ecount }
-
--- so many entries of constants; one entry of an expression more
-abbrev pub counted : State → ℕ → State
-counted st count = record { epoch = st .epoch; rbase = st .rbase; rcount = count; ebase = st .ebase; ecount = st .ecount }
-
-abbrev pub taught : State → State
-taught st = record { epoch = st .epoch; rbase = st .rbase; rcount = st .rcount; ebase = st .ebase; ecount = st .ecount + 1 }
-
--- the memory stays in order; at most r entries of constants and e of expressions more, at most k epochs later
-pub record Kept (n S k r e : ℕ) (st : State) (t : List ℕ) (st′ : State) (t′ : List ℕ) : Type 0 where
-  pub ready : Ready n S st′ t′
+-- the memory stays in order; at most c constants and e expressions more, at most k epochs later
+pub record Kept (n S k c e : ℕ) (t t′ : List ℕ) : Type 0 where
+  pub ready : Ready n S t′
   pub long : length t′ ≡ length t
-  pub epochs : st′ .epoch ≤ st .epoch + k
-  pub constants : st′ .rcount ≤ st .rcount + r
-  pub expressions : st′ .ecount ≤ st .ecount + e
+  pub epochs : memoryOf n S t′ .epoch ≤ memoryOf n S t .epoch + k
+  pub constants : memoryOf n S t′ .constants ≤ memoryOf n S t .constants + c
+  pub expressions : memoryOf n S t′ .expressions ≤ memoryOf n S t .expressions + e
 
--- the slot s recorded for the value w
-abbrev pub recording : Values → ℕ → Atom → Values
-recording v s w = record { slots = v .slots; recorded = record { slot = s; value = w } ∷ v .recorded; expressions = v .expressions }
+-- numbers stand for the same values: those of slots and of constants are as they were
+pub record Same (n S : ℕ) (t t′ : List ℕ) : Type 0 where
+  pub numbers : (s : ℕ) → s < S → numberAt (memoryOf n S t′) s ≡ numberAt (memoryOf n S t) s
+  pub constants : memoryOf n S t′ .constants ≡ memoryOf n S t .constants
+  pub table : memoryOf n S t′ .constantTable ≡ memoryOf n S t .constantTable
 
-pub record Recorded (n S : ℕ) (st : State) (t : List ℕ) (w : Atom) (s : ℕ) (st′ : State) (t′ : List ℕ) : Type 0 where
-  pub kept : Kept n S 0 1 0 st t st′ t′
-  pub holds : (dest : ℕ → ℕ) (v : Values) → Holds n S dest v st (memoryOf n S t) → Sound n S dest w → s < S
-      → Holds n S dest (recording v s w) st′ (memoryOf n S t′)
+-- nothing is known
+pub record Clears (n S : ℕ) (t t′ : List ℕ) : Type 0 where
+  pub kept : Kept n S 1 0 0 t t′
+  pub holds : (dest : ℕ → ℕ) → Holds n S dest empty (memoryOf n S t′)
 
--- the slot that stands for the value w of slot s, and the state after it
-pub record Represents (n S : ℕ) (types : List ℕ) (st : State) (t : List ℕ) (s : ℕ) (w : Atom) (slot : ℕ) (st′ : State) (t′ : List ℕ) : Type 0 where
-  pub kept : Kept n S 0 1 0 st t st′ t′
+-- the slot that stands for slot s, whose value has the number d
+pub record Represents (n S : ℕ) (types : List ℕ) (t : List ℕ) (s d slot : ℕ) (t′ : List ℕ) : Type 0 where
+  pub kept : Kept n S 0 0 0 t t′
+  pub same : Same n S t t′
   pub low : slot < S
-  pub holds : (dest : ℕ → ℕ) (v : Values) → Holds n S dest v st (memoryOf n S t) → w ≡ valueOf v s
-      → (slot ≡ representative types v s .slot) × Holds n S dest (representative types v s .table) st′ (memoryOf n S t′)
+  pub number : numberAt (memoryOf n S t) slot ≡ d
+  pub holds : (dest : ℕ → ℕ) (v : Values) → Holds n S dest v (memoryOf n S t)
+      → (slot ≡ representative types v s .slot) × Holds n S dest (representative types v s .table) (memoryOf n S t′)
 
-abbrev pub Chooses : (n S : ℕ) → List ℕ → State → List ℕ → ℕ → Chosen → List ℕ → Type 0
-Chooses n S types st t s r t′ = Represents n S types st t s (slotValue (memoryOf n S t .slots) (st .epoch) s) (r .slot) (r .state) t′
+-- the value with the number d stored in slot s
+pub record Stores (n S : ℕ) (types : List ℕ) (t : List ℕ) (s d : ℕ) (t′ : List ℕ) : Type 0 where
+  pub kept : Kept n S 0 0 0 t t′
+  pub holds : (dest : ℕ → ℕ) (v : Values) → Holds n S dest v (memoryOf n S t)
+      → Holds n S dest (store types v s (atomIn n S dest (memoryOf n S t) d)) (memoryOf n S t′)
 
-pub record Stores (n S : ℕ) (types : List ℕ) (st : State) (t : List ℕ) (s : ℕ) (w : Atom) (st′ : State) (t′ : List ℕ) : Type 0 where
-  pub kept : Kept n S 0 1 0 st t st′ t′
-  pub holds : (dest : ℕ → ℕ) (v : Values) → Holds n S dest v st (memoryOf n S t) → Sound n S dest w
-      → Holds n S dest (store types v s w) st′ (memoryOf n S t′)
+-- the number d of a constant
+pub record Interns (n S : ℕ) (t : List ℕ) (kind bits d : ℕ) (t′ : List ℕ) : Type 0 where
+  pub kept : Kept n S 0 1 0 t t′
+  pub low : d < limit n S (memoryOf n S t′)
+  pub is : (dest : ℕ → ℕ) → atomIn n S dest (memoryOf n S t′) d ≡ constantOf (constantKey kind bits)
+  pub holds : (dest : ℕ → ℕ) (v : Values) → Holds n S dest v (memoryOf n S t) → Holds n S dest v (memoryOf n S t′)
 
-pub record Learns (n S : ℕ) (st : State) (t : List ℕ) (k : Key) (p s : ℕ) (st′ : State) (t′ : List ℕ) : Type 0 where
-  pub kept : Kept n S 0 0 1 st t st′ t′
-  pub holds : (dest : ℕ → ℕ) (v : Values) (e : Expression) → Holds n S dest v st (memoryOf n S t) → SoundExpression n S dest e → k ≡ keyOf e
-      → Sound n S dest (Definition p s) → Holds n S dest (learn v e (Definition p s)) st′ (memoryOf n S t′)
+-- an expression of two numbers, whose value has the number d
+pub record Learns (n S : ℕ) (t : List ℕ) (op flags left right d : ℕ) (t′ : List ℕ) : Type 0 where
+  pub kept : Kept n S 0 0 1 t t′
+  pub same : Same n S t t′
+  pub holds : (dest : ℕ → ℕ) (v : Values) → Holds n S dest v (memoryOf n S t)
+      → Holds n S dest (learn v (record { opcode = op; flags = flags; left = atomIn n S dest (memoryOf n S t) left; right = atomIn n S dest (memoryOf n S t) right }) (atomIn n S dest (memoryOf n S t) d)) (memoryOf n S t′)

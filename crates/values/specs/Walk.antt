@@ -4,7 +4,7 @@ use mathlib.Core.Path.{_≡_, refl, ap}
 use mathlib.Core.Bool.{Bool, true, false, cond, _||_, not}
 use mathlib.Core.List.{List, [], _∷_, map}
 use mathlib.Core.Option.{Option, none, some}
-use Prim.Native.Nat.{ℕ, suc, _+_, _*_, _^_, _≤_, _<_}
+use Prim.Native.Nat.{ℕ, suc, _+_, _*_, _≤_, _<_}
 use lib.Dec.{eqb}
 use lib.ListN.{length, getD}
 use Rattle.words.specs.Lists.{mapFrom}
@@ -16,22 +16,18 @@ use Rattle.instruction.specs.Instruction.{class, imm32, ofWord, toWord}
 use Rattle.unit.specs.Entry.{constantAt, typeValue, typeFloat}
 use Rattle.effects.specs.Shape.{Sections, Tables, Cell}
 use Rattle.effects.specs.Cells.{cellOf, cellsBy}
-use Rattle.values.specs.Table.{Values, Expression, Represented, empty, valueOf, representative, store, learn}
+use Rattle.values.specs.Table.{Values, Expression, Represented, empty, valueOf, representative}
 use Rattle.values.specs.Folded.{expressionOf}
 use Rattle.values.specs.Number.{Numbered, isScalar, cleared, constantAtom, setBC, foldUnary, foldBinary, stored, byValue, numberUnary, numberBinary, numberCopy, numberConstant, numberRead, numberBy, number, numberFrom, numberCode}
-use Rattle.values.specs.Memory.{keyOf, memoryOf, Ready, Sound, SoundExpression, Holds}
-use Rattle.values.specs.Kept.{Kept}
+use Rattle.values.specs.Entries.{key}
+use Rattle.values.specs.Memory.{Memory, memoryOf, numberAt, constantOf, constantKey, expressionKey, limit, Ready, Holds}
+use Rattle.values.specs.Kept.{Kept, Same}
 use Rattle.values.specs.declared.Atom.{Atom}
-use Rattle.values.specs.declared.Atom.the-variants.{Integer, Float, Definition}
-use Rattle.values.specs.declared.Key.{Key}
-use Rattle.values.specs.declared.Chosen.{Chosen}
+use Rattle.values.specs.declared.Atom.the-variants.{Integer}
 use Rattle.values.specs.declared.Loaded.{Loaded}
 use Rattle.values.specs.declared.Loaded.the-variants.{Value, Unknown}
 use Rattle.values.specs.declared.Folded.{Folded}
 use Rattle.values.specs.declared.Folded.the-variants.{Word, Not}
-use Rattle.values.specs.declared.State.{State}
-use Rattle.values.specs.declared.Step.{Step}
-use Rattle.values.specs.declared.Turn.{Turn}
 
 -- the slots that an instruction names one by one, which are those that numbering it looks at, are below s
 unfoldable pub Named : Class → ℕ → Instruction → Type 0
@@ -67,18 +63,13 @@ pub record Stands (n p : ℕ) (i : Instruction) (dest : ℕ → ℕ) : Type 0 wh
   pub place : p < n
   pub own : i .a ≡ dest p
 
--- what is known of an expression at place p: its values occur, and so does what the place defines
-pub record Known (n S p : ℕ) (i : Instruction) (left right : Atom) (dest : ℕ → ℕ) : Type 0 where
-  pub expression : SoundExpression n S dest (expressionOf (i .op) (i .flags) left right)
-  pub definition : Sound n S dest (Definition p (i .a))
-
 -- an instruction as it becomes, f by the definition, and the memory after it
-pub record Becomes (n : ℕ) (types : List ℕ) (k r e : ℕ) (st : State) (t : List ℕ) (x : Step) (t′ : List ℕ) (Good : (ℕ → ℕ) → List ℕ → Type 0) (f : Sections → Values → Numbered)
+pub record Becomes (n : ℕ) (types : List ℕ) (k c e : ℕ) (t : List ℕ) (x : Instruction) (t′ : List ℕ) (Good : (ℕ → ℕ) → List ℕ → Type 0) (f : (ℕ → ℕ) → Sections → Values → Numbered)
     : Type 0 where
-  pub kept : Kept n (length types) k r e st t (x .state) t′
-  pub holds : (dest : ℕ → ℕ) (constants : List ℕ) (locals : ℕ) (tables : Tables) (v : Values) → Good dest constants → Holds n (length types) dest v st (memoryOf n (length types) t)
-      → (x .instruction ≡ f (sectionsOf types constants locals tables) v .instruction)
-      × Holds n (length types) dest (f (sectionsOf types constants locals tables) v .table) (x .state) (memoryOf n (length types) t′)
+  pub kept : Kept n (length types) k c e t t′
+  pub holds : (dest : ℕ → ℕ) (constants : List ℕ) (locals : ℕ) (tables : Tables) (v : Values) → Good dest constants → Holds n (length types) dest v (memoryOf n (length types) t)
+      → (x ≡ f dest (sectionsOf types constants locals tables) v .instruction)
+      × Holds n (length types) dest (f dest (sectionsOf types constants locals tables) v .table) (memoryOf n (length types) t′)
 
 -- the known integer that an expression of two operands or of one folds to
 unfoldable pub foldBy : Bool → Expression → Option ℕ
@@ -97,40 +88,47 @@ binaryClass k = eqb (numberOf k) 6
 abbrev pub onZero : Class → Bool
 onZero k = eqb (numberOf k) 9
 
-unfoldable pub atomIn : Loaded → Option Atom
-atomIn (Value v) = some v
-atomIn Unknown = none
+-- the value of what LoadConst gives
+unfoldable pub atomOf : Loaded → Option Atom
+atomOf (Value kind bits) = some (constantOf (constantKey kind bits))
+atomOf Unknown = none
 
--- a constant is a word of 64 bits
-unfoldable pub IsWord : Atom → Type 0
-IsWord (Integer x) = x < 2 ^ 64
-IsWord (Float x) = x < 2 ^ 64
-IsWord (Definition p s) = ⊥
+unfoldable pub KindOf : Loaded → Type 0
+KindOf (Value kind bits) = kind ≤ 1
+KindOf Unknown = Unit {0}
 
-unfoldable pub HasWord : Loaded → Type 0
-HasWord (Value v) = IsWord v
-HasWord Unknown = Unit {0}
+-- the number of the second operand's value, where there is one; else that of Integer 0
+unfoldable pub secondNumber : ℕ → ℕ → Memory → ℕ → Bool → ℕ
+secondNumber n S m s true = numberAt m s
+secondNumber n S m s false = S + n
+
+-- the word of an expression of two numbers that are in use
+pub record Coded (n S : ℕ) (m : Memory) (word : ℕ) : Type 0 where
+  pub op : ℕ
+  pub flags : ℕ
+  pub left : ℕ
+  pub right : ℕ
+  pub op-fits : op < 256
+  pub flags-fits : flags < 256
+  pub left-low : left < limit n S m
+  pub right-low : right < limit n S m
+  pub is : key word 0 ≡ expressionKey op flags left right
 
 -- the second operand of a binary opcode
-pub record Second (n S : ℕ) (types : List ℕ) (st : State) (t : List ℕ) (s : ℕ) (binary : Bool) (r : Chosen) (t′ : List ℕ) : Type 0 where
-  pub kept : Kept n S 0 1 0 st t (r .state) t′
-  pub low : binary ≡ true → r .slot < S
-  pub holds : (dest : ℕ → ℕ) (v : Values) → Holds n S dest v st (memoryOf n S t)
-      → (r .slot ≡ secondOf types v s binary .slot) × Holds n S dest (secondOf types v s binary .table) (r .state) (memoryOf n S t′)
-
--- a new expression with that key, whose value is what the place defines
-pub record Defines (n : ℕ) (types : List ℕ) (st : State) (t : List ℕ) (i : Instruction) (p : ℕ) (k : Key) (x : Step) (t′ : List ℕ) : Type 0 where
-  pub kept : Kept n (length types) 0 1 1 st t (x .state) t′
-  pub holds : (dest : ℕ → ℕ) (v : Values) (e : Expression) → Sound n (length types) dest (Definition p (i .a)) → SoundExpression n (length types) dest e → k ≡ keyOf e
-      → Holds n (length types) dest v st (memoryOf n (length types) t)
-      → (x .instruction ≡ i) × Holds n (length types) dest (store types (learn v e (Definition p (i .a))) (i .a) (Definition p (i .a))) (x .state) (memoryOf n (length types) t′)
+pub record Second (n S : ℕ) (types : List ℕ) (t : List ℕ) (s d : ℕ) (binary : Bool) (slot : ℕ) (t′ : List ℕ) : Type 0 where
+  pub kept : Kept n S 0 0 0 t t′
+  pub same : Same n S t t′
+  pub low : binary ≡ true → slot < S
+  pub number : binary ≡ true → numberAt (memoryOf n S t) slot ≡ d
+  pub holds : (dest : ℕ → ℕ) (v : Values) → Holds n S dest v (memoryOf n S t)
+      → (slot ≡ secondOf types v s binary .slot) × Holds n S dest (secondOf types v s binary .table) (memoryOf n S t′)
 
 -- room for what one instruction adds
-pub record Room (n S : ℕ) (st : State) (t : List ℕ) : Type 0 where
-  pub ready : Ready n S st t
-  pub constants : st .rcount + 3 ≤ 3 * n
-  pub expressions : st .ecount < n
-  pub epoch : st .epoch + 1 < 2 ^ 40
+pub record Room (n S : ℕ) (t : List ℕ) : Type 0 where
+  pub ready : Ready n S t
+  pub constants : memoryOf n S t .constants < n
+  pub expressions : memoryOf n S t .expressions < n
+  pub epoch : memoryOf n S t .epoch < 4294967295
 
 -- ---- the definition's cases as the code has them
 
@@ -225,24 +223,25 @@ module _ (S : Sections) (leaders : List ℕ) where
 
 -- ---- what the walk starts from
 
--- the first state: no entries, and an epoch that no word is of
-abbrev pub started : State
-started = record { epoch = 1; rbase = 0; rcount = 0; ebase = 0; ecount = 0 }
-
 pub record Begins (n S : ℕ) (t t′ : List ℕ) : Type 0 where
-  pub ready : Ready n S started t′
-  pub holds : (dest : ℕ → ℕ) → Holds n S dest empty started (memoryOf n S t′)
+  pub ready : Ready n S t′
+  pub long : length t′ ≡ length t
+  pub epoch : memoryOf n S t′ .epoch ≡ 1
+  pub constants : memoryOf n S t′ .constants ≡ 0
+  pub expressions : memoryOf n S t′ .expressions ≡ 0
+  pub holds : (dest : ℕ → ℕ) → Holds n S dest empty (memoryOf n S t′)
 
 -- a block starts with nothing known
-abbrev pub entered : State → ℕ → State
-entered st leader = cond (eqb leader 1) (record { epoch = st .epoch + 1; rbase = st .rcount; rcount = st .rcount; ebase = st .ecount; ecount = st .ecount }) st
+pub record Enters (n S leader : ℕ) (t t′ : List ℕ) : Type 0 where
+  pub kept : Kept n S 1 0 0 t t′
+  pub holds : (dest : ℕ → ℕ) (v : Values) → Holds n S dest v (memoryOf n S t) → Holds n S dest (cond (eqb leader 1) empty v) (memoryOf n S t′)
 
 -- a turn of the walk at place p, at the word w
-pub record Turns (n : ℕ) (types constants : List ℕ) (leader w p : ℕ) (st : State) (t : List ℕ) (x : Turn) (t′ : List ℕ) : Type 0 where
-  pub kept : Kept n (length types) 2 3 1 st t (x .state) t′
-  pub holds : (dest : ℕ → ℕ) (locals : ℕ) (tables : Tables) (v : Values) → Stands n p (ofWord w) dest → Holds n (length types) dest v st (memoryOf n (length types) t)
-      → (x .word ≡ toWord (number (sectionsOf types constants locals tables) p (ofWord w) (cond (eqb leader 1) empty v) .instruction))
-      × Holds n (length types) dest (number (sectionsOf types constants locals tables) p (ofWord w) (cond (eqb leader 1) empty v) .table) (x .state) (memoryOf n (length types) t′)
+pub record Turns (n : ℕ) (types constants : List ℕ) (leader w p : ℕ) (t : List ℕ) (x : ℕ) (t′ : List ℕ) : Type 0 where
+  pub kept : Kept n (length types) 2 1 1 t t′
+  pub holds : (dest : ℕ → ℕ) (locals : ℕ) (tables : Tables) (v : Values) → Stands n p (ofWord w) dest → Holds n (length types) dest v (memoryOf n (length types) t)
+      → (x ≡ toWord (number (sectionsOf types constants locals tables) p (ofWord w) (cond (eqb leader 1) empty v) .instruction))
+      × Holds n (length types) dest (number (sectionsOf types constants locals tables) p (ofWord w) (cond (eqb leader 1) empty v) .table) (memoryOf n (length types) t′)
 
 -- what the walk asks: "slots below s" is what the check of all operands shows
 pub record Numberable (words leaders types memory : List ℕ) : Type 0 where

@@ -1,115 +1,59 @@
-// The table of values: what `Values` of the Rust keeps in three `HashMap`s.
+// The table of values: what `Values` of the Rust keeps in three `HashMap`s, by value numbers. A number below the number of slots is
+// that of a slot's value at the block's start; then there is one for each place, one for Integer 0, and one for each constant.
+// The memory has the epoch and the numbers of constants and of expressions, a word for each slot (its value's number), a word for
+// each number (the slot that is recorded for it), and two tables of entries.
 ghost use mathlib.Core.Path.{_≡_};
-ghost use Prim.Native.Nat.{_+_, _*_, _≤_, _<_};
+ghost use Prim.Native.Nat.{ℕ, _+_, _*_, _≤_, _<_};
 ghost use lib.ListN.{length};
-ghost use Rattle.values.specs.Entries.{newest, Linked, Added, bucketOf};
-ghost use Rattle.values.specs.Memory.{atomOf, memoryOf, constantKey, stateOf, recordedAt, usableAt, Ready};
-ghost use Rattle.values.specs.Kept.{cleared, counted, Recorded, Represents, Chooses, Stores, Learns};
+ghost use Rattle.values.specs.Entries.{key, bucketOf};
+ghost use Rattle.values.specs.Folded.{integerOf};
+ghost use Rattle.values.specs.Memory.{memoryOf, numberAt, markedAt, usableAt, expressionAt, expressionKey, integerAt, limit, Ready};
+ghost use Rattle.values.specs.Kept.{Clears, Represents, Stores, Interns, Learns};
 use crate::Atom;
-use crate::Chosen;
 use crate::Found;
-use crate::Key;
-use crate::Placed;
-use crate::State;
 use crate::entries;
-use crate::slots;
 
-// Nothing is known any more: the marks and values of this epoch, and all entries, are no longer valid.
-pub fn clear(st: State) -> State
-    requires { ⌜ st .epoch < 2199023255552 ⌝ }
-    ensures { λ r. ⌜ r ≡ cleared st ⌝ }
+// Nothing is known any more: what the words of slots, marks and heads say is of an earlier epoch.
+pub fn clear(t: &mut [u64], n: usize, locals: usize)
+    requires { ⌜ Ready n locals (now t) × (memoryOf n locals (now t) .epoch < 4294967295) ⌝ }
+    ensures { λ _. ⌜ Clears n locals (now (t .entry)) (now (t .exit)) ⌝ }
 {
-    State {
-        epoch: st.epoch + 1,
-        rbase: st.rcount,
-        rcount: st.rcount,
-        ebase: st.ecount,
-        ecount: st.ecount,
+    t[0] = t[0] + 1;
+    t[1] = 0;
+    t[2] = 0;
+}
+
+// The number of a slot's value.
+pub fn number(t: &[u64], n: usize, locals: usize, s: u16) -> u64
+    requires { ⌜ Ready n locals (now t) × (s < locals) ⌝ }
+    ensures { λ r. ⌜ (r ≡ numberAt (memoryOf n locals (now (t .entry))) s) × (r < limit n locals (memoryOf n locals (now (t .entry)))) ⌝ }
+{
+    let w = t[3 + (s as usize)];
+    if w / 4294967296 == t[0] {
+        return w % 4294967296;
     }
+    s as u64
 }
 
-// The recorded slot of a constant.
-fn constant_slot(w: &[u64], n: usize, st: State, tag: u64, x: u64) -> Found
-    requires { ⌜ Linked (now w) n (st .rcount) ⌝ }
-    ensures { λ r. ⌜ r ≡ newest (now (w .entry)) n (st .rbase) (st .rcount) (constantKey tag x) ⌝ }
+// The slot that is recorded for a number. "Each value has at most one recorded slot."
+fn marked(t: &[u64], n: usize, locals: usize, d: u64) -> Found
+    requires { ⌜ Ready n locals (now t) × (d < limit n locals (memoryOf n locals (now t))) ⌝ }
+    ensures { λ r. ⌜ r ≡ markedAt (memoryOf n locals (now (t .entry))) d ⌝ }
 {
-    let k = Key {
-        head: tag,
-        left: x,
-        right: 0,
-    };
-    let b = entries::bucket(n, k);
-    entries::find(w, n, b, st.rbase, st.rcount, k)
-}
-
-fn record_constant(w: &mut [u64], n: usize, st: State, tag: u64, x: u64, s: u16) -> usize
-    requires { ⌜ Linked (now w) n (st .rcount) × (n + 5 * st .rcount + 5 ≤ length (now w)) ⌝ }
-    ensures { λ r. ⌜ Added (now (w .entry)) (now (w .exit)) n (st .rcount) (constantKey tag x) s × (r ≡ st .rcount + 1) ⌝ }
-{
-    let k = Key {
-        head: tag,
-        left: x,
-        right: 0,
-    };
-    let b = entries::bucket(n, k);
-    let count = st.rcount;
-    entries::insert(w, n, b, count, k, s as u64);
-    count + 1
-}
-
-// The recorded slot of a value. "Each value has at most one recorded slot."
-fn recorded(t: &[u64], n: usize, locals: usize, st: State, v: Atom) -> Found
-    requires { ⌜ Ready n locals st (now t) ⌝ }
-    ensures { λ r. ⌜ r ≡ recordedAt n locals st (memoryOf n locals (now (t .entry))) v ⌝ }
-{
-    let places = 4 * locals;
-    let constants = places + n;
-    let expressions = constants + 16 * n;
-    match v {
-        Atom::Integer(x) => constant_slot(&t[constants..expressions], n, st, 0, x),
-        Atom::Float(x) => constant_slot(&t[constants..expressions], n, st, 1, x),
-        Atom::Definition(p, s) => {
-            let place = p as usize;
-            let slot = s as usize;
-            if place < n {
-                return slots::marked(&t[places..constants], st.epoch, place);
-            }
-            if slot < locals {
-                return slots::marked(&t[0..places], st.epoch, 4 * slot + 3);
-            }
-            Found::Nothing
-        }
+    let w = t[3 + locals + (d as usize)];
+    if w / 65536 == t[0] {
+        return Found::At(w % 65536);
     }
+    Found::Nothing
 }
 
-// The recorded slot "if it still holds the value and has the same type". The value comes as its two words and the state as
-// its numbers: what is called from several places takes no struct.
-pub fn usable(
-    t: &[u64],
-    types: &[u8],
-    n: usize,
-    epoch: u64,
-    rbase: usize,
-    rcount: usize,
-    ebase: usize,
-    ecount: usize,
-    tag: u64,
-    bits: u64,
-    kind: u8,
-) -> Found
-    requires { ⌜ Ready n (length (now types)) (stateOf epoch rbase rcount ebase ecount) (now t) ⌝ }
-    ensures { λ r. ⌜ r ≡ usableAt n (length (now (types .entry))) (now (types .entry)) (stateOf epoch rbase rcount ebase ecount) (memoryOf n (length (now (types .entry))) (now (t .entry))) (atomOf tag bits) kind ⌝ }
+// That slot "if it still holds the value and has the same type".
+pub fn usable(t: &[u64], types: &[u8], n: usize, d: u64, kind: u8) -> Found
+    requires { ⌜ Ready n (length (now types)) (now t) × (d < limit n (length (now types)) (memoryOf n (length (now types)) (now t))) ⌝ }
+    ensures { λ r. ⌜ r ≡ usableAt n (length (now (types .entry))) (now (types .entry)) (memoryOf n (length (now (types .entry))) (now (t .entry))) d kind ⌝ }
 {
-    let st = State {
-        epoch,
-        rbase,
-        rcount,
-        ebase,
-        ecount,
-    };
-    let v = slots::decode(tag, bits);
     let locals = types.len();
-    let found = recorded(t, n, locals, st, v);
+    let found = marked(t, n, locals, d);
     let Found::At(r) = found else {
         return Found::Nothing;
     };
@@ -117,195 +61,105 @@ pub fn usable(
     if locals <= at {
         return Found::Nothing;
     }
-    let places = 4 * locals;
-    let value = slots::get(&t[0..places], epoch, at as u16);
-    if slots::same(value, v) {
-        if types[at] == kind {
-            return Found::At(r);
-        }
-        return Found::Nothing;
+    if (number(t, n, locals, at as u16) == d) & (types[at] == kind) {
+        return Found::At(r);
     }
     Found::Nothing
 }
 
-// "otherwise the operand stays and is recorded instead": the count of constants' entries after it.
-fn record_slot(t: &mut [u64], n: usize, locals: usize, st: State, v: Atom, s: u16) -> usize
-    requires { ⌜ Ready n locals st (now t) × (st .rcount < 3 * n) ⌝ }
-    ensures { λ r. ⌜ Recorded n locals st (now (t .entry)) v s (counted st r) (now (t .exit)) ⌝ }
-{
-    let places = 4 * locals;
-    let constants = places + n;
-    let expressions = constants + 16 * n;
-    match v {
-        Atom::Integer(x) => record_constant(&mut t[constants..expressions], n, st, 0, x, s),
-        Atom::Float(x) => record_constant(&mut t[constants..expressions], n, st, 1, x, s),
-        Atom::Definition(p, a) => {
-            let place = p as usize;
-            let slot = a as usize;
-            if place < n {
-                slots::mark(&mut t[places..constants], st.epoch, place, s);
-                return st.rcount;
-            }
-            if slot < locals {
-                slots::mark(&mut t[0..places], st.epoch, 4 * slot + 3, s);
-                return st.rcount;
-            }
-            st.rcount
-        }
-    }
-}
-
-// The slot that stands for the value of slot `s`, which comes as its two words: the recorded one, or `s`, which is recorded instead.
-fn represent(
-    t: &mut [u64],
-    types: &[u8],
-    n: usize,
-    epoch: u64,
-    rbase: usize,
-    rcount: usize,
-    ebase: usize,
-    ecount: usize,
-    s: u16,
-    tag: u64,
-    bits: u64,
-) -> Placed
-    requires { ⌜ Ready n (length (now types)) (stateOf epoch rbase rcount ebase ecount) (now t) × (rcount < 3 * n) × (s < length (now types)) ⌝ }
-    ensures { λ r. ⌜ Represents n (length (now (types .entry))) (now (types .entry)) (stateOf epoch rbase rcount ebase ecount) (now (t .entry)) s (atomOf tag bits) (r .slot) (counted (stateOf epoch rbase rcount ebase ecount) (r .count)) (now (t .exit)) ⌝ }
+// "Operands .. become the recorded slot .. otherwise the operand stays and is recorded instead": the slot that stands for slot s,
+// whose value has the number d.
+pub fn representative(t: &mut [u64], types: &[u8], n: usize, s: u16, d: u64) -> u16
+    requires { ⌜ Ready n (length (now types)) (now t) × (s < length (now types)) × (d ≡ numberAt (memoryOf n (length (now types)) (now t)) s) ⌝ }
+    ensures { λ r. ⌜ Represents n (length (now (types .entry))) (now (types .entry)) (now (t .entry)) s d r (now (t .exit)) ⌝ }
 {
     let at = s as usize;
     let kind = types[at];
-    match usable(
-        t,
-        types,
-        n,
-        epoch,
-        rbase,
-        rcount,
-        ebase,
-        ecount,
-        tag,
-        bits,
-        kind,
-    ) {
-        Found::At(r) => Placed {
-            slot: r as u16,
-            count: rcount,
-        },
+    match usable(&t[..], types, n, d, kind) {
+        Found::At(r) => r as u16,
         Found::Nothing => {
-            let st = State {
-                epoch,
-                rbase,
-                rcount,
-                ebase,
-                ecount,
-            };
-            let count = record_slot(t, n, types.len(), st, slots::decode(tag, bits), s);
-            Placed { slot: s, count }
+            let mark = 3 + types.len() + (d as usize);
+            t[mark] = 65536 * t[0] + (s as u64);
+            s
         }
-    }
-}
-
-// "Operands .. become the recorded slot"
-pub fn representative(t: &mut [u64], types: &[u8], n: usize, st: State, s: u16) -> Chosen
-    requires { ⌜ Ready n (length (now types)) st (now t) × (st .rcount < 3 * n) × (s < length (now types)) ⌝ }
-    ensures { λ r. ⌜ Chooses n (length (now (types .entry))) (now (types .entry)) st (now (t .entry)) s r (now (t .exit)) ⌝ }
-{
-    let places = 4 * types.len();
-    let v = slots::get(&t[0..places], st.epoch, s);
-    let r = represent(
-        t,
-        types,
-        n,
-        st.epoch,
-        st.rbase,
-        st.rcount,
-        st.ebase,
-        st.ecount,
-        s,
-        slots::tag(v),
-        slots::bits(v),
-    );
-    Chosen {
-        slot: r.slot,
-        state: State {
-            epoch: st.epoch,
-            rbase: st.rbase,
-            rcount: r.count,
-            ebase: st.ebase,
-            ecount: st.ecount,
-        },
     }
 }
 
 // "A store then treats its destination likewise."
-pub fn store(t: &mut [u64], types: &[u8], n: usize, st: State, s: u16, v: Atom) -> State
-    requires { ⌜ Ready n (length (now types)) st (now t) × (st .rcount < 3 * n) × (s < length (now types)) ⌝ }
-    ensures { λ r. ⌜ Stores n (length (now (types .entry))) (now (types .entry)) st (now (t .entry)) s v r (now (t .exit)) ⌝ }
+pub fn store(t: &mut [u64], types: &[u8], n: usize, s: u16, d: u64)
+    requires { ⌜ Ready n (length (now types)) (now t) × (s < length (now types)) × (d < limit n (length (now types)) (memoryOf n (length (now types)) (now t))) ⌝ }
+    ensures { λ _. ⌜ Stores n (length (now (types .entry))) (now (types .entry)) (now (t .entry)) s d (now (t .exit)) ⌝ }
 {
-    let places = 4 * types.len();
-    slots::put(&mut t[0..places], st.epoch, s, v);
-    let r = represent(
-        t,
-        types,
-        n,
-        st.epoch,
-        st.rbase,
-        st.rcount,
-        st.ebase,
-        st.ecount,
-        s,
-        slots::tag(v),
-        slots::bits(v),
-    );
-    State {
-        epoch: st.epoch,
-        rbase: st.rbase,
-        rcount: r.count,
-        ebase: st.ebase,
-        ecount: st.ecount,
-    }
+    t[3 + (s as usize)] = 4294967296 * t[0] + d;
+    representative(t, types, n, s, d);
 }
 
-// The value of an equal expression, by its key and its bucket.
-pub fn find_expression(t: &[u64], n: usize, locals: usize, st: State, k: Key, b: usize) -> Found
-    requires { ⌜ Ready n locals st (now t) × (b ≡ bucketOf n k) × (b < n) ⌝ }
-    ensures { λ r. ⌜ r ≡ newest (memoryOf n locals (now (t .entry)) .expressions) n (st .ebase) (st .ecount) k ⌝ }
+// The value with a number, as far as folding asks: of a definition neither place nor slot plays a part.
+pub fn atom(t: &[u64], n: usize, locals: usize, d: u64) -> Atom
+    requires { ⌜ Ready n locals (now t) × (d < limit n locals (memoryOf n locals (now t))) ⌝ }
+    ensures { λ r. ⌜ integerOf r ≡ integerAt n locals (memoryOf n locals (now (t .entry)) .constantTable) d ⌝ }
 {
-    let expressions = 4 * locals + n + 16 * n;
-    let end = expressions + 6 * n;
-    entries::find(&t[expressions..end], n, b, st.ebase, st.ecount, k)
+    let zero = locals + n;
+    let number = d as usize;
+    if number < zero {
+        return Atom::Definition(0, 0);
+    }
+    if number == zero {
+        return Atom::Integer(0);
+    }
+    let at = 4 + 2 * locals + 3 * n + 4 * (number - zero - 1);
+    if t[at + 1] == 0 {
+        return Atom::Integer(t[at]);
+    }
+    Atom::Float(t[at])
 }
 
-// One expression more, whose value is the definition of slot `s` at place `p`.
-pub fn learn(
-    t: &mut [u64],
-    n: usize,
-    locals: usize,
-    st: State,
-    k: Key,
-    b: usize,
-    p: u32,
-    s: u16,
-) -> State
-    requires { ⌜ Ready n locals st (now t) × (b ≡ bucketOf n k) × (b < n) × (st .ecount < n) ⌝ }
-    ensures { λ r. ⌜ Learns n locals st (now (t .entry)) k p s r (now (t .exit)) ⌝ }
+// The number of a constant, by its kind and its bits: a new one where it has none.
+pub fn constant(t: &mut [u64], n: usize, locals: usize, kind: u64, bits: u64) -> u64
+    requires { ⌜ Ready n locals (now t) × (memoryOf n locals (now t) .constants < n) × (kind ≤ 1) ⌝ }
+    ensures { λ r. ⌜ Interns n locals (now (t .entry)) kind bits r (now (t .exit)) ⌝ }
 {
-    let expressions = 4 * locals + n + 16 * n;
-    let end = expressions + 6 * n;
-    let count = st.ecount;
-    entries::insert(
-        &mut t[expressions..end],
-        n,
-        b,
-        count,
-        k,
-        (p as u64) + 4294967296 * (s as u64),
-    );
-    State {
-        epoch: st.epoch,
-        rbase: st.rbase,
-        rcount: st.rcount,
-        ebase: st.ebase,
-        ecount: count + 1,
+    let zero = locals + n;
+    if (kind == 0) & (bits == 0) {
+        return zero as u64;
     }
+    let start = 4 + 2 * locals + 2 * n;
+    let end = 4 + 2 * locals + 7 * n;
+    let epoch = t[0];
+    let count = t[1] as usize;
+    let b = entries::bucket(n, bits, kind);
+    let f = entries::find(&t[start..end], n, epoch, count, b, bits, kind);
+    if f > 0 {
+        return (zero + f) as u64;
+    }
+    entries::insert(&mut t[start..end], n, epoch, count, b, bits, kind, 0);
+    t[1] = (count + 1) as u64;
+    (zero + 1 + count) as u64
+}
+
+// The number of an equal expression's value, by its key and its bucket.
+pub fn find_expression(t: &[u64], n: usize, locals: usize, b: usize, word: u64) -> Found
+    requires { ⌜ Ready n locals (now t) × (b ≡ bucketOf n (key word 0)) × (b < n) ⌝ }
+    ensures { λ r. ⌜ r ≡ expressionAt n locals (memoryOf n locals (now (t .entry))) (key word 0) ⌝ }
+{
+    let start = 4 + 2 * locals + 7 * n;
+    let end = 4 + 2 * locals + 12 * n;
+    let f = entries::find(&t[start..end], n, t[0], t[2] as usize, b, word, 0);
+    if f == 0 {
+        return Found::Nothing;
+    }
+    Found::At(t[start + n + 4 * (f - 1) + 2])
+}
+
+// One expression more, whose value has the number d.
+pub fn learn(t: &mut [u64], n: usize, locals: usize, b: usize, word: u64, d: u64)
+    requires { ⌜ Ready n locals (now t) × (memoryOf n locals (now t) .expressions < n) × (b ≡ bucketOf n (key word 0)) × (b < n) × (d < limit n locals (memoryOf n locals (now t))) ⌝ }
+    ensures { λ _. ⌜ ((op flags left right : ℕ) → op < 256 → flags < 256 → left < limit n locals (memoryOf n locals (now (t .entry))) → right < limit n locals (memoryOf n locals (now (t .entry))) → key word 0 ≡ expressionKey op flags left right → Learns n locals (now (t .entry)) op flags left right d (now (t .exit))) ⌝ }
+{
+    let start = 4 + 2 * locals + 7 * n;
+    let end = 4 + 2 * locals + 12 * n;
+    let epoch = t[0];
+    let count = t[2] as usize;
+    entries::insert(&mut t[start..end], n, epoch, count, b, word, 0, d);
+    t[2] = (count + 1) as u64;
 }

@@ -1,34 +1,28 @@
 // The walk over the function: each instruction rewritten by the values known before it.
 ghost use mathlib.Core.Path.{_≡_};
-ghost use mathlib.Core.Bool.{true, cond};
+ghost use mathlib.Core.Bool.{true};
 ghost use mathlib.Core.List.{List, map};
-ghost use Prim.Native.Nat.{ℕ, _+_, _*_, _≤_, _<_};
+ghost use Prim.Native.Nat.{ℕ, _+_, _≤_, _<_};
 ghost use lib.ListN.{length, getD};
 ghost use borrow.Rule.Slice.PartMut.{midOf};
 ghost use Rattle.instruction.specs.Instruction.{class, ofWord, toWord};
 ghost use Rattle.effects.specs.Shape.{Cell, Tables};
 ghost use Rattle.effects.specs.Cells.{cellsBy};
-ghost use Rattle.values.specs.Table.{valueOf, expressionIn, recordedSlot};
+ghost use Rattle.values.specs.Table.{Values, valueOf, expressionIn, recordedSlot, learn};
 ghost use Rattle.values.specs.Number.{loadOrStay, copyOrStay, constantAtom, stored as storedBy, byExpression, byValue, numberCopy, numberConstant, numberRead, numberJump, numberBy, number, numberCode};
 ghost use Rattle.values.specs.Folded.{expressionOf};
-ghost use Rattle.values.specs.Memory.{atomOf, slotValue, endAt, keyOf, Ready, Sound};
-ghost use Rattle.values.specs.Entries.{bucketOf};
-ghost use Rattle.values.specs.Walk.{Named, wordOf, Stands, Known, Becomes, Defines, Room, Second, foldBy, binaryClass, onZero, atomIn, HasWord, combined, operated, scalarIn, pureBy, undecidedBy, takes, otherBy, sectionsOf, started, Begins, entered, Turns, Numberable};
-ghost use Rattle.values.specs.Kept.{cleared};
+ghost use Rattle.values.specs.Memory.{memoryOf, constantOf, constantKey, expressionKey, limit, atomIn, endAt, Ready, Holds};
+ghost use Rattle.values.specs.Entries.{key, bucketOf};
+ghost use Rattle.values.specs.Kept.{Clears};
+ghost use Rattle.values.specs.Walk.{Named, wordOf, Stands, Becomes, Room, Coded, Second, secondNumber, foldBy, binaryClass, onZero, atomOf, KindOf, operated, scalarIn, pureBy, undecidedBy, takes, otherBy, sectionsOf, Begins, Enters, Turns, Numberable};
 ghost use Rattle.instruction.specs.declared.Class.the-variants.{Return};
-ghost use Rattle.values.specs.declared.Atom.the-variants.{Integer};
+ghost use Rattle.values.specs.declared.Atom.the-variants.{Definition};
 use crate::Atom;
-use crate::Chosen;
 use crate::Folded;
 use crate::Found;
-use crate::Key;
 use crate::Loaded;
-use crate::State;
-use crate::Step;
-use crate::Turn;
 use crate::entries;
 use crate::fold;
-use crate::slots;
 use crate::table;
 use instruction::Class;
 use instruction::Instruction;
@@ -53,59 +47,60 @@ fn load_or_stay(i: Instruction, v: u64) -> Instruction
     i
 }
 
-// The three words of an expression: opcode, flags and the kinds of both values; the left value; the right value.
-fn key_of(op: u8, flags: u8, left: Atom, right: Atom) -> Key
-    ensures { λ r. ⌜ r ≡ keyOf (expressionOf op flags left right) ⌝ }
+// The instruction stays as it is given, and its destination has the value with the number d.
+fn store(t: &mut [u64], types: &[u8], n: usize, i: Instruction, d: u64) -> Instruction
+    requires { ⌜ Ready n (length (now types)) (now t) × (i .a < length (now types)) × (d < limit n (length (now types)) (memoryOf n (length (now types)) (now t))) ⌝ }
+    ensures { λ r. ⌜ Becomes n (now (types .entry)) 0 0 0 (now (t .entry)) r (now (t .exit)) (λ dest constants. Unit {0}) (λ dest S x. storedBy S i x (atomIn n (length (now (types .entry))) dest (memoryOf n (length (now (types .entry))) (now (t .entry))) d)) ⌝ }
 {
-    let l = slots::tag(left);
-    let r = slots::tag(right);
-    Key {
-        head: (op as u64) + 256 * (flags as u64) + 65536 * l + 262144 * r,
-        left: slots::bits(left),
-        right: slots::bits(right),
-    }
+    let a = i.a;
+    table::store(t, types, n, a, d);
+    i
 }
 
-// The instruction stays as it is given, and its destination has the value.
-fn store(t: &mut [u64], types: &[u8], n: usize, st: State, i: Instruction, v: Atom) -> Step
-    requires { ⌜ Ready n (length (now types)) st (now t) × (st .rcount < 3 * n) × (i .a < length (now types)) ⌝ }
-    ensures { λ r. ⌜ Becomes n (now (types .entry)) 0 1 0 st (now (t .entry)) r (now (t .exit)) (λ dest constants. Sound n (length (now (types .entry))) dest v) (λ S x. storedBy S i x v) ⌝ }
+// The same, of a constant.
+fn store_constant(
+    t: &mut [u64],
+    types: &[u8],
+    n: usize,
+    i: Instruction,
+    kind: u64,
+    bits: u64,
+) -> Instruction
+    requires { ⌜ Room n (length (now types)) (now t) × (i .a < length (now types)) × (kind ≤ 1) ⌝ }
+    ensures { λ r. ⌜ Becomes n (now (types .entry)) 0 1 0 (now (t .entry)) r (now (t .exit)) (λ dest constants. Unit {0}) (λ dest S x. storedBy S i x (constantOf (constantKey kind bits))) ⌝ }
 {
-    let state = table::store(t, types, n, st, i.a, v);
-    Step {
-        instruction: i,
-        state,
-    }
+    let d = table::constant(t, n, types.len(), kind, bits);
+    store(t, types, n, i, d)
 }
 
-// An equal expression, whose value is the definition with these bits: Copy from its slot where that is usable at the
-// destination's type.
-fn copy_or_stay(t: &mut [u64], types: &[u8], n: usize, st: State, i: Instruction, bits: u64) -> Step
-    requires { ⌜ Ready n (length (now types)) st (now t) × (st .rcount < 3 * n) × (i .a < length (now types)) ⌝ }
-    ensures { λ r. ⌜ Becomes n (now (types .entry)) 0 1 0 st (now (t .entry)) r (now (t .exit)) (λ dest constants. Sound n (length (now (types .entry))) dest (atomOf 2 bits)) (λ S x. storedBy S (copyOrStay S i (recordedSlot (S .types) x (atomOf 2 bits) (getD (S .types) (i .a) 0))) x (atomOf 2 bits)) ⌝ }
+// The word of an expression: opcode, flags and the numbers of both values.
+fn expression_word(op: u8, flags: u8, left: u64, right: u64) -> u64
+    requires { ⌜ (left < 16777216) × (right < 16777216) ⌝ }
+    ensures { λ r. ⌜ (op < 256) × (flags < 256) × (key r 0 ≡ expressionKey op flags left right) ⌝ }
+{
+    (op as u64) + 256 * (flags as u64) + 65536 * left + 1099511627776 * right
+}
+
+// "becomes Copy from the recorded slot under the same two conditions, the type being the destination's; otherwise it stays"
+fn copied(t: &[u64], types: &[u8], n: usize, i: Instruction, d: u64) -> Instruction
+    requires { ⌜ Ready n (length (now types)) (now t) × (i .a < length (now types)) × (d < limit n (length (now types)) (memoryOf n (length (now types)) (now t))) ⌝ }
+    ensures { λ r. ⌜ (r .a ≡ i .a) × ((dest : ℕ → ℕ) (constants : List ℕ) (locals : ℕ) (tables : Tables) (v : Values) → Holds n (length (now (types .entry))) dest v (memoryOf n (length (now (types .entry))) (now (t .entry))) → r ≡ copyOrStay (sectionsOf (now (types .entry)) constants locals tables) i (recordedSlot (now (types .entry)) v (atomIn n (length (now (types .entry))) dest (memoryOf n (length (now (types .entry))) (now (t .entry))) d) (getD (now (types .entry)) (i .a) 0))) ⌝ }
 {
     let a = i.a as usize;
     let kind = types[a];
-    let v = slots::decode(2, bits);
-    match table::usable(
-        t,
-        types,
-        n,
-        st.epoch,
-        st.rbase,
-        st.rcount,
-        st.ebase,
-        st.ecount,
-        2,
-        bits,
-        kind,
-    ) {
-        Found::At(r) => {
-            let copy = Instruction::new(COPY, i.a, r as u16, 0);
-            store(t, types, n, st, copy, v)
-        }
-        Found::Nothing => store(t, types, n, st, i, v),
+    match table::usable(t, types, n, d, kind) {
+        Found::At(r) => Instruction::new(COPY, i.a, r as u16, 0),
+        Found::Nothing => i,
     }
+}
+
+// An equal expression, whose value has the number d.
+fn copy_or_stay(t: &mut [u64], types: &[u8], n: usize, i: Instruction, d: u64) -> Instruction
+    requires { ⌜ Ready n (length (now types)) (now t) × (i .a < length (now types)) × (d < limit n (length (now types)) (memoryOf n (length (now types)) (now t))) ⌝ }
+    ensures { λ r. ⌜ Becomes n (now (types .entry)) 0 0 0 (now (t .entry)) r (now (t .exit)) (λ dest constants. Unit {0}) (λ dest S x. storedBy S (copyOrStay S i (recordedSlot (S .types) x (atomIn n (length (now (types .entry))) dest (memoryOf n (length (now (types .entry))) (now (t .entry))) d) (getD (S .types) (i .a) 0))) x (atomIn n (length (now (types .entry))) dest (memoryOf n (length (now (types .entry))) (now (t .entry))) d)) ⌝ }
+{
+    let j = copied(&t[..], types, n, i, d);
+    store(t, types, n, j, d)
 }
 
 // A new expression: its value is what this place defines.
@@ -113,18 +108,18 @@ fn define(
     t: &mut [u64],
     types: &[u8],
     n: usize,
-    st: State,
     i: Instruction,
     p: u32,
-    k: Key,
     b: usize,
-) -> Step
-    requires { ⌜ Ready n (length (now types)) st (now t) × (st .rcount < 3 * n) × (st .ecount < n) × (i .a < length (now types)) × (b ≡ bucketOf n k) × (b < n) ⌝ }
-    ensures { λ r. ⌜ Defines n (now (types .entry)) st (now (t .entry)) i p k r (now (t .exit)) ⌝ }
+    word: u64,
+) -> Instruction
+    requires { ⌜ Room n (length (now types)) (now t) × (i .a < length (now types)) × (p < n) × (b ≡ bucketOf n (key word 0)) × (b < n) × Coded n (length (now types)) (memoryOf n (length (now types)) (now t)) word ⌝ }
+    ensures { λ r. ⌜ ((op flags left right : ℕ) → op < 256 → flags < 256 → left < limit n (length (now (types .entry))) (memoryOf n (length (now (types .entry))) (now (t .entry))) → right < limit n (length (now (types .entry))) (memoryOf n (length (now (types .entry))) (now (t .entry))) → key word 0 ≡ expressionKey op flags left right → Becomes n (now (types .entry)) 0 0 1 (now (t .entry)) r (now (t .exit)) (λ dest constants. Stands n p i dest) (λ dest S x. storedBy S i (learn x (expressionOf op flags (atomIn n (length (now (types .entry))) dest (memoryOf n (length (now (types .entry))) (now (t .entry))) left) (atomIn n (length (now (types .entry))) dest (memoryOf n (length (now (types .entry))) (now (t .entry))) right)) (Definition p (i .a))) (Definition p (i .a)))) ⌝ }
 {
-    let a = i.a;
-    let learnt = table::learn(t, n, types.len(), st, k, b, p, a);
-    store(t, types, n, learnt, i, Atom::Definition(p, a))
+    let locals = types.len();
+    let d = (locals + (p as usize)) as u64;
+    table::learn(t, n, locals, b, word, d);
+    store(t, types, n, i, d)
 }
 
 // "An equal expression (opcode, flags, both values)"
@@ -132,20 +127,19 @@ fn by_expression(
     t: &mut [u64],
     types: &[u8],
     n: usize,
-    st: State,
     i: Instruction,
     p: u32,
-    left: Atom,
-    right: Atom,
-) -> Step
-    requires { ⌜ Ready n (length (now types)) st (now t) × (st .rcount < 3 * n) × (st .ecount < n) × (i .a < length (now types)) ⌝ }
-    ensures { λ r. ⌜ Becomes n (now (types .entry)) 0 1 1 st (now (t .entry)) r (now (t .exit)) (λ dest constants. Known n (length (now (types .entry))) p i left right dest) (λ S x. byExpression S p i x (expressionOf (i .op) (i .flags) left right) (expressionIn (x .expressions) (expressionOf (i .op) (i .flags) left right))) ⌝ }
+    left: u64,
+    right: u64,
+) -> Instruction
+    requires { ⌜ Room n (length (now types)) (now t) × (i .a < length (now types)) × (p < n) × (left < limit n (length (now types)) (memoryOf n (length (now types)) (now t))) × (right < limit n (length (now types)) (memoryOf n (length (now types)) (now t))) ⌝ }
+    ensures { λ r. ⌜ Becomes n (now (types .entry)) 0 0 1 (now (t .entry)) r (now (t .exit)) (λ dest constants. Stands n p i dest) (λ dest S x. byExpression S p i x (expressionOf (i .op) (i .flags) (atomIn n (length (now (types .entry))) dest (memoryOf n (length (now (types .entry))) (now (t .entry))) left) (atomIn n (length (now (types .entry))) dest (memoryOf n (length (now (types .entry))) (now (t .entry))) right)) (expressionIn (x .expressions) (expressionOf (i .op) (i .flags) (atomIn n (length (now (types .entry))) dest (memoryOf n (length (now (types .entry))) (now (t .entry))) left) (atomIn n (length (now (types .entry))) dest (memoryOf n (length (now (types .entry))) (now (t .entry))) right)))) ⌝ }
 {
-    let k = key_of(i.op, i.flags, left, right);
-    let b = entries::bucket(n, k);
-    match table::find_expression(t, n, types.len(), st, k, b) {
-        Found::At(x) => copy_or_stay(t, types, n, st, i, x),
-        Found::Nothing => define(t, types, n, st, i, p, k, b),
+    let word = expression_word(i.op, i.flags, left, right);
+    let b = entries::bucket(n, word, 0);
+    match table::find_expression(&t[..], n, types.len(), b, word) {
+        Found::At(d) => copy_or_stay(t, types, n, i, d),
+        Found::Nothing => define(t, types, n, i, p, b, word),
     }
 }
 
@@ -154,72 +148,63 @@ fn by_value(
     t: &mut [u64],
     types: &[u8],
     n: usize,
-    st: State,
     i: Instruction,
     p: u32,
-    left: Atom,
-    right: Atom,
+    left: u64,
+    right: u64,
     folded: Folded,
-) -> Step
-    requires { ⌜ Ready n (length (now types)) st (now t) × (st .rcount < 3 * n) × (st .ecount < n) × (i .a < length (now types)) ⌝ }
-    ensures { λ r. ⌜ Becomes n (now (types .entry)) 0 1 1 st (now (t .entry)) r (now (t .exit)) (λ dest constants. Known n (length (now (types .entry))) p i left right dest) (λ S x. byValue S p i x (expressionOf (i .op) (i .flags) left right) (wordOf folded)) ⌝ }
+) -> Instruction
+    requires { ⌜ Room n (length (now types)) (now t) × (i .a < length (now types)) × (p < n) × (left < limit n (length (now types)) (memoryOf n (length (now types)) (now t))) × (right < limit n (length (now types)) (memoryOf n (length (now types)) (now t))) ⌝ }
+    ensures { λ r. ⌜ Becomes n (now (types .entry)) 0 1 1 (now (t .entry)) r (now (t .exit)) (λ dest constants. Stands n p i dest) (λ dest S x. byValue S p i x (expressionOf (i .op) (i .flags) (atomIn n (length (now (types .entry))) dest (memoryOf n (length (now (types .entry))) (now (t .entry))) left) (atomIn n (length (now (types .entry))) dest (memoryOf n (length (now (types .entry))) (now (t .entry))) right)) (wordOf folded)) ⌝ }
 {
     match folded {
-        Folded::Word(v) => store(t, types, n, st, load_or_stay(i, v), Atom::Integer(v)),
-        Folded::Not => by_expression(t, types, n, st, i, p, left, right),
+        Folded::Word(v) => store_constant(t, types, n, load_or_stay(i, v), 0, v),
+        Folded::Not => by_expression(t, types, n, i, p, left, right),
     }
+}
+
+// The number of the second operand's value; a unary opcode has Integer 0 in its place.
+fn second_number(t: &[u64], n: usize, locals: usize, s: u16, binary: bool) -> u64
+    requires { ⌜ Ready n locals (now t) × (binary ≡ true → s < locals) ⌝ }
+    ensures { λ r. ⌜ (r ≡ secondNumber n locals (memoryOf n locals (now (t .entry))) s binary) × (r < limit n locals (memoryOf n locals (now (t .entry)))) ⌝ }
+{
+    if binary {
+        return table::number(t, n, locals, s);
+    }
+    (locals + n) as u64
 }
 
 // The second operand of a binary opcode; a unary one has none.
-fn second(t: &mut [u64], types: &[u8], n: usize, st: State, s: u16, binary: bool) -> Chosen
-    requires { ⌜ Ready n (length (now types)) st (now t) × (st .rcount < 3 * n) × (binary ≡ true → s < length (now types)) ⌝ }
-    ensures { λ r. ⌜ Second n (length (now (types .entry))) (now (types .entry)) st (now (t .entry)) s binary r (now (t .exit)) ⌝ }
+fn second(t: &mut [u64], types: &[u8], n: usize, s: u16, d: u64, binary: bool) -> u16
+    requires { ⌜ Ready n (length (now types)) (now t) × (binary ≡ true → s < length (now types)) × (d ≡ secondNumber n (length (now types)) (memoryOf n (length (now types)) (now t)) s binary) ⌝ }
+    ensures { λ r. ⌜ Second n (length (now (types .entry))) (now (types .entry)) (now (t .entry)) s d binary r (now (t .exit)) ⌝ }
 {
     if binary {
-        return table::representative(t, types, n, st, s);
+        return table::representative(t, types, n, s, d);
     }
-    Chosen { slot: s, state: st }
-}
-
-// Its value; a unary opcode has Integer 0 in its place.
-fn second_value(slots: &[u64], epoch: u64, s: u16, binary: bool) -> Atom
-    requires { ⌜ (binary ≡ true → 4 * s + 4 ≤ length (now slots)) ⌝ }
-    ensures { λ r. ⌜ r ≡ cond binary (slotValue (now (slots .entry)) epoch s) (Integer 0) ⌝ }
-{
-    if binary {
-        return slots::get(slots, epoch, s);
-    }
-    Atom::Integer(0)
+    s
 }
 
 // What an opcode of one operand or of two folds to.
-fn fold_by(op: u8, flags: u8, left: Atom, right: Atom, binary: bool) -> Folded
-    ensures { λ r. ⌜ wordOf r ≡ foldBy binary (expressionOf op flags left right) ⌝ }
-{
-    if binary {
-        return fold::fold_binary(op, flags, left, right);
-    }
-    fold::fold_unary(op, flags, left)
-}
-
-// A unary or binary opcode whose operands were represented.
-fn combine(
-    t: &mut [u64],
-    types: &[u8],
+fn fold_numbers(
+    t: &[u64],
     n: usize,
-    st: State,
-    i: Instruction,
-    p: u32,
+    locals: usize,
+    op: u8,
+    flags: u8,
+    left: u64,
+    right: u64,
     binary: bool,
-) -> Step
-    requires { ⌜ Ready n (length (now types)) st (now t) × (st .rcount < 3 * n) × (st .ecount < n) × (i .b < length (now types)) × (binary ≡ true → i .c < length (now types)) × (i .a < length (now types)) ⌝ }
-    ensures { λ r. ⌜ Becomes n (now (types .entry)) 0 1 1 st (now (t .entry)) r (now (t .exit)) (λ dest constants. Stands n p i dest) (λ S x. combined S binary p i x) ⌝ }
+) -> Folded
+    requires { ⌜ Ready n locals (now t) × (left < limit n locals (memoryOf n locals (now t))) × (right < limit n locals (memoryOf n locals (now t))) ⌝ }
+    ensures { λ r. ⌜ ((dest : ℕ → ℕ) → wordOf r ≡ foldBy binary (expressionOf op flags (atomIn n locals dest (memoryOf n locals (now (t .entry))) left) (atomIn n locals dest (memoryOf n locals (now (t .entry))) right))) ⌝ }
 {
-    let places = 4 * types.len();
-    let left = slots::get(&t[0..places], st.epoch, i.b);
-    let right = second_value(&t[0..places], st.epoch, i.c, binary);
-    let folded = fold_by(i.op, i.flags, left, right, binary);
-    by_value(t, types, n, st, i, p, left, right, folded)
+    let x = table::atom(t, n, locals, left);
+    if binary {
+        let y = table::atom(t, n, locals, right);
+        return fold::fold_binary(op, flags, x, y);
+    }
+    fold::fold_unary(op, flags, x)
 }
 
 // "Operands of .. unary and binary opcodes (left first)"
@@ -227,67 +212,64 @@ fn number_operator(
     t: &mut [u64],
     types: &[u8],
     n: usize,
-    st: State,
     i: Instruction,
     p: u32,
     binary: bool,
-) -> Step
-    requires { ⌜ Room n (length (now types)) st (now t) × (i .b < length (now types)) × (binary ≡ true → i .c < length (now types)) × (i .a < length (now types)) ⌝ }
-    ensures { λ r. ⌜ Becomes n (now (types .entry)) 1 3 1 st (now (t .entry)) r (now (t .exit)) (λ dest constants. Stands n p i dest) (λ S x. operated S binary p i x) ⌝ }
+) -> Instruction
+    requires { ⌜ Room n (length (now types)) (now t) × (i .b < length (now types)) × (binary ≡ true → i .c < length (now types)) × (i .a < length (now types)) × (p < n) ⌝ }
+    ensures { λ r. ⌜ Becomes n (now (types .entry)) 0 1 1 (now (t .entry)) r (now (t .exit)) (λ dest constants. Stands n p i dest) (λ dest S x. operated S binary p i x) ⌝ }
 {
-    let l = table::representative(t, types, n, st, i.b);
-    let after = l.state;
-    let r = second(t, types, n, after, i.c, binary);
+    let locals = types.len();
+    let left = table::number(&t[..], n, locals, i.b);
+    let b = table::representative(t, types, n, i.b, left);
+    let right = second_number(&t[..], n, locals, i.c, binary);
+    let c = second(t, types, n, i.c, right, binary);
+    let folded = fold_numbers(&t[..], n, locals, i.op, i.flags, left, right, binary);
     let named = Instruction {
         op: i.op,
         flags: i.flags,
         a: i.a,
-        b: l.slot,
-        c: r.slot,
+        b,
+        c,
     };
-    let state = r.state;
-    combine(t, types, n, state, named, p, binary)
+    by_value(t, types, n, named, p, left, right, folded)
 }
 
 // Copy: its operand's value.
-fn number_copy(t: &mut [u64], types: &[u8], n: usize, st: State, i: Instruction) -> Step
-    requires { ⌜ Room n (length (now types)) st (now t) × (i .b < length (now types)) × (i .a < length (now types)) ⌝ }
-    ensures { λ r. ⌜ Becomes n (now (types .entry)) 1 3 1 st (now (t .entry)) r (now (t .exit)) (λ dest constants. Unit {0}) (λ S x. numberCopy S i x) ⌝ }
+fn number_copy(t: &mut [u64], types: &[u8], n: usize, i: Instruction) -> Instruction
+    requires { ⌜ Room n (length (now types)) (now t) × (i .b < length (now types)) × (i .a < length (now types)) ⌝ }
+    ensures { λ r. ⌜ Becomes n (now (types .entry)) 0 0 0 (now (t .entry)) r (now (t .exit)) (λ dest constants. Unit {0}) (λ dest S x. numberCopy S i x) ⌝ }
 {
-    let l = table::representative(t, types, n, st, i.b);
-    let places = 4 * types.len();
-    let value = slots::get(&t[0..places], l.state.epoch, l.slot);
+    let d = table::number(&t[..], n, types.len(), i.b);
+    let b = table::representative(t, types, n, i.b, d);
     let named = Instruction {
         op: i.op,
         flags: i.flags,
         a: i.a,
-        b: l.slot,
+        b,
         c: i.c,
     };
-    let state = l.state;
-    store(t, types, n, state, named, value)
+    store(t, types, n, named, d)
 }
 
 // The instruction stays, and all values are forgotten.
-fn forget(st: State, i: Instruction) -> Step
-    requires { ⌜ st .epoch < 2199023255552 ⌝ }
-    ensures { λ r. ⌜ (r .instruction ≡ i) × (r .state ≡ cleared st) ⌝ }
+fn forget(t: &mut [u64], n: usize, locals: usize, i: Instruction) -> Instruction
+    requires { ⌜ Room n locals (now t) ⌝ }
+    ensures { λ r. ⌜ (r ≡ i) × Clears n locals (now (t .entry)) (now (t .exit)) ⌝ }
 {
-    Step {
-        instruction: i,
-        state: table::clear(st),
-    }
+    table::clear(t, n, locals);
+    i
 }
 
 // The value of a constant; a String or a missing one has none.
 fn loaded(constant: Constant) -> Loaded
-    ensures { λ r. ⌜ (atomIn r ≡ constantAtom constant) × HasWord r ⌝ }
+    ensures { λ r. ⌜ (atomOf r ≡ constantAtom constant) × KindOf r ⌝ }
 {
     match constant {
-        Constant::Nil => Loaded::Value(Atom::Integer(0)),
-        Constant::Bool(v) => Loaded::Value(Atom::Integer(v)),
-        Constant::Int(v) => Loaded::Value(Atom::Integer(v)),
-        Constant::Float(v) => Loaded::Value(Atom::Float(v)),
+        Constant::Nil => Loaded::Value(0, 0),
+        Constant::Bool(v) => Loaded::Value(0, v),
+        Constant::Int(v) => Loaded::Value(0, v),
+        Constant::Float(v) => Loaded::Value(1, v),
         Constant::String => Loaded::Unknown,
         Constant::Missing => Loaded::Unknown,
     }
@@ -298,16 +280,15 @@ fn number_constant(
     t: &mut [u64],
     types: &[u8],
     n: usize,
-    st: State,
     i: Instruction,
     constant: Constant,
-) -> Step
-    requires { ⌜ Room n (length (now types)) st (now t) × (i .a < length (now types)) ⌝ }
-    ensures { λ r. ⌜ Becomes n (now (types .entry)) 1 3 1 st (now (t .entry)) r (now (t .exit)) (λ dest constants. Unit {0}) (λ S x. numberConstant S i x (constantAtom constant)) ⌝ }
+) -> Instruction
+    requires { ⌜ Room n (length (now types)) (now t) × (i .a < length (now types)) ⌝ }
+    ensures { λ r. ⌜ Becomes n (now (types .entry)) 1 1 0 (now (t .entry)) r (now (t .exit)) (λ dest constants. Unit {0}) (λ dest S x. numberConstant S i x (constantAtom constant)) ⌝ }
 {
     match loaded(constant) {
-        Loaded::Value(v) => store(t, types, n, st, i, v),
-        Loaded::Unknown => forget(st, i),
+        Loaded::Value(kind, bits) => store_constant(t, types, n, i, kind, bits),
+        Loaded::Unknown => forget(t, n, types.len(), i),
     }
 }
 
@@ -338,58 +319,50 @@ fn number_pure(
     types: &[u8],
     constants: &[u8],
     n: usize,
-    st: State,
     i: Instruction,
     p: u32,
     k: Class,
-) -> Step
-    requires { ⌜ Room n (length (now types)) st (now t) × Named k (length (now types)) i ⌝ }
-    ensures { λ r. ⌜ Becomes n (now (types .entry)) 1 3 1 st (now (t .entry)) r (now (t .exit)) (λ dest c. Stands n p i dest × (c ≡ now (constants .entry))) (λ S x. pureBy S k p i x) ⌝ }
+) -> Instruction
+    requires { ⌜ Room n (length (now types)) (now t) × Named k (length (now types)) i × (p < n) ⌝ }
+    ensures { λ r. ⌜ Becomes n (now (types .entry)) 1 1 1 (now (t .entry)) r (now (t .exit)) (λ dest c. Stands n p i dest × (c ≡ now (constants .entry))) (λ dest S x. pureBy S k p i x) ⌝ }
 {
     match k {
-        Class::LoadInt => store(t, types, n, st, i, Atom::Integer(i.imm32())),
+        Class::LoadInt => store_constant(t, types, n, i, 0, i.imm32()),
         Class::LoadConst => {
             let constant = unit::entry::constant(constants, i.b as usize);
-            number_constant(t, types, n, st, i, constant)
+            number_constant(t, types, n, i, constant)
         }
-        Class::Copy => number_copy(t, types, n, st, i),
-        Class::Unary | Class::Binary => number_operator(t, types, n, st, i, p, is_binary(k)),
-        _ => forget(st, i),
+        Class::Copy => number_copy(t, types, n, i),
+        Class::Unary | Class::Binary => number_operator(t, types, n, i, p, is_binary(k)),
+        _ => forget(t, n, types.len(), i),
     }
 }
 
 // An operand `a` that is read.
-fn number_read(t: &mut [u64], types: &[u8], n: usize, st: State, i: Instruction) -> Step
-    requires { ⌜ Room n (length (now types)) st (now t) × (i .a < length (now types)) ⌝ }
-    ensures { λ r. ⌜ Becomes n (now (types .entry)) 1 3 1 st (now (t .entry)) r (now (t .exit)) (λ dest constants. Unit {0}) (λ S x. numberRead S i x) ⌝ }
+fn number_read(t: &mut [u64], types: &[u8], n: usize, i: Instruction) -> Instruction
+    requires { ⌜ Room n (length (now types)) (now t) × (i .a < length (now types)) ⌝ }
+    ensures { λ r. ⌜ Becomes n (now (types .entry)) 0 0 0 (now (t .entry)) r (now (t .exit)) (λ dest constants. Unit {0}) (λ dest S x. numberRead S i x) ⌝ }
 {
-    let l = table::representative(t, types, n, st, i.a);
-    let named = Instruction {
+    let d = table::number(&t[..], n, types.len(), i.a);
+    let a = table::representative(t, types, n, i.a, d);
+    Instruction {
         op: i.op,
         flags: i.flags,
-        a: l.slot,
+        a,
         b: i.b,
         c: i.c,
-    };
-    let state = l.state;
-    Step {
-        instruction: named,
-        state,
     }
 }
 
 // "an undecided conditional jump on a scalar"
-fn undecided(t: &mut [u64], types: &[u8], n: usize, st: State, i: Instruction) -> Step
-    requires { ⌜ Room n (length (now types)) st (now t) × (i .a < length (now types)) ⌝ }
-    ensures { λ r. ⌜ Becomes n (now (types .entry)) 1 3 1 st (now (t .entry)) r (now (t .exit)) (λ dest constants. Unit {0}) (λ S x. undecidedBy S i x) ⌝ }
+fn undecided(t: &mut [u64], types: &[u8], n: usize, i: Instruction) -> Instruction
+    requires { ⌜ Room n (length (now types)) (now t) × (i .a < length (now types)) ⌝ }
+    ensures { λ r. ⌜ Becomes n (now (types .entry)) 0 0 0 (now (t .entry)) r (now (t .exit)) (λ dest constants. Unit {0}) (λ dest S x. undecidedBy S i x) ⌝ }
 {
     if scalar(types, i.a) {
-        return number_read(t, types, n, st, i);
+        return number_read(t, types, n, i);
     }
-    Step {
-        instruction: i,
-        state: st,
-    }
+    i
 }
 
 // JumpIfNot takes its branch where the word is 0, JumpIf where it is not.
@@ -403,39 +376,34 @@ fn taken(zero: bool, v: u64) -> bool
 }
 
 // "JumpIf and JumpIfNot on a known integer become Jump or plain Hint"
-fn number_jump(t: &mut [u64], types: &[u8], n: usize, st: State, i: Instruction, zero: bool) -> Step
-    requires { ⌜ Room n (length (now types)) st (now t) × (i .a < length (now types)) ⌝ }
-    ensures { λ r. ⌜ Becomes n (now (types .entry)) 1 3 1 st (now (t .entry)) r (now (t .exit)) (λ dest constants. Unit {0}) (λ S x. numberJump S (takes zero) i x (valueOf x (i .a))) ⌝ }
+fn number_jump(t: &mut [u64], types: &[u8], n: usize, i: Instruction, zero: bool) -> Instruction
+    requires { ⌜ Room n (length (now types)) (now t) × (i .a < length (now types)) ⌝ }
+    ensures { λ r. ⌜ Becomes n (now (types .entry)) 0 0 0 (now (t .entry)) r (now (t .exit)) (λ dest constants. Unit {0}) (λ dest S x. numberJump S (takes zero) i x (valueOf x (i .a))) ⌝ }
 {
-    let places = 4 * types.len();
-    let value = slots::get(&t[0..places], st.epoch, i.a);
+    let locals = types.len();
+    let d = table::number(&t[..], n, locals, i.a);
+    let value = table::atom(&t[..], n, locals, d);
     let Atom::Integer(v) = value else {
-        return undecided(t, types, n, st, i);
+        return undecided(t, types, n, i);
     };
     if taken(zero, v) {
-        return Step {
-            instruction: Instruction::new(JUMP, 0, i.b, i.c),
-            state: st,
-        };
+        return Instruction::new(JUMP, 0, i.b, i.c);
     }
-    Step {
-        instruction: Instruction::new(HINT, 0, 0, 0),
-        state: st,
-    }
+    Instruction::new(HINT, 0, 0, 0)
 }
 
 // "a one-scalar Return"
-fn number_return(t: &mut [u64], types: &[u8], n: usize, st: State, i: Instruction) -> Step
-    requires { ⌜ Room n (length (now types)) st (now t) × (i .b ≡ 1 → i .a < length (now types)) ⌝ }
-    ensures { λ r. ⌜ Becomes n (now (types .entry)) 1 3 1 st (now (t .entry)) r (now (t .exit)) (λ dest constants. Unit {0}) (λ S x. numberBy S Return 0 i x) ⌝ }
+fn number_return(t: &mut [u64], types: &[u8], n: usize, i: Instruction) -> Instruction
+    requires { ⌜ Room n (length (now types)) (now t) × (i .b ≡ 1 → i .a < length (now types)) ⌝ }
+    ensures { λ r. ⌜ Becomes n (now (types .entry)) 1 0 0 (now (t .entry)) r (now (t .exit)) (λ dest constants. Unit {0}) (λ dest S x. numberBy S Return 0 i x) ⌝ }
 {
     if i.b == 1 {
         if scalar(types, i.a) {
-            return number_read(t, types, n, st, i);
+            return number_read(t, types, n, i);
         }
-        return forget(st, i);
+        return forget(t, n, types.len(), i);
     }
-    forget(st, i)
+    forget(t, n, types.len(), i)
 }
 
 // All but jumps and returns: a store to a scalar, or all values are forgotten.
@@ -444,18 +412,17 @@ fn number_other(
     types: &[u8],
     constants: &[u8],
     n: usize,
-    st: State,
     i: Instruction,
     p: u32,
     k: Class,
-) -> Step
-    requires { ⌜ Room n (length (now types)) st (now t) × Named k (length (now types)) i ⌝ }
-    ensures { λ r. ⌜ Becomes n (now (types .entry)) 1 3 1 st (now (t .entry)) r (now (t .exit)) (λ dest c. Stands n p i dest × (c ≡ now (constants .entry))) (λ S x. otherBy S k p i x) ⌝ }
+) -> Instruction
+    requires { ⌜ Room n (length (now types)) (now t) × Named k (length (now types)) i × (p < n) ⌝ }
+    ensures { λ r. ⌜ Becomes n (now (types .entry)) 1 1 1 (now (t .entry)) r (now (t .exit)) (λ dest c. Stands n p i dest × (c ≡ now (constants .entry))) (λ dest S x. otherBy S k p i x) ⌝ }
 {
     if scalar(types, i.a) {
-        return number_pure(t, types, constants, n, st, i, p, k);
+        return number_pure(t, types, constants, n, i, p, k);
     }
-    forget(st, i)
+    forget(t, n, types.len(), i)
 }
 
 // JumpIfNot or JumpIf?
@@ -475,79 +442,56 @@ fn number_one(
     types: &[u8],
     constants: &[u8],
     n: usize,
-    st: State,
     i: Instruction,
     p: u32,
-) -> Step
-    requires { ⌜ Room n (length (now types)) st (now t) × Named (class i) (length (now types)) i ⌝ }
-    ensures { λ r. ⌜ Becomes n (now (types .entry)) 1 3 1 st (now (t .entry)) r (now (t .exit)) (λ dest c. Stands n p i dest × (c ≡ now (constants .entry))) (λ S x. number S p i x) ⌝ }
+) -> Instruction
+    requires { ⌜ Room n (length (now types)) (now t) × Named (class i) (length (now types)) i × (p < n) ⌝ }
+    ensures { λ r. ⌜ Becomes n (now (types .entry)) 1 1 1 (now (t .entry)) r (now (t .exit)) (λ dest c. Stands n p i dest × (c ≡ now (constants .entry))) (λ dest S x. number S p i x) ⌝ }
 {
     let k = i.class();
     match k {
-        Class::JumpIf | Class::JumpIfNot => number_jump(t, types, n, st, i, jumps_on_zero(k)),
-        Class::Return => number_return(t, types, n, st, i),
-        _ => number_other(t, types, constants, n, st, i, p, k),
+        Class::JumpIf | Class::JumpIfNot => number_jump(t, types, n, i, jumps_on_zero(k)),
+        Class::Return => number_return(t, types, n, i),
+        _ => number_other(t, types, constants, n, i, p, k),
     }
 }
 
-// An empty table of values: the words of slots and places and the heads of both tables of entries are 0.
-fn begin(t: &mut [u64], n: usize, locals: usize) -> State
+// An empty table of values: the words of slots, numbers and heads are of epoch 0.
+fn begin(t: &mut [u64], n: usize, locals: usize)
     requires { ⌜ (0 < n) × (n ≤ 65536) × (locals ≤ 65536) × (endAt n locals ≤ length (now t)) ⌝ }
-    ensures { λ r. ⌜ (r ≡ started) × Begins n locals (now (t .entry)) (now (t .exit)) ⌝ }
+    ensures { λ _. ⌜ Begins n locals (now (t .entry)) (now (t .exit)) ⌝ }
 {
-    let heads = 4 * locals + n + n;
+    let heads = 4 + 2 * locals + 3 * n;
     words::fill::zero_u64(&mut t[0..heads]);
-    let expressions = 4 * locals + n + 16 * n;
-    let end = expressions + n;
-    words::fill::zero_u64(&mut t[expressions..end]);
-    State {
-        epoch: 1,
-        rbase: 0,
-        rcount: 0,
-        ebase: 0,
-        ecount: 0,
-    }
+    let expressions = 4 + 2 * locals + 7 * n;
+    words::fill::zero_u64(&mut t[expressions..expressions + n]);
+    t[0] = 1;
 }
 
-// The state at a place: cleared where a block starts.
-fn enter(st: State, leader: u32) -> State
-    requires { ⌜ st .epoch < 2199023255552 ⌝ }
-    ensures { λ r. ⌜ r ≡ entered st leader ⌝ }
+// All values are forgotten where a block starts.
+fn enter(t: &mut [u64], n: usize, locals: usize, leader: u32)
+    requires { ⌜ Ready n locals (now t) × (memoryOf n locals (now t) .epoch < 4294967295) ⌝ }
+    ensures { λ _. ⌜ Enters n locals leader (now (t .entry)) (now (t .exit)) ⌝ }
 {
     if leader == 1 {
-        return table::clear(st);
+        table::clear(t, n, locals);
     }
-    st
 }
 
 // A turn of the walk at place `p`, whose instruction has the word `w`.
-fn turn(
-    t: &mut [u64],
-    types: &[u8],
-    constants: &[u8],
-    n: usize,
-    st: State,
-    leader: u32,
-    w: u64,
-    p: u32,
-) -> Turn
-    requires { ⌜ Room n (length (now types)) st (now t) × (st .epoch + 2 < 1099511627776) × Named (class (ofWord w)) (length (now types)) (ofWord w) ⌝ }
-    ensures { λ r. ⌜ Turns n (now (types .entry)) (now (constants .entry)) leader w p st (now (t .entry)) r (now (t .exit)) ⌝ }
+fn turn(t: &mut [u64], types: &[u8], constants: &[u8], n: usize, leader: u32, w: u64, p: u32) -> u64
+    requires { ⌜ Room n (length (now types)) (now t) × (memoryOf n (length (now types)) (now t) .epoch + 1 < 4294967295) × Named (class (ofWord w)) (length (now types)) (ofWord w) × (p < n) ⌝ }
+    ensures { λ r. ⌜ Turns n (now (types .entry)) (now (constants .entry)) leader w p (now (t .entry)) r (now (t .exit)) ⌝ }
 {
-    let at = enter(st, leader);
+    enter(t, n, types.len(), leader);
     let i = Instruction::from_word(w);
-    let step = number_one(t, types, constants, n, at, i, p);
-    let state = step.state;
-    let numbered = step.instruction;
-    Turn {
-        word: numbered.word(),
-        state,
-    }
+    let numbered = number_one(t, types, constants, n, i, p);
+    numbered.word()
 }
 
 // Value numbering of a whole function: its code, one word an instruction at the memory's start, is rewritten. `leaders` has 1 where
-// a block starts. The table of values takes 23 numbers of the memory after the code for each instruction and 4 for each slot; what
-// they hold is free.
+// a block starts. The table of values takes 12 numbers of the memory after the code for each instruction, 2 for each slot and 4
+// more; what they hold is free.
 pub fn number_code(memory: &mut [u64], leaders: &[u32], types: &[u8], constants: &[u8])
     requires { ⌜ Numberable (midOf 0 (length (now leaders)) (now memory)) (now leaders) (now types) (now memory) ⌝ }
     ensures { λ _. ⌜ ((metadata : List ℕ) (locals : ℕ) (tables : Tables) → midOf 0 (length (now (leaders .entry))) (now (memory .exit)) ≡ map (λ (x : Cell). toWord (x .instruction)) (numberCode (sectionsOf (now (types .entry)) (now (constants .entry)) locals tables) (now (leaders .entry)) (cellsBy (midOf 0 (length (now (leaders .entry))) (now (memory .entry))) metadata))) ⌝ }
@@ -556,23 +500,12 @@ pub fn number_code(memory: &mut [u64], leaders: &[u32], types: &[u8], constants:
     if n == 0 {
         return;
     }
-    let mut st = begin(&mut memory[n..], n, types.len());
+    begin(&mut memory[n..], n, types.len());
     let mut p = 0;
     while p < n {
         let w = memory[p];
         let leader = leaders[p];
-        let r = turn(
-            &mut memory[n..],
-            types,
-            constants,
-            n,
-            st,
-            leader,
-            w,
-            p as u32,
-        );
-        memory[p] = r.word;
-        st = r.state;
+        memory[p] = turn(&mut memory[n..], types, constants, n, leader, w, p as u32);
         p += 1;
     }
 }

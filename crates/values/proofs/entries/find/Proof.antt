@@ -1,19 +1,20 @@
+use Rattle.values.specs.Entries.{key}
 use Rattle.values.specs.Chain.{Walk, walk-start, walk-hit, walk-less, walk-on, walk-end}
 use borrow.Author.Needs.{needs}
 use Rattle.values.proofs.entries.find.Statement.{statement}
 use Rattle.values.proofs.entries.find.Tie as tie
 
 abbrev Inv-loop : tie.InvT-loop
-Inv-loop w h b base count k p₀ p = Walk w h base count k p
+Inv-loop w h epoch count b left right p₀ p = Walk w h count (key left right) p
 
 abbrev μ-loop : tie.MeasureT-loop
-μ-loop w h b base count k p₀ p = p
+μ-loop w h epoch count b left right p₀ p = p
 
 loop-holds : tie.Need-loop-holds Inv-loop μ-loop
-loop-holds c = walk-start (c .before .before .pre .0) (c .before .before .pre .1) (c .before .before .pre .2)
+loop-holds c = walk-start (c .before .before .pre .0) (c .before .before .pre .1) (c .before .before .pre .2) (c .head .ensures)
 
 returns : tie.Need-returns Inv-loop μ-loop
-returns c = walk-hit (c .before .before .before .before .before .before .before .pre .0) (c .before .before .before .before .loop .inv) (c .before .before .before .loop-test .taken) (c .before .before .holds .ensures) (c .before .if1 .taken)
+returns c = walk-hit (c .before .before .before .before .before .before .pre .0) (c .before .before .before .loop .inv) (c .before .before .loop-test .taken) (c .before .holds .ensures) (c .if1 .taken)
 
 loop-less : tie.Need-loop-less Inv-loop μ-loop
 loop-less c = walk-less (c .before .before .before .before .before .before .before .pre .0) (c .before .before .before .before .loop .inv) (c .before .before .before .loop-test .taken)
@@ -30,16 +31,12 @@ find-spec =
     (tie.spec
     Inv-loop
     μ-loop
-    (λ c. search needs)
-    (λ c. search needs)
+    (λ c κs. search needs)
     loop-holds
     (λ c. search needs)
     (λ c. search needs)
     (λ c. search needs)
     (λ c κs. search needs)
-    (λ c. search needs)
-    (λ c. search needs)
-    (λ c. search needs)
     returns
     (λ c. search needs)
     (λ c. search needs)

@@ -1,5 +1,6 @@
 use native.Mathlib.Omega.{arith}
 use lib.ListN.{length-set}
+use Rattle.values.specs.Entries.{key}
 use Rattle.values.specs.Adding.{insert-adds}
 use borrow.Author.Needs.{needs}
 use Rattle.values.proofs.entries.insert.Statement.{statement}
@@ -17,14 +18,8 @@ slice-write-w-4 c = simp length-set (omega arith)
 slice-write-w-5 : tie.Need-slice-write-w-5
 slice-write-w-5 c = simp length-set (omega arith)
 
-slice-write-w-6 : tie.Need-slice-write-w-6
-slice-write-w-6 c = simp length-set (omega arith)
-
-same-length : tie.Need-same-length
-same-length c = simp length-set
-
 returns : tie.Need-returns
-returns c = insert-adds (c .before .pre .0) (c .before .pre .3) (c .before .pre .1) (c .before .pre .2)
+returns c = insert-adds {k = key (c .before .before .before .args .left) (c .before .before .before .args .right)} (c .before .before .before .pre .0) (c .before .before .before .pre .4) (c .before .before .before .pre .3) (c .before .before .before .pre .1) (c .before .before .before .pre .2) (c .head .ensures)
 
 pub insert-spec : {M : Type 1} → statement M
 insert-spec =
@@ -32,8 +27,7 @@ insert-spec =
     (tie.spec
     (λ c. search needs)
     (λ c. search needs)
-    (λ c. search needs)
-    (λ c. search needs)
+    (λ c κs. search needs)
     (λ c. search needs)
     (λ c. search needs)
     (λ c. search needs)
@@ -47,9 +41,8 @@ insert-spec =
     slice-write-w-4
     (λ c. search needs)
     (λ c. search needs)
+    (λ c. search needs)
+    (λ c. search needs)
     slice-write-w-5
     (λ c. search needs)
-    (λ c. search needs)
-    slice-write-w-6
-    same-length
     returns)

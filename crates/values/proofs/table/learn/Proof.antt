@@ -1,10 +1,13 @@
-use Rattle.values.proofs.Recording.{learns}
+use Rattle.values.proofs.Growing.{expressions-room, learns}
 use borrow.Author.Needs.{needs}
 use Rattle.values.proofs.table.learn.Statement.{statement}
 use Rattle.values.proofs.table.learn.Tie as tie
 
+insert-requires : tie.Need-insert-requires
+insert-requires c κs = let r = expressions-room (c .before .before .before .before .pre .0) (c .before .before .before .before .pre .1) in (c .before .before .before .before .pre .0 .order .expressions, c .before .before .before .before .pre .2, c .before .before .before .before .pre .3, r .0, r .1)
+
 returns : tie.Need-returns
-returns c = learns (c .before .before .before .before .before .pre .0) _ _ _ _ (c .before .before .insert .ensures)
+returns c = λ op flags left right a b l r e. learns (c .before .before .before .before .before .before .before .pre .0) op flags left right (c .before .before .before .before .before .before .before .args .d) a b l r (c .before .before .before .before .before .before .before .pre .4) (c .before .before .before .before .before .before .before .pre .1) _ (rw e at (c .before .before .insert .ensures))
 
 pub learn-spec : {M : Type 1} → statement M
 learn-spec =
@@ -22,7 +25,10 @@ learn-spec =
     (λ c. search needs)
     (λ c. search needs)
     (λ c. search needs)
-    (λ c κs. search needs)
+    (λ c. search needs)
+    (λ c. search needs)
+    insert-requires
+    (λ c. search needs)
     (λ c. search needs)
     (λ c. search needs)
     returns)

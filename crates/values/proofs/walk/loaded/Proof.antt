@@ -1,32 +1,33 @@
 use Rattle.values.specs.Number.{constantAtom}
-use Rattle.values.specs.Walk.{atomIn, HasWord, IsWord}
+use Rattle.values.specs.Walk.{atomOf, KindOf}
+use Rattle.values.specs.Memory.{constantOf}
 use native.Mathlib.Omega.{arith}
 use borrow.Author.Needs.{needs}
 use Rattle.values.proofs.walk.loaded.Statement.{statement}
 use Rattle.values.proofs.walk.loaded.Tie as tie
 
 returns : tie.Need-returns
-unfolding atomIn constantAtom HasWord IsWord
+unfolding atomOf constantAtom KindOf constantOf
 returns c = (rw (c .enum-told .given .1), omega arith)
 
 returns-2 : tie.Need-returns-2
-unfolding atomIn constantAtom HasWord IsWord
+unfolding atomOf constantAtom KindOf constantOf
 returns-2 c = (rw (c .before .constant .given .1), omega arith)
 
 returns-3 : tie.Need-returns-3
-unfolding atomIn constantAtom HasWord IsWord
+unfolding atomOf constantAtom KindOf constantOf
 returns-3 c = (rw (c .before .constant2 .given .1), omega arith)
 
 returns-4 : tie.Need-returns-4
-unfolding atomIn constantAtom HasWord IsWord
+unfolding atomOf constantAtom KindOf constantOf
 returns-4 c = (rw (c .before .constant3 .given .1), omega arith)
 
 returns-5 : tie.Need-returns-5
-unfolding atomIn constantAtom HasWord
+unfolding atomOf constantAtom KindOf
 returns-5 c = (rw (c .enum-told2 .given .1), tt)
 
 returns-6 : tie.Need-returns-6
-unfolding atomIn constantAtom HasWord
+unfolding atomOf constantAtom KindOf
 returns-6 c = (rw (c .enum-told3 .given .1), tt)
 
 pub loaded-spec : {M : Type 1} → statement M

@@ -12,10 +12,10 @@ use Rattle.values.proofs.walk.number_code.Statement.{statement}
 use Rattle.values.proofs.walk.number_code.Tie as tie
 
 abbrev Inv-loop : tie.InvT-loop
-Inv-loop memory₀ leaders types constants n st₀ p₀ memory st p = Numbering leaders types constants memory₀ memory st p
+Inv-loop memory₀ leaders types constants n p₀ memory p = Numbering leaders types constants memory₀ memory p
 
 abbrev μ-loop : tie.MeasureT-loop
-μ-loop memory₀ leaders types constants n st₀ p₀ memory st p = length leaders - p
+μ-loop memory₀ leaders types constants n p₀ memory p = length leaders - p
 
 abbrev Head : Type 0
 Head = tie.At-loop Inv-loop μ-loop
@@ -71,7 +71,7 @@ loop-holds : tie.Need-loop-holds Inv-loop μ-loop
 loop-holds c =
     let s = c .before .before .before .before .before .before .before .before .before in
     let b = c .before .before .begin in
-    rw (b .ensures .0) (numbering-start (s .args .memory .now) _ (omega (arith, s .pre .long)) (b .kept .0) (b .ensures .1))
+    numbering-start (s .args .memory .now) _ (omega (arith, s .pre .long)) (b .kept .0) (b .ensures)
 
 mul-w : tie.Need-mul-w Inv-loop μ-loop
 mul-w c = omega (arith, start (c .before) .pre .few)
@@ -94,7 +94,7 @@ turn-requires c κs =
     let g = h .loop .inv .progress in
     let l = c .before .before .before .loop-test .taken in
     let s = start h in
-    (turn-room g l (s .pre .few), omega (arith, g .epochs-few, s .pre .few), rw (word h l) (s .pre .named (h .loop .p) l))
+    (turn-room g l (s .pre .few), omega (arith, g .epochs-few, s .pre .few), rw (word h l) (s .pre .named (h .loop .p) l), l)
 
 mul-memory : tie.Need-mul-memory Inv-loop μ-loop
 mul-memory c = omega (arith, start (c .before .before .before .before .before .before .before) .pre .few)
@@ -103,7 +103,9 @@ slice-write-memory : tie.Need-slice-write-memory Inv-loop μ-loop
 slice-write-memory c = let h = c .before .before .before .before .before .before .before in omega (arith, room h, whole-long (size h) (h .loop .memory) (c .before .before .turn .last .0) (room h) (c .before .before .turn .kept .0))
 
 loop-again : tie.Need-loop-again Inv-loop μ-loop
-loop-again c = let h = c .before .before .before .before .before .before .before .before in numbering-turn (h .loop .inv) (c .before .before .before .before .before .before .before .loop-test .taken) (room h) refl (c .before .before .before .turn .kept .0) (c .before .before .before .turn .ensures)
+loop-again c =
+    let h = c .before .before .before .before .before .before .before in
+    numbering-turn (h .loop .inv) (c .before .before .before .before .before .before .loop-test .taken) (room h) refl (c .before .before .turn .kept .0) (c .before .before .turn .ensures)
 
 same-length : tie.Need-same-length Inv-loop μ-loop
 same-length c = long (c .before)

@@ -7,9 +7,16 @@ returns : tie.Need-returns
 returns c = other-pure (c .before .before .before .before .before .before .before .before .before .args .i) (c .before .before .before .before .before .before .before .before .before .args .p) (c .before .before .before .before .before .before .before .before .before .args .k) (c .before .before .before .before .before .scalar .ensures) (c .before .before .before .before .if1 .taken) (c .before .before .number-pure .ensures)
 
 returns-2 : tie.Need-returns-2
-returns-2 c = forget-becomes (c .before .before .before .before .before .before .pre .0) (c .forget .ensures .0) (c .forget .ensures .1) (other-cleared _ (c .before .before .before .before .before .before .args .i) (c .before .before .before .before .before .before .args .p) (c .before .before .before .before .before .before .args .k) (c .before .before .scalar .ensures) (c .before .if1 .left))
+returns-2 c = forget-becomes (c .before .before .forget .ensures) (λ dest. other-cleared _ (c .before .before .before .before .before .before .before .before .before .args .i) (c .before .before .before .before .before .before .before .before .before .args .p) (c .before .before .before .before .before .before .before .before .before .args .k) (c .before .before .before .before .before .scalar .ensures) (c .before .before .before .before .if1 .left))
 
 pub number-other-spec : {M : Type 1} → statement M
 number-other-spec =
     tie.close
-    (tie.spec (λ c κs. search needs) (λ c κs. search needs) (λ c. search needs) returns (λ c κs. search needs) returns-2)
+    (tie.spec
+    (λ c κs. search needs)
+    (λ c κs. search needs)
+    (λ c. search needs)
+    returns
+    (λ c κs. search needs)
+    (λ c. search needs)
+    returns-2)

@@ -1,15 +1,15 @@
 use Rattle.values.proofs.Walking.{as-becomes, pure-by, pure-none, operator-named, operator-pure, forget-becomes}
 use native.Mathlib.Omega.{arith}
 use mathlib.Core.Path.{refl}
-use Rattle.values.specs.Memory.{Sound}
+use Rattle.values.specs.Memory.{constantOf}
 use Rattle.values.specs.Walk.{Named, pureBy}
 use borrow.Author.Needs.{needs}
 use Rattle.values.proofs.walk.number_pure.Statement.{statement}
 use Rattle.values.proofs.walk.number_pure.Tie as tie
 
-store-requires : tie.Need-store-requires
+store-constant-requires : tie.Need-store-constant-requires
 unfolding Named
-store-requires c κs = let h = rw (c .before .before .enum-told .given .1) at (c .before .before .before .before .before .before .before .pre .1) in (c .before .before .before .before .before .before .before .pre .0 .ready, omega arith, h)
+store-constant-requires c κs = (c .before .before .before .before .before .before .before .pre .0, rw (c .before .before .enum-told .given .1) at (c .before .before .before .before .before .before .before .pre .1), omega arith)
 
 number-constant-requires : tie.Need-number-constant-requires
 unfolding Named
@@ -20,11 +20,11 @@ unfolding Named
 number-copy-requires c κs = let h = rw (c .before .enum-told3 .given .1) at (c .before .before .before .before .before .before .pre .1) in (c .before .before .before .before .before .before .pre .0, h .0, h .1)
 
 number-operator-requires : tie.Need-number-operator-requires
-number-operator-requires c κs = let h = operator-named (c .before .before .before .before .before .before .args .k) _ (c .before .before .before .before .before .before .args .i) (c .before .before .match .keys4) (c .before .before .before .before .before .before .pre .1) in (c .before .before .before .before .before .before .pre .0, h .0, rw (c .is-binary .ensures) (h .1), h .2)
+number-operator-requires c κs = let h = operator-named (c .before .before .before .before .before .before .args .k) _ (c .before .before .before .before .before .before .args .i) (c .before .before .match .keys4) (c .before .before .before .before .before .before .pre .1) in (c .before .before .before .before .before .before .pre .0, h .0, rw (c .is-binary .ensures) (h .1), h .2, c .before .before .before .before .before .before .pre .2)
 
 returns : tie.Need-returns
-unfolding pureBy Sound
-returns c = pure-by (c .before .before .before .before .before .before .before .before .before .before .args .i) (c .before .before .before .before .before .before .before .before .before .before .args .p) _ (c .before .before .before .before .before .enum-told .given .1) (λ dest d l T v y. (omega arith, rw (c .before .before .before .imm32 .ensures))) (omega arith) (omega arith) (omega arith) (c .before .before .store .ensures)
+unfolding pureBy constantOf
+returns c = pure-by (c .before .before .before .before .before .before .before .before .before .before .args .i) (c .before .before .before .before .before .before .before .before .before .before .args .p) _ (c .before .before .before .before .before .enum-told .given .1) (λ dest d l T v y. (tt, rw (c .before .before .before .imm32 .ensures))) (omega arith) (omega arith) (omega arith) (c .before .before .store-constant .ensures)
 
 returns-2 : tie.Need-returns-2
 unfolding pureBy
@@ -38,7 +38,7 @@ returns-4 : tie.Need-returns-4
 returns-4 c = as-becomes (omega arith) (omega arith) (omega arith) (λ dest d l T v y h. (y .0, rw (c .before .before .before .is-binary .ensures) (operator-pure _ (c .before .before .before .before .before .before .before .before .before .args .k) (c .before .before .before .before .before .before .before .before .before .args .p) (c .before .before .before .before .before .before .before .before .before .args .i) v (c .before .before .before .before .before .match .keys4)))) (c .before .before .number-operator .ensures)
 
 returns-5 : tie.Need-returns-5
-returns-5 c = forget-becomes (c .before .before .before .before .before .pre .0) (c .forget .ensures .0) (c .forget .ensures .1) (λ d l T v. pure-none _ (c .before .before .before .before .before .args .k) (c .before .before .before .before .before .args .p) (c .before .before .before .before .before .args .i) v (c .before .match .keys5))
+returns-5 c = forget-becomes (c .before .before .forget .ensures) (λ dest d l T v. pure-none _ (c .before .before .before .before .before .before .before .before .args .k) (c .before .before .before .before .before .before .before .before .args .p) (c .before .before .before .before .before .before .before .before .args .i) v (c .before .before .before .before .match .keys5))
 
 pub number-pure-spec : {M : Type 1} → statement M
 number-pure-spec =
@@ -46,7 +46,7 @@ number-pure-spec =
     (tie.spec
     (λ c. search needs)
     (λ c κs. search needs)
-    store-requires
+    store-constant-requires
     (λ c. search needs)
     (λ c. search needs)
     (λ c κs. search needs)
@@ -64,4 +64,5 @@ number-pure-spec =
     returns-3
     (λ c. search needs)
     returns-4
+    (λ c. search needs)
     returns-5)
