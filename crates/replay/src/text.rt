@@ -1,14 +1,20 @@
 // Reading the text of the recorded answers. Past its end it reads as spaces.
+ghost use mathlib.Core.Path.{_≡_};
 ghost use Prim.Native.Nat.{_<_};
 ghost use Rattle.io.specs.Counts.{Counts};
+ghost use Rattle.replay.specs.Text.{byteAt, skipped, kindAt, numberAt};
 use std::num;
 
-pub fn byte(text: &[u8], at: usize) -> u8 {
+pub fn byte(text: &[u8], at: usize) -> u8
+    ensures { λ r. ⌜ r ≡ byteAt (now (text .entry)) at ⌝ }
+{
     if at < text.len() { text[at] } else { b' ' }
 }
 
 // Past the next byte that is at most `last`: a space or a newline.
-pub fn skip(text: &[u8], at: usize, last: u8) -> usize {
+pub fn skip(text: &[u8], at: usize, last: u8) -> usize
+    ensures { λ r. ⌜ r ≡ skipped (now (text .entry)) at last ⌝ }
+{
     let mut i = at;
     while i < text.len() {
         if text[i] <= last {
@@ -20,7 +26,9 @@ pub fn skip(text: &[u8], at: usize, last: u8) -> usize {
 }
 
 // The answer's word, by its third letter: 0 unchanged, 1 refused, 2 rewritten.
-pub fn kind(text: &[u8], at: usize) -> u32 {
+pub fn kind(text: &[u8], at: usize) -> u32
+    ensures { λ r. ⌜ r ≡ kindAt (now (text .entry)) at ⌝ }
+{
     match byte(text, num::wrapping_add_usize(at, 2)) {
         b'c' => 0,
         b'f' => 1,
@@ -29,7 +37,9 @@ pub fn kind(text: &[u8], at: usize) -> u32 {
 }
 
 // A number of at most nine digits.
-pub fn number(text: &[u8], at: usize) -> u32 {
+pub fn number(text: &[u8], at: usize) -> u32
+    ensures { λ r. ⌜ r ≡ numberAt (now (text .entry)) at ⌝ }
+{
     let mut v: u32 = 0;
     let mut k = 0;
     while k < 9 {
