@@ -43,7 +43,7 @@ fn give(from: &[u8], out: &mut [u8], k: usize, passes: u32) -> Cleaned
     buffer::copy(from, out, size::output_room(k));
     Cleaned {
         answer: Answer::Rewritten(k as u32),
-        passes: passes,
+        passes,
     }
 }
 
