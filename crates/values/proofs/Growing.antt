@@ -17,7 +17,8 @@ use Rattle.values.specs.Memory.{part, marksAt, constantsAt, expressionsA
 use Rattle.values.specs.Kept.{Kept, Same, Interns, Learns}
 use Rattle.values.proofs.Atoms.{both, atom-zero, atom-constant}
 use Rattle.values.proofs.Parts.{put-length, part-put, part-before, part-after}
-use Rattle.values.proofs.Holding.{grown, taught, number-same, more-ordered, more-holds, atom-next, learn-ordered, learn-holds}
+use Rattle.values.proofs.Holding.{grown, taught, number-same}
+use Rattle.values.proofs.Learning.{more-ordered, more-holds, atom-next, learn-ordered, learn-holds}
 use Rattle.values.proofs.Recording.{few, unchanged}
 
 module _ {n S : ℕ} {t : List ℕ} (g : Ready n S t) where

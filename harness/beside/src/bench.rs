@@ -5,7 +5,7 @@
 
 use crate::chart::{self, Curve, Panel};
 use crate::options::Options;
-use generate::{Shape, ONE_BUCKET, SHAPES};
+use generate::{Shape, EXTREMES, SHAPES};
 use lampruda::Workspace;
 use reference::Prepared;
 use std::fs;
@@ -29,7 +29,7 @@ pub fn run(mut options: Options) -> Result<(), String> {
     let unit = options.text("unit");
     options.done()?;
     println!("one pass, nanoseconds an instruction, the least of {SAMPLES:?} samples; seed {seed}");
-    println!("{:<18}{:>13}{:>10}{:>11}{:>8}", "shape", "instructions", "ours", "reference", "ratio");
+    println!("{:<18}{:>13}{:>10}{:>11}{:>8}", "shape", "instructions", "ours", "reference", "times");
     if let Some(file) = unit {
         let bytes = fs::read(&file).map_err(|error| format!("{file}: {error}"))?;
         let refused = matches!(reference::pass(&bytes), Answer::Refused { .. });
@@ -40,9 +40,11 @@ pub fn run(mut options: Options) -> Result<(), String> {
         return Ok(());
     }
     let panels: Vec<Panel> = SHAPES.iter().map(|shape| panel(shape, seed, longest)).collect();
-    // Not in the chart: it would flatten the others.
-    for n in LENGTHS.into_iter().filter(|&n| n <= longest) {
-        row(ONE_BUCKET.name, &ONE_BUCKET.unit(seed, n));
+    // Not in the chart: one of them would flatten the others.
+    for shape in EXTREMES {
+        for n in LENGTHS.into_iter().filter(|&n| n <= longest) {
+            row(shape.name, &shape.unit(seed, n));
+        }
     }
     match svg {
         Some(file) => {
@@ -71,7 +73,7 @@ fn row(name: &str, unit: &[u8]) -> [f64; 2] {
     let unit = Unit::check(unit).expect("what is not refused is a unit");
     let n = unit.header().count(Section::Code) as usize;
     let [ours, theirs] = time(&unit, n.max(1));
-    println!("{name:<18}{n:>13}{ours:>10.1}{theirs:>11.1}{:>8.2}", ours / theirs);
+    println!("{name:<18}{n:>13}{ours:>10.1}{theirs:>11.1}{:>8.1}", theirs / ours);
     [ours, theirs]
 }
 

@@ -12,7 +12,7 @@ pub mod small_world;
 
 pub use profiles::{every_damage, every_opcode, many_blocks, slow_liveness, Profile, PROFILES};
 pub use rng::Rng;
-pub use shapes::{Shape, ONE_BUCKET, SHAPES};
+pub use shapes::{Shape, EXTREMES, SHAPES};
 pub use small_world::SmallWorld;
 
 /// The survey's unit of this seed and index: a profile drawn by weight, and its unit.

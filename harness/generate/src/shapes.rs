@@ -20,16 +20,19 @@ impl Shape {
     }
 }
 
-/// The worst known of our table, whose hash is fixed: constants chosen to fall in one bucket of it.
-pub const ONE_BUCKET: Shape = Shape { name: "one bucket", draw: one_bucket };
+/// No law looks like these: loads of constants alone, and the worst known of our table, whose hash is fixed: constants chosen to
+/// fall in one bucket of it.
+pub const EXTREMES: [Shape; 2] = [
+    Shape { name: "constants only", draw: constants_only },
+    Shape { name: "one bucket", draw: one_bucket },
+];
 
-pub const SHAPES: [Shape; 6] = [
+pub const SHAPES: [Shape; 5] = [
     Shape { name: "material law", draw: laws::law },
     Shape { name: "one block", draw: one_block },
     Shape { name: "blocks of 5 to 50", draw: short_blocks },
     Shape { name: "all different", draw: all_different },
     Shape { name: "all the same", draw: all_the_same },
-    Shape { name: "constants only", draw: constants_only },
 ];
 
 /// Half of the slots hold integers, half floats.
@@ -137,7 +140,7 @@ fn constants_only(rng: &mut Rng, n: usize) -> Parts {
 }
 
 /// The factor of a constant in the table's hash (crates/values/src/entries.rt).
-const FACTOR: u64 = 14_029_467_366_897_019_727;
+const FACTOR: u64 = 11_400_714_819_323_198_485;
 
 /// The constants are such that their products by the factor are 0, 1, 2 and so on, so the high bits never differ.
 fn one_bucket(rng: &mut Rng, n: usize) -> Parts {
