@@ -15,7 +15,7 @@ use Rattle.unit.specs.Layout.{headerOf, metadataOf, isUnit}
 use Rattle.unit.specs.Refusal.{notUnit, shortBuffer, metadataCount, typeCount}
 use Rattle.unit.specs.Result.{Retained, resultBytes}
 use Rattle.unit.specs.Size.{metadataSize, outputRoom, work32Room, work64Room, resultSize, maxInstructions}
-use Rattle.effects.specs.Operands.{left-true, right-true}
+use Rattle.words.specs.Truth.{left-true, right-true}
 use Rattle.effects.specs.Shape.{Sections}
 use Rattle.answer.specs.Answer.{Lent, cellsOf, sectionsOf, roomFor, isLeft, countsChecked}
 use Rattle.answer.specs.Clean.{Cleaned as Cleaning, cleanFrom, cleanedFirst, spareFor, cleanAnswer}

@@ -1,10 +1,8 @@
 -- What a pass makes of code whose fields fit has fields that fit.
 -- Assumes nothing.
 use mathlib.Core.Path.{_≡_, refl, ap}
-use mathlib.Core.Logic.{inl, inr}
 use mathlib.Core.Bool.{Bool, true, false, cond}
 use mathlib.Core.List.{List, [], _∷_}
-use mathlib.Core.Option.{Option, none, some}
 use Prim.Native.Nat.{ℕ, zero, suc, _+_, _^_, _≤_, _<_}
 use native.Mathlib.Nat.{zero-add}
 use native.Mathlib.Omega.{arith}
@@ -16,26 +14,23 @@ use Rattle.unit.specs.Size.{maxInstructions}
 use Rattle.effects.specs.Shape.{Sections, Cell, cellAt}
 use Rattle.flow.specs.Block.{leaders}
 use Rattle.flow.specs.Flags.{Flags}
+use Rattle.flow.specs.Reached.{places-flags}
 use Rattle.flow.specs.Loop.{reachedPlaces, anchors, isLoopHint}
 use Rattle.values.specs.Number.{numberCode}
-use Rattle.liveness.specs.Dead.{deadStores, withoutDead}
-use Rattle.liveness.specs.Live.{Row, liveRows}
+use Rattle.liveness.specs.Sweep.{dead-flags}
 use Rattle.pc_map.specs.Boundary.{isKept}
 use Rattle.pc_map.specs.Boundaries.{boundary-most}
 use Rattle.pc_map.specs.Relocate.{relocate, retainFrom}
 use Rattle.pc_map.specs.Relocated.{moved-metadata}
 use Rattle.answer.specs.Clean.{cellOf, cellsAfter, placedBy}
-use Rattle.answer.specs.Jump.{jumpRounds}
-use Rattle.answer.specs.Pass.{rewritten, isWorkedOn, optimized, usefulPlaces, keptPlaces}
-use Rattle.run.specs.Checked.{Well, G, numberable, removing}
-use Rattle.run.specs.Jumps.{rounds-bits}
-use Rattle.run.specs.Kept.{keep-bits}
+use Rattle.answer.specs.Pass.{rewritten, isWorkedOn, optimized, keptPlaces}
+use Rattle.run.specs.Checked.{Well, numberable}
+use Rattle.run.specs.Jumps.{rounds-flags}
 use Rattle.run.specs.Numbered.{numberedFunction, Numberable, numbered-at, numbered-long}
-use Rattle.run.specs.Optimized.{Removing, useful-bits}
+use Rattle.run.specs.Optimized.{useful-flags}
 use Rattle.run.specs.Passed.{some-code, few, optimized-kept, optimized-runs}
 use Rattle.run.specs.Program.{Function}
 use Rattle.run.specs.Relocated.{pick}
-use Rattle.run.specs.Retained.{Bits}
 use Rattle.run.specs.Returned.{resultFunction}
 use Rattle.clean.specs.Reading.{Sound, AllFit, retainedAt, noRetained}
 
@@ -91,25 +86,9 @@ module _ (keep : List ℕ) (flags : Flags keep) (cases : ℕ) where
 
 -- ---- the places that a pass keeps are flags
 
-bits-flags : (keep : List ℕ) → Bits keep → Flags keep
-bits-flags keep b p = elim (b p) [ inl e ↦ omega arith | inr e ↦ omega arith ]
-
-kept-flags : (G : Function) (leads : List ℕ) (N : Removing G leads) → Flags (keptPlaces (G .sections) leads (reachedPlaces (G .cells)) (G .cells))
-unfolding keptPlaces deadStores withoutDead
-kept-flags G leads N = bits-flags (keptPlaces S leads (reachedPlaces code) code) (go (liveRows S leads useful code) refl)
-  where
-    S : Sections
-    S = G .sections
-
-    code : List Cell
-    code = G .cells
-
-    useful : List ℕ
-    useful = usefulPlaces (reachedPlaces code) code
-
-    go : (o : Option (List Row)) → liveRows S leads useful code ≡ o → Bits (jumpRounds 16 (anchors (reachedPlaces code) code) code (withoutDead S leads useful code (liveRows S leads useful code)))
-    go none e = rw e (rounds-bits (anchors (reachedPlaces code) code) code 16 useful (useful-bits G leads N))
-    go (some rows) e = rw e (rounds-bits (anchors (reachedPlaces code) code) code 16 _ (keep-bits G leads N rows e))
+kept-flags : (S : Sections) (leads : List ℕ) (code : List Cell) → Flags (keptPlaces S leads (reachedPlaces code) code)
+unfolding keptPlaces
+kept-flags S leads code = rounds-flags (anchors (reachedPlaces code) code) code 16 _ (dead-flags S leads _ code (useful-flags (reachedPlaces code) code (places-flags code)))
 
 -- ---- a pass
 
@@ -145,7 +124,7 @@ module _ (F : Function) (w : Well F) (cases : ℕ) (sound : AllSound cases (F .c
       let small = few F w worked in
       let k = optimized-kept F w worked kept e in
       let N : Numberable F (leaders cells) = numberable F w some small (k .0) (k .1) in
-      let flags : Flags keep = kept-flags (G F w some small (k .0) (k .1)) (leaders cells) (removing F w some small (k .0) (k .1)) in
+      let flags : Flags keep = kept-flags (F .sections) (leaders cells) code in
       let long : length code ≡ length cells = numbered-long F (leaders cells) N in
       let numbered : AllSound cases code = λ p h. let l : p < length cells = rw long at h in rw (numbered-at F (leaders cells) N p l) (sound p l) in
       rw (← k .2)

@@ -10,6 +10,7 @@ use lib.Dec.{eqb, leb}
 use lib.ListN.{length, getD, drop}
 use lib.Seq.{drop-cons, drop-length}
 use borrow.Author.Tests.{leb-true, lt-ltb, le-ltb, le-leb, lt-leb, eq-eqb, ne-eqb}
+use Rattle.words.specs.Truth.{left-true, right-true}
 use Rattle.instruction.specs.Opcode as op
 use Rattle.unit.specs.Size.{caseSize}
 use Rattle.unit.specs.Entry.{goodMetadata, kindSelectExecLayout, kindLoopEnd}
@@ -29,15 +30,6 @@ slots = 65536
 -- no effect error, and no slot at or past the limit
 unfoldable pub rangeHolds : ℕ → Range → Bool
 rangeHolds limit r = rangeFits r && rangeWithin limit r
-
--- both tests passed
-pub left-true : (s t : Bool) → (s && t) ≡ true → s ≡ true
-left-true true t e = refl
-left-true false t e = let z : _≡_ {A = ℕ} 0 1 = cc in absurd (omega arith)
-
-pub right-true : (s t : Bool) → (s && t) ≡ true → t ≡ true
-right-true true t e = e
-right-true false t e = let z : _≡_ {A = ℕ} 0 1 = cc in absurd (omega arith)
 
 -- ---- a loop over ranges
 

@@ -22,7 +22,8 @@ use Rattle.effects.specs.Check.{operandRefusal}
 use Rattle.effects.specs.Form.{forms, formAt, unpack, rowOf, demandRowOf, demandAt, readsOf, writesOf, readParts, writeParts}
 use Rattle.effects.specs.Rows.{rows-read, rows-write}
 use Rattle.effects.specs.Ranges.{reads-other, writes-other, demands-row}
-use Rattle.effects.specs.Operands.{left-true, right-true, slots, rangeHolds, holds-sum, all-append, not-refused, refused-within}
+use Rattle.words.specs.Truth.{left-true, right-true}
+use Rattle.effects.specs.Operands.{slots, rangeHolds, holds-sum, all-append, not-refused, refused-within}
 
 -- the field that one of the forms 0, 1 and 2 is a slot of
 abbrev pub slotOf : ℕ → Instruction → ℕ

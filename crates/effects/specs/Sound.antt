@@ -25,7 +25,8 @@ use Rattle.effects.specs.Effects.{allReads, writes, demandsMet, rangeFit
 use Rattle.effects.specs.Check.{lowest, effectsSound, operandRefusal, operandCheck}
 use Rattle.effects.specs.Form.{readParts, writeParts}
 use Rattle.effects.specs.Ranges.{reads-other, writes-other}
-use Rattle.effects.specs.Operands.{left-true, right-true, all-append}
+use Rattle.words.specs.Truth.{left-true, right-true}
+use Rattle.effects.specs.Operands.{all-append}
 
 -- ---- every cell of code that passed
 

@@ -2,12 +2,12 @@
 -- Assumes nothing.
 use mathlib.Core.Path.{_≡_, refl, sym, ap, _∙_}
 use mathlib.Core.Logic.{inl, inr}
-use mathlib.Core.Bool.{Bool, true, false, _&&_}
+use mathlib.Core.Bool.{Bool, true, _&&_}
 use mathlib.Core.List.{List, [], _∷_}
 use Prim.Native.Nat.{ℕ}
-use native.Mathlib.Omega.{arith}
 use types.Run.{OneOf}
 use denote.Enum.Declared.{tagOf}
+use Rattle.words.specs.Truth.{both}
 use Rattle.instruction.proofs.Class.{the-type}
 use Rattle.instruction.specs.declared.Class.{Class}
 use Rattle.instruction.specs.declared.Class.the-variants.{Hint, LoadInt, LoadConst, Copy, CopyN, Unary, Binary, Jump, JumpIf, JumpIfNot, ForLoop, Return, Panic, Outside, Invalid}
@@ -48,10 +48,6 @@ by-tags P k (j ∷ js) h x (inr o) = by-tags P j js (h .1) x o
 abbrev all : (Class → Bool) → List ℕ → Bool
 all f [] = true
 all f (k ∷ ks) = f (namedClass k) && all f ks
-
-both : (s t : Bool) → (s && t) ≡ true → (s ≡ true) × (t ≡ true)
-both true t e = (refl, e)
-both false t e = let z : _≡_ {A = ℕ} 0 1 = cc in absurd (omega arith)
 
 pub by-test : (f : Class → Bool) (k : ℕ) (ks : List ℕ) → all f (k ∷ ks) ≡ true → (x : Class) → OneOf (k ∷ ks) (tagOf the-type x) → f x ≡ true
 by-test f k [] h x e = rw (of-tag x k e) (both (f (namedClass k)) true h .0)

@@ -1,4 +1,4 @@
--- An instruction that is written is read back.
+-- An instruction that is written is read back; the class of a hint and of a jump.
 -- Assumes nothing.
 use mathlib.Core.Path.{_≡_, refl, sym, ap, _∙_}
 use mathlib.Core.List.{List, _++_}
@@ -8,7 +8,10 @@ use native.Mathlib.Omega.{arith}
 use lib.ListN.{length, getD}
 use Rattle.words.specs.Inside.{get-inside, mid-inside}
 use Rattle.words.specs.Le.{fromLe, toLe, length-toLe}
-use Rattle.instruction.specs.Instruction.{instructionAt, toWord, ofWord, of-to, Fields}
+use Rattle.instruction.specs.Opcode as op
+use Rattle.instruction.specs.declared.Class.the-variants.{Hint, Jump}
+use Rattle.instruction.specs.Class.{classOf, single}
+use Rattle.instruction.specs.Instruction.{instructionAt, toWord, ofWord, of-to, Fields, class}
 use Rattle.instruction.specs.declared.Instruction.{Instruction}
 
 -- only the eight bytes of a place count
@@ -47,3 +50,11 @@ of-bytes w =
 
 pub read-back : (a b : List ℕ) (k : ℕ) (i : Instruction) → length a ≡ 8 * k → Fields i → instructionAt (a ++ toLe 8 (toWord i) ++ b) k ≡ i
 read-back a b k i long f = at-place a (toLe 8 (toWord i)) b k long (length-toLe 8 (toWord i)) ∙ of-bytes (toWord i) ∙ of-to i f
+
+pub hint-class : (i : Instruction) → i .op ≡ op.Hint → class i ≡ Hint
+unfolding classOf single
+hint-class i e = rw e
+
+pub jump-class : (i : Instruction) → i .op ≡ op.Jump → class i ≡ Jump
+unfolding classOf single
+jump-class i e = rw e

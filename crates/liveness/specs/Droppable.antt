@@ -24,7 +24,8 @@ use Rattle.effects.specs.Effects.{reads, arrays, allReads, writes, rangeWithin,
 use Rattle.effects.specs.Form.{emptyRange}
 use Rattle.effects.specs.Check.{operandRefusal}
 use Rattle.effects.specs.Cells.{cellOf, cellsBy, cells-long, cell-at}
-use Rattle.effects.specs.Operands.{left-true, right-true, cases-inside}
+use Rattle.words.specs.Truth.{left-true, right-true}
+use Rattle.effects.specs.Operands.{cases-inside}
 use Rattle.effects.specs.Sound.{Sound, sound, isOutside, writesByClass, writes-by-class}
 use Rattle.flow.specs.Branch.{branchInside}
 use Rattle.flow.specs.Block.{blockOf, blockCount}

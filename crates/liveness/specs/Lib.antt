@@ -2,7 +2,6 @@ pub mod Live
 pub mod Dead
 pub mod Sets
 pub mod Touched
-pub mod Only
 pub mod Wordwise
 pub mod Through
 pub mod Rows

@@ -20,7 +20,7 @@ use Rattle.effects.specs.Form.{emptyRange}
 use Rattle.effects.specs.Sound.{writesByClass}
 use Rattle.flow.specs.Branch.{branchInside}
 use Rattle.liveness.specs.declared.Layout.{Layout}
-use Rattle.liveness.specs.Only.{At, Either, Only, only-both, only-more, mid-mid, same-mid, put-mid}
+use Rattle.words.specs.Only.{At, Either, Only, only-both, only-more, mid-mid, same-mid, put-mid}
 use Rattle.liveness.specs.Out.{OutOf}
 use Rattle.liveness.specs.Shown.{rowAt, row-before}
 use Rattle.liveness.specs.Through.{Summary}

@@ -16,7 +16,7 @@ use Rattle.words.specs.Bits.{member}
 use Rattle.effects.specs.declared.Range.{Range}
 use Rattle.effects.specs.Shape.{Tables, Sections, Cell, cellAt, noCell}
 use Rattle.effects.specs.Effects.{allReads, writes, rangeHas, rangeWithin, anyOf, allOf}
-use Rattle.effects.specs.Operands.{left-true, right-true}
+use Rattle.words.specs.Truth.{left-true, right-true}
 use Rattle.effects.specs.Sound.{within-slot}
 use Rattle.flow.specs.Block.{blockOf, blockCount}
 use Rattle.flow.specs.Blocks.{blockStart, Walk, block-walk, starting, start-end, start-first}

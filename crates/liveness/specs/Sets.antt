@@ -16,7 +16,6 @@ use Rattle.words.specs.Bits.{member, inserted, removed, one-shl, member-inserte
 use Rattle.effects.specs.declared.Range.{Range}
 use Rattle.effects.specs.Effects.{rangeHas, rangeWithin, anyOf, allOf}
 use Rattle.effects.specs.Form.{emptyRange}
-use Rattle.effects.specs.Operands.{left-true, right-true}
 
 -- the slots that f has are in the set if b says so, and else are not; all others are as they were
 abbrev pub Put : Bool → (ℕ → Bool) → List ℕ → List ℕ → Type 0

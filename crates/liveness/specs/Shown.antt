@@ -1,14 +1,14 @@
 -- Rows in lent words: w words to a row, block b's at w * b.
 -- Assumes nothing.
-use mathlib.Core.Path.{_≡_, refl, sym, ap, _∙_}
+use mathlib.Core.Path.{_≡_, sym, ap, _∙_}
 use mathlib.Core.Bool.{Bool, true, false}
-use mathlib.Core.List.{List, [], _∷_}
-use Prim.Native.Nat.{ℕ, zero, suc, _+_, _*_, _-_, _/_, _%_, _^_, _≤_, _<_}
+use mathlib.Core.List.{List}
+use Prim.Native.Nat.{ℕ, _+_, _*_, _-_, _/_, _%_, _^_, _≤_, _<_}
 use native.Mathlib.Nat.{mul-suc, mul-le-mul-left, zero-div}
 use native.Mathlib.Decide.{ℕ-discrete, decLe}
 use native.Mathlib.Omega.{arith}
 use lib.Dec.{eqb}
-use lib.ListN.{length, getD, set, replicate, length-set}
+use lib.ListN.{length, getD, set, length-set, List·getD-eq-default}
 use lib.Seq.{getD-set-same, getD-set-other, ext-getD}
 use borrow.Rule.Slice.PartMut.{midOf, putMid}
 use Rattle.words.specs.Bits.{member}
@@ -30,19 +30,14 @@ pub record Shown (w : ℕ) (none : Row) (rows : List Row) (l : List ℕ) : Type 
 pub row-before : (w a b : ℕ) → a < b → w * a + w ≤ w * b
 row-before w a b h = rw (← mul-suc w a) (mul-le-mul-left w h)
 
-past-word : (l : List ℕ) (j : ℕ) → length l ≤ j → getD l j 0 ≡ 0
-past-word [] j h = refl
-past-word (x ∷ l) zero h = absurd (omega arith)
-past-word (x ∷ l) (suc j) h = past-word l j (omega arith)
-
 pub member-past : (l : List ℕ) (t : ℕ) → 64 * length l ≤ t → member l t ≡ false
 unfolding member
-member-past l t h = rw (past-word l (t / 64) (omega arith), zero-div (2 ^ (t % 64)))
+member-past l t h =
+    let past : length l ≤ t / 64 = omega arith in
+    rw (List·getD-eq-default l 0 past, zero-div (2 ^ (t % 64)))
 
 pub bit-past : (r : Row) (t : ℕ) → length r ≤ t → getD r t false ≡ false
-bit-past [] t h = refl
-bit-past (x ∷ r) zero h = absurd (omega arith)
-bit-past (x ∷ r) (suc t) h = bit-past r t (omega arith)
+bit-past r t h = List·getD-eq-default r false h
 
 module _ (w : ℕ) (l ys : List ℕ) (b : ℕ) (fits : w * b + w ≤ length l) (long : length ys ≡ w) where
   pub row-same : rowAt w (putMid (w * b) w l ys) b ≡ ys

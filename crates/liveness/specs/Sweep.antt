@@ -1,10 +1,11 @@
--- The sweep over all places in lent memory is the sweep over the rows.
+-- The sweep over all places in lent memory is the sweep over the rows; it leaves flags.
 -- Assumes nothing.
 use mathlib.Core.Path.{_≡_, refl, sym, ap, _∙_}
 use mathlib.Core.Logic.{inl, inr}
 use mathlib.Core.Bool.{Bool, true, false, cond, not, _&&_, false≢true}
-use mathlib.Core.List.{List, _∷_, _++_, append-nil}
-use Prim.Native.Nat.{ℕ, zero, suc, _+_, _<_}
+use mathlib.Core.List.{List, [], _∷_, _++_, append-nil}
+use mathlib.Core.Option.{Option, none, some}
+use Prim.Native.Nat.{ℕ, zero, suc, _+_, _≤_, _<_}
 use native.Mathlib.Decide.{decLe}
 use native.Mathlib.Omega.{arith}
 use lib.ListN.{length, getD, set, take, drop, List·getD-append}
@@ -20,8 +21,8 @@ use Rattle.flow.specs.Block.{blockOf, blockCount}
 use Rattle.flow.specs.Marks.{Marked}
 use Rattle.flow.specs.Flags.{Flags, flag}
 use Rattle.pc_map.specs.Boundary.{isKept}
-use Rattle.liveness.specs.Live.{Row, liveBefore, edges, isLast, joined, liveAfter, noRow}
-use Rattle.liveness.specs.Dead.{isDead, sweptAt, sweepFrom}
+use Rattle.liveness.specs.Live.{Row, liveBefore, edges, isLast, joined, liveAfter, liveRows, noRow}
+use Rattle.liveness.specs.Dead.{isDead, sweptAt, sweepFrom, withoutDead, deadStores}
 use Rattle.liveness.specs.Dead as dead
 use Rattle.liveness.specs.Touched.{Within, Before}
 use Rattle.liveness.specs.Rows.{Wide, before-bit, before-long, after-long}
@@ -117,34 +118,26 @@ module _ (S : Sections) (leaders keep₀ : List ℕ) (cells : List Cell) (rows :
     module _ (keep row row₁ keep′ row′ : List ℕ) (q : ℕ) (h : q < length cells) (s : SweepFrom keep row (suc q))
         (e : Entered (isLast (length cells) leaders q) w live blocks (length cells) q (cellAt cells q .instruction) row row₁)
         (v : Swept (S .tables) (isKept keep q) (deadBy (S .types) row₁ (cellAt cells q .instruction)) (cellAt cells q) q keep keep′ row₁ row′) where
+      -- a place that is not the last of its block has a next one
+      next : isLast (length cells) leaders q ≡ false → suc q < length cells
+      next f = elim (decLe (length cells) (suc q)) [
+        | yes m ↦
+            let d : suc q ≡ length cells = omega arith in
+            let z : _≡_ {A = Bool} true false = rw (eq-eqb (suc q) (length cells) d) at f in
+            absurd (false≢true (sym z))
+        | no m ↦ omega arith
+      ]
+
       after-holds : Holds row₁ (afterAt q)
       unfolding liveAfter
       after-holds = go (isLast (length cells) leaders q) refl
         where
-          next : isLast (length cells) leaders q ≡ false → suc q < length cells
-          next f = elim (decLe (length cells) (suc q)) [
-            | yes m ↦
-                let d : suc q ≡ length cells = omega arith in
-                let z : _≡_ {A = Bool} true false = rw (eq-eqb (suc q) (length cells) d) at f in
-                absurd (false≢true (sym z))
-            | no m ↦ omega arith
-          ]
-
           go : (t : Bool) → isLast (length cells) leaders q ≡ t → Holds row₁ (cond t (joined S (length cells) leaders keep₀ rows (edges (length cells) q (cellAt cells q))) (sweepAt (suc q) .before))
           go true f = out-holds S (length cells) leaders keep₀ (g .long) (g .flags) (g .one) w rows live blocks (g .each) (g .numbers) (g .shown) q (cellAt cells q) row₁ (g .inside q h) (e .yes f)
           go false f = rw (e .no f) (s .held (next f))
 
       after-wide : length (afterAt q) ≡ S .locals
       after-wide = after-long S (length cells) leaders keep₀ rows (g .wide) q (cellAt cells q) (sweepAt (suc q) .before) (λ f. s .broad (next f))
-        where
-          next : isLast (length cells) leaders q ≡ false → suc q < length cells
-          next f = elim (decLe (length cells) (suc q)) [
-            | yes m ↦
-                let d : suc q ≡ length cells = omega arith in
-                let z : _≡_ {A = Bool} true false = rw (eq-eqb (suc q) (length cells) d) at f in
-                absurd (false≢true (sym z))
-            | no m ↦ omega arith
-          ]
 
       same-dead : isDead S (cellAt cells q) (afterAt q) ≡ deadBy (S .types) row₁ (cellAt cells q .instruction)
       same-dead = dead-by S (cellAt cells q) (afterAt q) row₁ after-holds
@@ -202,3 +195,45 @@ module _ (S : Sections) (leaders keep₀ words metadata : List ℕ) (rows : List
 
 abbrev pub sections : ℕ → List ℕ → List ℕ → Tables → Sections
 sections locals types constants T = record { locals = locals; types = types; constants = constants; tables = T }
+
+-- ---- the places that stay are flags, one for each cell
+
+bit-flags : (l : List ℕ) (t : Bool) (m : List ℕ) → l ≡ cond t 1 0 ∷ m → Flags m → Flags l
+bit-flags l t m e f q = rw e (go t q)
+  where
+    go : (t : Bool) (q : ℕ) → getD (cond t 1 0 ∷ m) q 0 ≤ 1
+    go true zero = omega arith
+    go false zero = omega arith
+    go true (suc q) = f q
+    go false (suc q) = f q
+
+module _ (S : Sections) (leaders keep : List ℕ) (cells : List Cell) where
+  module _ (rows : List Row) where
+    pub sweep-flags : (p : ℕ) (xs : List Cell) → Flags (sweepFrom S (length cells) leaders keep rows p xs .keep)
+    unfolding sweepFrom
+    sweep-flags p [] = λ q. omega arith
+    sweep-flags p (x ∷ xs) =
+        let r : dead.Swept = sweepFrom S (length cells) leaders keep rows (suc p) xs in
+        let a : Row = liveAfter S (length cells) leaders keep rows p x (r .before) in
+        bit-flags _ (isKept keep p && not (isDead S x a)) (r .keep) (swept-keep S leaders keep cells rows x (isKept keep p) a r) (sweep-flags (suc p) xs)
+
+    pub sweep-long : (p : ℕ) (xs : List Cell) → length (sweepFrom S (length cells) leaders keep rows p xs .keep) ≡ length xs
+    unfolding sweepFrom
+    sweep-long p [] = refl
+    sweep-long p (x ∷ xs) = ap length (swept-keep S leaders keep cells rows x (isKept keep p) _ (sweepFrom S (length cells) leaders keep rows (suc p) xs)) ∙ ap suc (sweep-long (suc p) xs)
+
+  pub dead-flags : Flags keep → Flags (deadStores S leaders keep cells)
+  unfolding deadStores withoutDead
+  dead-flags f = go (liveRows S leaders keep cells)
+    where
+      go : (o : Option (List Row)) → Flags (withoutDead S leaders keep cells o)
+      go none = f
+      go (some rows) = sweep-flags rows 0 cells
+
+  pub dead-long : length keep ≡ length cells → length (deadStores S leaders keep cells) ≡ length cells
+  unfolding deadStores withoutDead
+  dead-long e = go (liveRows S leaders keep cells)
+    where
+      go : (o : Option (List Row)) → length (withoutDead S leaders keep cells o) ≡ length cells
+      go none = e
+      go (some rows) = sweep-long rows 0 cells

@@ -10,7 +10,7 @@ use borrow.Rule.Slice.PartMut.{midOf, putMid}
 use Rattle.instruction.specs.declared.Instruction.{Instruction}
 use Rattle.effects.specs.Shape.{Tables, Cell}
 use Rattle.liveness.specs.Touched.{Before}
-use Rattle.liveness.specs.Only.{At, Only, only-none, lent}
+use Rattle.words.specs.Only.{At, Only, only-none, lent}
 use Rattle.liveness.specs.Out.{OutOf}
 use Rattle.liveness.specs.Unread.{deadBy}
 

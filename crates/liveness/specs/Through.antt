@@ -12,7 +12,7 @@ use Rattle.words.specs.Bits.{member}
 use Rattle.effects.specs.Shape.{Tables, Cell, cellAt}
 use Rattle.effects.specs.Cells.{cellOf}
 use Rattle.pc_map.specs.Boundary.{isKept}
-use Rattle.liveness.specs.Only.{At, Either, Only, both-lent}
+use Rattle.words.specs.Only.{At, Either, Only, both-lent}
 use Rattle.liveness.specs.Sets.{Put}
 use Rattle.liveness.specs.Touched.{reading, writing, Fits, Before}
 use Rattle.liveness.specs.Wordwise.{none-in, all-in}

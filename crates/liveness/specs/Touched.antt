@@ -18,7 +18,8 @@ use Rattle.effects.specs.declared.Range.{Range}
 use Rattle.effects.specs.Shape.{Tables, Cell}
 use Rattle.effects.specs.Effects.{allReads, writes, rangeHas, rangeWithin, anyOf, allOf}
 use Rattle.effects.specs.Form.{emptyRange}
-use Rattle.effects.specs.Operands.{left-true, right-true}
+use Rattle.words.specs.Truth.{left-true, right-true}
+use Rattle.effects.specs.Operands.{all-at}
 use Rattle.effects.specs.Ranges.{CasesInside}
 use Rattle.effects.specs.Sound.{isOutside, readsByClass, writesByClass, reads-by-class, writes-by-class}
 use Rattle.liveness.specs.Sets.{Put, put-none, put-more, put-as, has-none}
@@ -59,10 +60,7 @@ before T x l l₁ l₂ p q t = q t ∙ rw (p t) (go (reading T x t) (writing T x
     go false false false = refl
 
 pub within-at : (s : ℕ) (l : List Range) → Within s l → (k : ℕ) → k < length l → rangeWithin s (getD l k emptyRange) ≡ true
-unfolding allOf
-within-at s [] e k h = absurd (omega arith)
-within-at s (r ∷ l) e zero h = left-true (rangeWithin s r) (allOf (rangeWithin s) l) e
-within-at s (r ∷ l) e (suc k) h = within-at s l (right-true (rangeWithin s r) (allOf (rangeWithin s) l) e) k (omega arith)
+within-at s l e k h = all-at (rangeWithin s) l e k h
 
 -- past the end is the empty range
 pub within-any : (s : ℕ) (l : List Range) → Within s l → (k : ℕ) → rangeWithin s (getD l k emptyRange) ≡ true

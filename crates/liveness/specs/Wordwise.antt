@@ -2,13 +2,13 @@
 -- Assumes nothing.
 use mathlib.Core.Path.{_≡_, refl, sym, ap, _∙_}
 use mathlib.Core.Bool.{Bool, true, false, cond, not, _&&_, _||_, false≢true}
-use mathlib.Core.List.{List, [], _∷_}
+use mathlib.Core.List.{List}
 use Prim.Native.Nat.{ℕ, zero, suc, _+_, _*_, _-_, _/_, _%_, _^_, _≤_, _<_, max, min}
 use native.Mathlib.Nat.{zero-div, pow-suc}
 use native.Mathlib.Decide.{ℕ-discrete, decLe}
 use native.Mathlib.Omega.{arith}
 use lib.Dec.{eqb}
-use lib.ListN.{length, getD, set, replicate, length-set, length-replicate}
+use lib.ListN.{length, getD, set, replicate, length-set, length-replicate, List·getD-eq-default}
 use lib.Seq.{getD-set-same, getD-set-other, ext-getD}
 use lib.Pow.{shr-shr, shr-lt}
 use lib.Bits.{bitAnd, bitOr, bitXor, or-add-and, xor-add-and, and-le-l, and-le-r, xor-self, or-zero-l, and-zero-l}
@@ -16,8 +16,8 @@ use borrow.Author.Tests.{eqb-true, eqb-false, eq-eqb}
 use Rattle.words.specs.Lists.{every, every-at}
 use borrow.Rule.Slice.PartMut.{midOf}
 use Rattle.words.specs.Bits.{bit, member, bit-or, bit-and}
-use Rattle.words.specs.Regions.{mid-long, get-mid}
-use Rattle.liveness.specs.Only.{At, Only, only-both, only-set, mid-set}
+use Rattle.words.specs.Regions.{mid-long, get-mid, mid-set}
+use Rattle.words.specs.Only.{At, Only, only-both, only-set}
 
 -- ---- a loop that stores f k at each place k, from 0 up
 
@@ -43,9 +43,7 @@ module _ (f : ℕ → ℕ) (l₀ : List ℕ) where
       rest j g = let d : j ≡ k → ⊥ = λ e. omega arith in rw (getD-set-other l k j v 0 d) (s .rest j (omega arith))
 
 get-past : (l : List ℕ) (j : ℕ) → length l ≤ j → getD l j 0 ≡ 0
-get-past [] j h = refl
-get-past (x ∷ l) zero h = absurd (omega arith)
-get-past (x ∷ l) (suc j) h = get-past l j (omega arith)
+get-past l j h = List·getD-eq-default l 0 h
 
 -- at the end, at every place
 pub stored-end : (f : ℕ → ℕ) (l₀ l : List ℕ) (k : ℕ) → Stored f l₀ l k → length l₀ ≤ k → ((j : ℕ) → length l₀ ≤ j → f j ≡ 0) → (j : ℕ) → getD l j 0 ≡ f j
@@ -235,12 +233,12 @@ module _ (m₀ m : List ℕ) (a w k : ℕ) (o : Only (At a w) m₀ m) (room : a 
     part-old s = sym (get-mid m a w k 0 h) ∙ s .rest k (omega arith)
 
     pub part-turn : (v : ℕ) → Stored f (midOf a w m₀) (midOf a w m) k → v ≡ f k → Stored f (midOf a w m₀) (midOf a w (set m (a + k) v)) (k + 1)
-    part-turn v s e = rw (mid-set m a w within k v h) (stored-turn f (midOf a w m₀) (midOf a w m) k v s (rw (mid-long m a w within) h) e)
+    part-turn v s e = rw (mid-set m a w k v h) (stored-turn f (midOf a w m₀) (midOf a w m) k v s (rw (mid-long m a w within) h) e)
 
     pub part-moves : (d v : ℕ) → Storing f (midOf a w m₀) (midOf a w m) k d → v ≡ f k → getD m (a + k) 0 < 2 ^ 64 → f k < 2 ^ 64
         → Storing f (midOf a w m₀) (midOf a w (set m (a + k) v)) (k + 1) (bitOr d (bitXor (getD m (a + k) 0) v))
     part-moves d v s e old new =
-        rw (mid-set m a w within k v h, ← get-mid m a w k 0 h)
+        rw (mid-set m a w k v h, ← get-mid m a w k 0 h)
         (storing-turn f (midOf a w m₀) (midOf a w m) k d v s (rw (mid-long m a w within) h) e (rw (get-mid m a w k 0 h) old) new)
 
 -- ---- all slots or none

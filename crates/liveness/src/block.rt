@@ -8,7 +8,7 @@ ghost use Rattle.effects.specs.Shape.{tablesOf};
 ghost use Rattle.effects.specs.Cells.{cellOf, cellsBy};
 ghost use Rattle.pc_map.specs.Boundary.{isKept};
 ghost use Rattle.liveness.specs.Memory.{Laid, codeOf, usesOf, preservedOf, liveOf};
-ghost use Rattle.liveness.specs.Only.{At, Either, Only};
+ghost use Rattle.words.specs.Only.{At, Either, Only};
 ghost use Rattle.liveness.specs.Touched.{Fits};
 ghost use Rattle.liveness.specs.Through.{Placed, Summary};
 ghost use Rattle.liveness.specs.Visit.{Rising, Summed};

@@ -5,7 +5,7 @@ ghost use Prim.Native.Nat.{_+_, _*_, _≤_, _<_};
 ghost use lib.ListN.{length, getD};
 ghost use Rattle.instruction.specs.Instruction.{ofWord};
 ghost use Rattle.liveness.specs.Memory.{Laid, Coded, rowOf, liveOf};
-ghost use Rattle.liveness.specs.Only.{At, Only};
+ghost use Rattle.words.specs.Only.{At, Only};
 ghost use Rattle.liveness.specs.Out.{JoinedIf, OutOf};
 use crate::Layout;
 use crate::row;

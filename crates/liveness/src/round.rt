@@ -8,7 +8,7 @@ ghost use Rattle.effects.specs.Shape.{Sections};
 ghost use Rattle.effects.specs.Cells.{cellsBy};
 ghost use Rattle.liveness.specs.Live.{Row};
 ghost use Rattle.liveness.specs.Memory.{Ready, InRows, codeOf, usesOf, preservedOf, liveOf};
-ghost use Rattle.liveness.specs.Only.{Only};
+ghost use Rattle.words.specs.Only.{Only};
 ghost use Rattle.liveness.specs.Rounding.{Around, Rounded};
 ghost use Rattle.liveness.specs.Solving.{Solved};
 ghost use Rattle.liveness.specs.Visit.{Visited};

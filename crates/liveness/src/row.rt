@@ -10,7 +10,7 @@ ghost use Rattle.words.specs.Bits.{member};
 ghost use Rattle.effects.specs.Effects.{rangeHas, rangeWithin};
 ghost use Rattle.liveness.specs.Sets.{Put, range};
 ghost use Rattle.liveness.specs.Wordwise.{Moved};
-ghost use Rattle.liveness.specs.Only.{At, Only};
+ghost use Rattle.words.specs.Only.{At, Only};
 use effects::Range;
 use words::bits;
 

@@ -14,7 +14,7 @@ ghost use Rattle.pc_map.specs.Boundary.{isKept};
 ghost use Rattle.liveness.specs.Live.{Row, isLast};
 ghost use Rattle.liveness.specs.Dead.{sweepFrom};
 ghost use Rattle.liveness.specs.Memory.{Laid, Coded, Sweepable, codeOf, rowOf, liveOf, leadersOf, blocksOf, flagsAt, flagsOf};
-ghost use Rattle.liveness.specs.Only.{At, Only};
+ghost use Rattle.words.specs.Only.{At, Only};
 ghost use Rattle.liveness.specs.Touched.{Fits};
 ghost use Rattle.liveness.specs.Unread.{Spans, deadBy};
 ghost use Rattle.liveness.specs.Sweeping.{Entered, Swept};

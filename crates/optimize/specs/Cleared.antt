@@ -14,7 +14,7 @@ use Rattle.words.specs.Lists.{mapFrom, length-mapFrom, getD-mapFrom}
 use Rattle.words.specs.Regions.{mid-long, get-mid}
 use Rattle.effects.specs.Shape.{Cell, noCell}
 use Rattle.effects.specs.Cells.{cellOf, cellsBy, cells-long, cell-at}
-use Rattle.liveness.specs.Only.{At, Only}
+use Rattle.words.specs.Only.{At, Only}
 
 -- the places below p are done
 pub record Cleared (test : ℕ → Bool) (xs w : List ℕ) (p : ℕ) : Type 0 where

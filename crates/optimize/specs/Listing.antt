@@ -10,12 +10,11 @@ use borrow.Rule.Slice.PartMut.{midOf, putMid}
 use Rattle.words.specs.Regions.{mid-long, put-long, Outside, outside-front}
 use Rattle.unit.specs.Size.{work32Room, maxInstructions}
 use Rattle.flow.specs.Flags.{Flags, sum-most}
-use Rattle.liveness.specs.Only.{mid-mid}
+use Rattle.words.specs.Only.{mid-mid, back-within}
 use Rattle.pc_map.specs.Boundary.{boundary}
 use Rattle.pc_map.specs.Listed.{keptList}
 use Rattle.optimize.specs.Jumping.{mapOf}
 use Rattle.optimize.specs.Kept.{keepAt, listAt, Retains}
-use Rattle.optimize.specs.Steps.{back-within}
 
 module _ {n : ℕ} {metadata types constants functions externs cases work32 work64 work32′ work64′ : List ℕ} (d : Retains n metadata types constants functions externs cases work32 work64 work32′ work64′)
     (few : n ≤ maxInstructions) (room : work32Room n ≤ length work32′) where

@@ -1,105 +1,33 @@
 -- The three steps that drop places, in lent memory.
 -- Assumes nothing.
 use mathlib.Core.Path.{_≡_, refl, sym, ap, _∙_}
-use mathlib.Core.Logic.{_⊎_, inl, inr}
-use mathlib.Core.Bool.{Bool, true, false, cond, _&&_, not}
 use mathlib.Core.List.{List, [], _∷_, _++_}
-use mathlib.Core.Option.{Option, none, some}
-use Prim.Native.Nat.{ℕ, zero, suc, _+_, _*_, _-_, _≤_, _<_}
+use Prim.Native.Nat.{ℕ, _+_, _*_, _-_, _≤_, _<_}
 use native.Mathlib.Nat.{add-zero, zero-add}
 use native.Mathlib.Omega.{arith}
 use lib.Dec.{eqb}
-use lib.ListN.{length, getD, take, set, replicate, length-set, length-replicate, length-append}
+use lib.ListN.{length, set, replicate, length-set, length-replicate}
 use lib.Seq.{take-at, drop-at, take-length}
 use borrow.Rule.Slice.PartMut.{midOf, putMid, postOf}
-use Rattle.words.specs.Lists.{mapFrom, length-mapFrom, tabulate, length-tabulate}
+use Rattle.words.specs.Only.{mid-mid, back-within, back-before, back-after}
 use Rattle.words.specs.Regions.{mid-long, put-long, mid-put}
 use Rattle.unit.specs.Size.{metadataSize, work32Room, work64Room, maxInstructions}
-use Rattle.effects.specs.Shape.{Tables, Sections, Cell, tablesOf}
+use Rattle.effects.specs.Shape.{Tables, Cell, tablesOf}
 use Rattle.effects.specs.Cells.{cellOf, cellsBy, cells-long}
 use Rattle.flow.specs.Blocks.{Numbered, numbered-start}
 use Rattle.flow.specs.BranchLaws.{BranchesInside}
 use Rattle.flow.specs.Flags.{Flags}
-use Rattle.flow.specs.Loop.{anchors, loopEnds, isPlainHint}
+use Rattle.flow.specs.Loop.{anchors, loopEnds}
 use Rattle.flow.specs.Reach.{markAll}
 use Rattle.flow.specs.Marks.{Marked}
-use Rattle.liveness.specs.Dead.{Swept, sweptAt, sweepFrom, withoutDead, deadStores, isDead}
+use Rattle.liveness.specs.Dead.{deadStores}
 use Rattle.liveness.specs.Droppable.{Droppable}
-use Rattle.liveness.specs.Sweep.{swept-keep}
-use Rattle.pc_map.specs.Boundary.{isKept, boundary}
-use Rattle.run.specs.Jumps.{rounds-bits, rounds-long}
-use Rattle.run.specs.Optimized.{bits-of}
-use Rattle.liveness.specs.Live.{Row, liveAfter, liveRows}
-use Rattle.answer.specs.Jump.{jumpRounds}
+use Rattle.liveness.specs.Sweep.{dead-long}
+use Rattle.run.specs.Optimized.{useful-long}
 use Rattle.answer.specs.Pass.{keptPlaces, usefulPlaces}
 use Rattle.optimize.specs.Jumping.{Rounds, endsIn, mapOf}
 use Rattle.optimize.specs.Parts.{sectionsIn}
 use Rattle.optimize.specs.Kept.{keepAt, endsAt, Useful, Stored, Retainable, Retains}
-use Rattle.optimize.specs.Steps.{back-within, back-before, back-after}
-use Rattle.liveness.specs.Only.{mid-mid}
-
--- ---- flags stay flags
-
-useful-from : (marks : List ℕ) → Flags marks → (p : ℕ) (cells : List Cell) → Flags (mapFrom (λ p x. cond (isPlainHint (x .instruction)) 0 (getD marks p 0)) p cells)
-unfolding mapFrom
-useful-from marks f p [] q = omega arith
-useful-from marks f p (x ∷ cells) zero = go (isPlainHint (x .instruction))
-  where
-    go : (t : Bool) → cond t 0 (getD marks p 0) ≤ 1
-    go true = omega arith
-    go false = f p
-useful-from marks f p (x ∷ cells) (suc q) = useful-from marks f (suc p) cells q
-
-pub useful-flags : (marks : List ℕ) (cells : List Cell) → Flags marks → Flags (usefulPlaces marks cells)
-unfolding usefulPlaces
-useful-flags marks cells f = useful-from marks f 0 cells
-
-pub useful-long : (marks : List ℕ) (cells : List Cell) → length (usefulPlaces marks cells) ≡ length cells
-unfolding usefulPlaces
-useful-long marks cells = length-mapFrom _ 0 cells
-
-bit-flags : (l : List ℕ) (t : Bool) (m : List ℕ) → l ≡ cond t 1 0 ∷ m → Flags m → Flags l
-bit-flags l t m e f q = rw e (go t q)
-  where
-    go : (t : Bool) (q : ℕ) → getD (cond t 1 0 ∷ m) q 0 ≤ 1
-    go true zero = omega arith
-    go false zero = omega arith
-    go true (suc q) = f q
-    go false (suc q) = f q
-
-module _ (S : Sections) (leaders keep : List ℕ) (cells : List Cell) where
-  module _ (rows : List Row) where
-    sweep-flags : (p : ℕ) (xs : List Cell) → Flags (sweepFrom S (length cells) leaders keep rows p xs .keep)
-    unfolding sweepFrom
-    sweep-flags p [] = λ q. omega arith
-    sweep-flags p (x ∷ xs) =
-        let r : Swept = sweepFrom S (length cells) leaders keep rows (suc p) xs in
-        let a : Row = liveAfter S (length cells) leaders keep rows p x (r .before) in
-        bit-flags _ (isKept keep p && not (isDead S x a)) (r .keep) (swept-keep S leaders keep cells rows x (isKept keep p) a r) (sweep-flags (suc p) xs)
-
-    sweep-long : (p : ℕ) (xs : List Cell) → length (sweepFrom S (length cells) leaders keep rows p xs .keep) ≡ length xs
-    unfolding sweepFrom
-    sweep-long p [] = refl
-    sweep-long p (x ∷ xs) = ap length (swept-keep S leaders keep cells rows x (isKept keep p) _ (sweepFrom S (length cells) leaders keep rows (suc p) xs)) ∙ ap suc (sweep-long (suc p) xs)
-
-  pub dead-flags : Flags keep → Flags (deadStores S leaders keep cells)
-  unfolding deadStores withoutDead
-  dead-flags f = go (liveRows S leaders keep cells)
-    where
-      go : (o : Option (List Row)) → Flags (withoutDead S leaders keep cells o)
-      go none = f
-      go (some rows) = sweep-flags rows 0 cells
-
-  pub dead-long : length keep ≡ length cells → length (deadStores S leaders keep cells) ≡ length cells
-  unfolding deadStores withoutDead
-  dead-long e = go (liveRows S leaders keep cells)
-    where
-      go : (o : Option (List Row)) → length (withoutDead S leaders keep cells o) ≡ length cells
-      go none = e
-      go (some rows) = sweep-long rows 0 cells
-
-pub rounds-flags : (k : ℕ) (ends keep : List ℕ) (cells : List Cell) → Flags keep → Flags (jumpRounds k ends cells keep)
-rounds-flags k ends keep cells f p = elim (rounds-bits ends cells k keep (bits-of keep f) p) [ inl e ↦ rw e (omega arith) | inr e ↦ rw e (omega arith) ]
 
 mark-long : (l qs : List ℕ) → length (markAll l qs) ≡ length l
 unfolding markAll

@@ -13,6 +13,7 @@ use lib.ListN.{length, getD, take, set, replicate, length-set, length-replicate,
 use lib.Seq.{take-at, drop-at, take-length}
 use borrow.Rule.Slice.PartMut.{midOf, putMid, postOf}
 use Rattle.words.specs.Lists.{mapFrom, length-mapFrom, tabulate, length-tabulate}
+use Rattle.words.specs.Only.{mid-mid, back-within, back-before}
 use Rattle.words.specs.Regions.{mid-long, put-long, mid-put}
 use Rattle.unit.specs.Size.{metadataSize, work32Room, work64Room, maxInstructions}
 use Rattle.effects.specs.Shape.{Tables, Sections, Cell, tablesOf}
@@ -27,17 +28,15 @@ use Rattle.liveness.specs.Dead.{Swept, sweptAt, sweepFrom, withoutDead, deadSto
 use Rattle.liveness.specs.Droppable.{Droppable}
 use Rattle.liveness.specs.Sweep.{swept-keep}
 use Rattle.pc_map.specs.Boundary.{isKept, boundary}
-use Rattle.run.specs.Jumps.{rounds-bits, rounds-long}
-use Rattle.run.specs.Optimized.{bits-of}
+use Rattle.liveness.specs.Sweep.{dead-flags, dead-long}
+use Rattle.run.specs.Jumps.{rounds-flags, rounds-long}
+use Rattle.run.specs.Optimized.{useful-flags, useful-long}
 use Rattle.liveness.specs.Live.{Row, liveAfter, liveRows}
 use Rattle.answer.specs.Jump.{jumpRounds}
 use Rattle.answer.specs.Pass.{keptPlaces, usefulPlaces}
 use Rattle.optimize.specs.Jumping.{Rounds, endsIn, mapOf}
 use Rattle.optimize.specs.Parts.{sectionsIn}
 use Rattle.optimize.specs.Kept.{keepAt, endsAt, Useful, Stored, Retainable, Retains}
-use Rattle.optimize.specs.Retained.{useful-flags, useful-long, dead-flags, dead-long, rounds-flags}
-use Rattle.optimize.specs.Steps.{back-within, back-before, back-after}
-use Rattle.liveness.specs.Only.{mid-mid}
 
 module _ (n k : ℕ) (metadata types functions externs cases work32 work64 hinted : List ℕ) (e : k ≡ n)
     (d : Retainable (tablesOf functions externs cases) n (midOf 0 n work64) metadata types (midOf 0 n work32) (midOf (keepAt n) n work32) (length work32) (length work64))
@@ -205,7 +204,7 @@ module _ (n k : ℕ) (metadata types functions externs cases work32 work64 hinte
           ∙ ap (λ (m : ℕ). take m (mapOf keep)) (sym map-size) ∙ take-length (mapOf keep) in
           record {
             keep = at;
-            flags = rw at (rounds-flags 16 (anchors marks cells) (dead constants) cells (dead-ok constants));
+            flags = rw at (rounds-flags (anchors marks cells) cells 16 (dead constants) (dead-ok constants));
             bounds = bounds ∙ ap mapOf (sym at);
             code = code₂;
           }

@@ -1,7 +1,6 @@
 -- The loops of the jump rounds: what a round and all of them leave in lent memory.
 -- Assumes nothing.
 use mathlib.Core.Path.{_≡_, refl, sym, ap, _∙_}
-use mathlib.Core.Logic.{inl, inr}
 use mathlib.Core.Bool.{Bool, true, false, cond, _&&_, not}
 use mathlib.Core.List.{List, [], _++_}
 use Prim.Native.Nat.{ℕ, zero, suc, _+_, _*_, _-_, _≤_, _<_}
@@ -13,30 +12,25 @@ use lib.Seq.{take-at, take-all, drop-at}
 use borrow.Author.Tests.{eqb-true}
 use borrow.Rule.Slice.PartMut.{putMid, midOf}
 use Rattle.words.specs.Lists.{tabulate, length-tabulate, getD-tabulate}
+use Rattle.words.specs.Only.{At, Only, only-none, only-put, only-more, only-both, put-only, same-mid, back-within}
 use Rattle.words.specs.Regions.{mid-long, get-mid, mid-add, mid-put}
 use Rattle.instruction.specs.declared.Instruction.{Instruction}
 use Rattle.instruction.specs.declared.Class.the-variants.{Jump}
-use Rattle.instruction.specs.Class.{classOf, single}
-use Rattle.instruction.specs.Instruction.{class, ofWord}
+use Rattle.instruction.specs.Instruction.{ofWord}
+use Rattle.instruction.specs.Laws.{jump-class}
 use Rattle.instruction.specs.Opcode as op
 use Rattle.effects.specs.Shape.{Cell}
 use Rattle.effects.specs.Cells.{cellOf, cellsBy, cells-long}
 use Rattle.flow.specs.Branch.{branches, target, branchInside}
 use Rattle.flow.specs.BranchLaws.{BranchesInside, inside-target}
-use Rattle.flow.specs.Flags.{Flags, flag}
+use Rattle.flow.specs.Flags.{Flags}
 use Rattle.pc_map.specs.Boundary.{boundary}
 use Rattle.answer.specs.Jump.{isIdle, dropIdle, jumpRounds}
-use Rattle.run.specs.Jumps.{round-long, rounds-bits}
-use Rattle.liveness.specs.Only.{At, Only, only-none, only-put, only-more, only-both, put-only, same-mid}
-use Rattle.optimize.specs.Steps.{back-within}
+use Rattle.run.specs.Jumps.{round-long, round-flags}
 use Rattle.optimize.specs.Jumping.{Rounds, endsIn, mapOf, idleIn}
 use Rattle.optimize.specs.Cleared.{Cleared, cleared-cells, cleared-only}
 
 -- ---- the test of a jump
-
-jump-class : (i : Instruction) → i .op ≡ op.Jump → class i ≡ Jump
-unfolding classOf single
-jump-class i e = rw e
 
 -- a jump stays inside
 pub jump-inside : (words : List ℕ) → BranchesInside words → (p : ℕ) → p < length words → (i : Instruction) → i ≡ ofWord (getD words p 0) → i .op ≡ op.Jump
@@ -106,10 +100,6 @@ module _ (ends : List ℕ) (cells : List Cell) where
   unfolding jumpRounds
   rounds-same zero keep e = refl
   rounds-same (suc k) keep e = ap (jumpRounds k ends cells) e ∙ rounds-same k keep e
-
-  round-flags : (keep : List ℕ) → Flags keep → Flags (dropIdle ends cells keep)
-  unfolding jumpRounds
-  round-flags keep f p = elim (rounds-bits ends cells 1 keep (flag keep f) p) [ inl e ↦ omega arith | inr e ↦ omega arith ]
 
 -- the work with these kept places and this map; the rest, and so the loop ends, are as they were
 pub record Holds (n : ℕ) (work work′ keep map : List ℕ) : Type 0 where

@@ -9,7 +9,8 @@ use native.Mathlib.Nat.{add-zero}
 use lib.ListN.{length, getD, take}
 use lib.Seq.{take-at}
 use borrow.Rule.Slice.PartMut.{midOf, putMid, postOf}
-use Rattle.words.specs.Regions.{mid-long, get-mid, put-long, mid-put}
+use Rattle.words.specs.Only.{back-within, back-before}
+use Rattle.words.specs.Regions.{mid-long, get-mid}
 use Rattle.instruction.specs.Instruction.{class, ofWord}
 use Rattle.unit.specs.Size.{instructionSize, metadataSize, resultSize, work32Room, maxInstructions, maxLocalSlots}
 use Rattle.effects.specs.declared.Check.{Check}
@@ -27,7 +28,6 @@ use Rattle.pc_map.specs.Listed.{keptList, Listed}
 use Rattle.optimize.specs.Parts.{numberedCode, reachedMarks, wordsOf}
 use Rattle.answer.specs.Pass.{removal}
 use Rattle.optimize.specs.Parts.{cellsIn}
-use Rattle.liveness.specs.Only.{At, Only, only-put, same-mid, mid-mid}
 use Rattle.optimize.specs.Kept.{keepAt, listAt}
 
 -- the code is numbered
@@ -66,17 +66,6 @@ pub record Finished (n : ℕ) (code metadata : List ℕ) (out : ℕ) (work32 wor
   pub room : resultSize n ≤ out
   pub long32 : work32Room n ≤ length work32
   pub long64 : n ≤ length work64
-
--- ---- a part that was lent is back
-module _ (xs : List ℕ) (a k : ℕ) (ys : List ℕ) (h : a + k ≤ length xs) (e : length ys ≡ k) where
-  pub back-within : (i j : ℕ) → i + j ≤ k → midOf (a + i) j (putMid a k xs ys) ≡ midOf i j ys
-  back-within i j g = sym (mid-mid (putMid a k xs ys) a k i j (rw (put-long xs a k ys e h) h) g) ∙ ap (λ (l : List ℕ). midOf i j l) (mid-put xs a k ys e h)
-
-  pub back-before : (b j : ℕ) → b + j ≤ a → midOf b j (putMid a k xs ys) ≡ midOf b j xs
-  back-before b j g = same-mid (At a k) xs (putMid a k xs ys) (only-put xs a k h ys e) b j (omega arith) (λ i q r. omega (arith, q .1, r .0))
-
-  pub back-after : (b j : ℕ) → a + k ≤ b → b + j ≤ length xs → midOf b j (putMid a k xs ys) ≡ midOf b j xs
-  back-after b j g f = same-mid (At a k) xs (putMid a k xs ys) (only-put xs a k h ys e) b j f (λ i q r. omega (arith, q .0, r .1))
 
 -- ---- `finish`: parts of the work as it lends them
 module _ {n : ℕ} {code metadata : List ℕ} {out : ℕ} {work32 work64 : List ℕ} (d : Finished n code metadata out work32 work64) where

@@ -1,13 +1,13 @@
 -- A pass on a unit: the answers from each test on.
 -- Assumes nothing.
 use mathlib.Core.Path.{_≡_, refl, sym, ap, _∙_}
-use mathlib.Core.Bool.{Bool, true, false, cond, _&&_, _||_, not, false≢true, true≢false}
+use mathlib.Core.Bool.{Bool, true, false, cond, _&&_, _||_, not, true≢false}
 use mathlib.Core.List.{List}
 use Prim.Native.Nat.{ℕ, _+_, _*_, _/_, _≤_, _<_}
 use native.Mathlib.Omega.{arith}
-use lib.Dec.{eqb, leb, ltb}
+use lib.Dec.{eqb, leb}
 use lib.ListN.{length, getD}
-use borrow.Author.Tests.{lt-ltb, le-ltb, leb-true, ltb-true, ltb-false, eq-eqb, ne-eqb}
+use borrow.Author.Tests.{lt-ltb, le-ltb, leb-true, eq-eqb, ne-eqb}
 use Rattle.words.specs.Bytes.{Bytes, bytes-mid}
 use Rattle.words.specs.Lists.{tabulate}
 use Rattle.unit.specs.declared.Header.{Header}
@@ -15,7 +15,8 @@ use Rattle.unit.specs.Laws.{unit-laid}
 use Rattle.unit.specs.Size.{instructionSize, constantSize, caseSize, outputRoom, work32Room, work64Room, maxInstructions}
 use Rattle.effects.specs.Shape.{Sections, Cell}
 use Rattle.answer.specs.Pass.{isWorkedOn}
-use Rattle.effects.specs.Operands.{left-true, right-true}
+use Rattle.words.specs.Truth.{left-true, right-true}
+use Rattle.run.specs.Passed.{worked-size}
 use Rattle.optimize.specs.Parts.{Given, Room, sectionsIn, cellsIn, cells-in}
 use Rattle.unit.specs.Layout.{headerOf, codeOf, metadataOf, typesOf, constantsOf, functionsOf, externsOf, casesOf, isUnit}
 use Rattle.unit.specs.Refusal.{notUnit, shortBuffer, metadataCount, typeCount}
@@ -55,15 +56,8 @@ not-left true d e = refl
 not-left false d e = absurd (true≢false e)
 
 pub worked-on : (h : Header) → isLeft h ≡ false → (1 < h .counts .instructions) × (h .counts .instructions ≤ maxInstructions)
-unfolding isLeft isWorkedOn
-worked-on h e =
-    let n = h .counts .instructions in
-    let w : (ltb 1 n && not (ltb maxInstructions n)) ≡ true = not-left (ltb 1 n && not (ltb maxInstructions n)) (eqb (h .counts .defer) 1) e in
-    (ltb-true 1 n (left-true (ltb 1 n) (not (ltb maxInstructions n)) w), few (ltb maxInstructions n) refl (right-true (ltb 1 n) (not (ltb maxInstructions n)) w))
-  where
-    few : (t : Bool) → ltb maxInstructions (h .counts .instructions) ≡ t → not t ≡ true → h .counts .instructions ≤ maxInstructions
-    few true e f = absurd (false≢true f)
-    few false e f = ltb-false maxInstructions (h .counts .instructions) e
+unfolding isLeft
+worked-on h e = worked-size (h .counts .instructions) (not-left (isWorkedOn (h .counts .instructions)) (eqb (h .counts .defer) 1) e)
 
 -- what a unit is that is neither left nor refused for its counts or the lent room
 module _ (u : List ℕ) (l : Lent) (laid : isUnit u ≡ true) (worked : isLeft (headerOf u) ≡ false) (room : roomFor (headerOf u) l ≡ true)

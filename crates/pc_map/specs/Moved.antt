@@ -89,7 +89,7 @@ module _ (keep : List ℕ) (f : Flags keep) (small : length keep ≤ maxInstruct
         let bp = boundary-most keep f p in
         go (ltb (target p i) (suc p)) refl r next bt bp
       where
-        go : (b : Bool) → ltb (target p i) (suc p) ≡ b → (target p i ≤ suc p + 32767) × (suc p ≤ target p i + 32768) → boundary keep (suc p) ≡ boundary keep p + 1
+        go : (b : Bool) → ltb (target p i) (suc p) ≡ b → (target p i ≤ suc p + 32767) × (suc p ≤ target p i + 32768) → boundary keep (suc p) ≡ suc (boundary keep p)
             → boundary keep (target p i) ≤ target p i → boundary keep p ≤ p
             → (suc (boundary keep p) + signExtend 16 ((boundary keep (target p i) + (65536 - suc (boundary keep p)) % 65536) % 65536)) % 2 ^ 64 ≡ boundary keep (target p i)
         go true q r next bt bp =

@@ -6,11 +6,12 @@ use mathlib.Core.List.{List}
 use Prim.Native.Nat.{ℕ}
 use lib.Dec.{eqb, leb}
 use borrow.Author.Tests.{eqb-true}
+use Rattle.words.specs.Truth.{left-true}
 use Rattle.instruction.specs.declared.Instruction.{Instruction}
 use Rattle.instruction.specs.declared.Class.{Class}
 use Rattle.instruction.specs.declared.Class.the-variants.{Hint, LoadInt, LoadConst, Copy, CopyN, Unary, Binary, Jump, JumpIf, JumpIfNot, ForLoop, Return, Panic, Outside, Invalid}
-use Rattle.instruction.specs.Class.{classOf, single}
 use Rattle.instruction.specs.Instruction.{imm32Unsigned, withImm32, class}
+use Rattle.instruction.specs.Laws.{hint-class}
 use Rattle.unit.specs.Refusal.{lostLoop}
 use Rattle.unit.specs.declared.Metadata.{Metadata}
 use Rattle.effects.specs.Shape.{Cell}
@@ -43,13 +44,8 @@ module _ (keep : List ℕ) where
       go false y z = refl
 
   -- a loop hint is of the class Hint
-  hint-class : (i : Instruction) → isLoopHint i ≡ true → class i ≡ Hint
-  unfolding classOf single
-  hint-class i e = rw (eqb-true (i .op) 0 (both (eqb (i .op) 0) (eqb (i .flags) 1) e))
-    where
-      both : (s t : Bool) → (s && t) ≡ true → s ≡ true
-      both true t e = refl
-      both false t e = e
+  loop-class : (i : Instruction) → isLoopHint i ≡ true → class i ≡ Hint
+  loop-class i e = hint-class i (eqb-true (i .op) 0 (left-true (eqb (i .op) 0) (eqb (i .flags) 1) e))
 
   pub moved-metadata : (p : ℕ) (x : Cell) → relocate keep p x .metadata ≡ cond (isLoopHint (x .instruction)) (movedEnd keep (x .metadata)) (x .metadata)
   unfolding relocateBy movedHint
@@ -73,7 +69,7 @@ module _ (keep : List ℕ) where
       other e Invalid = refl
 
       go : (t : Bool) → isLoopHint (x .instruction) ≡ t → relocate keep p x .metadata ≡ cond (isLoopHint (x .instruction)) (movedEnd keep (x .metadata)) (x .metadata)
-      go true e = ap (λ (k : Class). relocateBy keep k p x .metadata) (hint-class (x .instruction) e) ∙ rw e
+      go true e = ap (λ (k : Class). relocateBy keep k p x .metadata) (loop-class (x .instruction) e) ∙ rw e
       go false e = other e (class (x .instruction)) ∙ rw e
 
 -- the three answers of the test; i is the cell's instruction and d its metadata, as the code has them

@@ -25,8 +25,8 @@ use Rattle.flow.specs.Flags.{Flags}
 use Rattle.pc_map.specs.Boundary.{isKept}
 use Rattle.liveness.specs.Live.{Row, liveBefore, edges, isLast, noRow, joined, liveAfter, roundFrom}
 use Rattle.liveness.specs.Rows.{bit, before-bit, before-long, Wide, after-long, walk-wide}
-use Rattle.liveness.specs.Dead.{Swept, isDead, sweptAt, sweepFrom}
-use Rattle.liveness.specs.Sweep.{swept-keep, before-at, keep-at}
+use Rattle.liveness.specs.Dead.{Swept, isDead, sweepFrom}
+use Rattle.liveness.specs.Sweep.{before-at, keep-at}
 use Rattle.run.specs.Step.{Succ, next, branch}
 use Rattle.run.specs.Frame.{In, here, there, in-left, in-right}
 use Rattle.run.specs.Solved.{whole-at, row-at}
@@ -118,16 +118,6 @@ module _ (S : Sections) (leaders keep : List ℕ) (cells : List Cell) (rows : Li
       ap (λ (q : ℕ). getD (sweep 0 .keep) q 0) (sym (add-zero p))
       ∙ sym (getD-drop p (sweep 0 .keep) 0 0)
       ∙ ap (λ (l : List ℕ). getD l 0 0) (kept-from p (omega arith) ∙ keep-at S leaders keep cells rows p h)
-
-  pub sweep-long : length (sweep 0 .keep) ≡ n
-  unfolding sweepFrom sweptAt
-  sweep-long = from 0 cells
-    where
-      from : (p : ℕ) (xs : List Cell) → length (sweepFrom S n leaders keep rows p xs .keep) ≡ length xs
-      from p [] = refl
-      from p (x ∷ xs) =
-          ap length (swept-keep S leaders keep cells rows x (isKept keep p) (liveAfter S n leaders keep rows p x (sweepFrom S n leaders keep rows (suc p) xs .before)) (sweepFrom S n leaders keep rows (suc p) xs))
-          ∙ ap suc (from (suc p) xs)
 
   -- What is asked of blocks, rows and code.
   pub record Analysed : Type 0 where

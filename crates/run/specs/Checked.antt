@@ -47,6 +47,15 @@ use Rattle.run.specs.Optimized.{Removing}
 
 -- ---- a block starts at each branch's target, and after each branch
 
+-- what is in a list is in it with one more
+in-later : (t : Bool) (q y : ℕ) (l : List ℕ) → isIn q l ≡ true → isIn q (cond t (y ∷ l) l) ≡ true
+in-later false q y l i = i
+in-later true q y l i = go (eqb q y)
+  where
+    go : (s : Bool) → cond s true (isIn q l) ≡ true
+    go true = refl
+    go false = i
+
 in-targets : (xs : List Cell) (p k : ℕ) → k < length xs → branches (class (cellAt xs k .instruction)) ≡ true
     → isIn (target (p + k) (cellAt xs k .instruction)) (branchTargets p xs) ≡ true
 unfolding branchTargets
@@ -55,15 +64,7 @@ in-targets (x ∷ xs) p zero h b = rw (add-zero, b, eq-eqb (target p (x .instruc
 in-targets (x ∷ xs) p (suc k) h b =
     let q : ℕ = target (p + suc k) (cellAt xs k .instruction) in
     let i : isIn q (branchTargets (suc p) xs) ≡ true = rw (add-suc, ← suc-add) (in-targets xs (suc p) k (omega arith) b) in
-    later (branches (class (x .instruction))) q i
-  where
-    later : (t : Bool) (q : ℕ) → isIn q (branchTargets (suc p) xs) ≡ true → isIn q (cond t (target p (x .instruction) ∷ branchTargets (suc p) xs) (branchTargets (suc p) xs)) ≡ true
-    later true q i = go (eqb q (target p (x .instruction)))
-      where
-        go : (s : Bool) → cond s true (isIn q (branchTargets (suc p) xs)) ≡ true
-        go true = refl
-        go false = i
-    later false q i = i
+    in-later (branches (class (x .instruction))) q (target p (x .instruction)) (branchTargets (suc p) xs) i
 
 in-ends : (xs : List Cell) (p k : ℕ) → k < length xs → endsBlock (class (cellAt xs k .instruction)) ≡ true → isIn (suc (p + k)) (blockEnds p xs) ≡ true
 unfolding blockEnds
@@ -72,15 +73,7 @@ in-ends (x ∷ xs) p zero h b = rw (add-zero, b, eq-eqb (suc p) (suc p) refl)
 in-ends (x ∷ xs) p (suc k) h b =
     let q : ℕ = suc (p + suc k) in
     let i : isIn q (blockEnds (suc p) xs) ≡ true = rw (add-suc, ← suc-add) (in-ends xs (suc p) k (omega arith) b) in
-    later (endsBlock (class (x .instruction))) q i
-  where
-    later : (t : Bool) (q : ℕ) → isIn q (blockEnds (suc p) xs) ≡ true → isIn q (cond t (suc p ∷ blockEnds (suc p) xs) (blockEnds (suc p) xs)) ≡ true
-    later true q i = go (eqb q (suc p))
-      where
-        go : (s : Bool) → cond s true (isIn q (blockEnds (suc p) xs)) ≡ true
-        go true = refl
-        go false = i
-    later false q i = i
+    in-later (endsBlock (class (x .instruction))) q (suc p) (blockEnds (suc p) xs) i
 
 branch-ends : (k : Class) → branches k ≡ true → endsBlock k ≡ true
 unfolding branches endsBlock

@@ -21,7 +21,7 @@ use Rattle.run.specs.Machine.{Words, World}
 use Rattle.run.specs.Removal.{Agree, SameAct, silent=, ask=, stop=, fail=}
 use Rattle.run.specs.Program.{actBy, event, givenRanges, slotsOf, slotsFrom}
 use Rattle.run.specs.Shapes.{readParts, writeParts, byFields, reads-by, given-by}
-use Rattle.run.specs.Operands.{and-left, and-right}
+use Rattle.words.specs.Truth.{left-true, right-true}
 
 pub data In (s : ℕ) : List ℕ → Type 0 where
   here : {l : List ℕ} → In s (s ∷ l)
@@ -49,7 +49,7 @@ has-range : (a n t : ℕ) → anyOf (rangeHas t) (record { start = a; count = n 
 unfolding anyOf rangeHas
 has-range a n t e =
     let h : (leb a t && ltb t (a + n)) ≡ true = rw or-false at e in
-    (leb-true a t (and-left (leb a t) (ltb t (a + n)) h), ltb-true t (a + n) (and-right (leb a t) (ltb t (a + n)) h))
+    (leb-true a t (left-true (leb a t) (ltb t (a + n)) h), ltb-true t (a + n) (right-true (leb a t) (ltb t (a + n)) h))
 
 module _ (S : Sections) (W : World) (x : Cell) (σ σ′ : Words) where
   abbrev T : Tables
@@ -137,8 +137,8 @@ slots-within w [] s e i = absurd (none-in i)
     none-in : {s : ℕ} → In s [] → ⊥
     none-in = elim [ ]
 slots-within w (r ∷ rs) s e i =
-    go (split-in s (slotsFrom (r .start) (r .count)) (slotsOf rs) i) (slots-within w rs s (and-right (eqb (r .count) 0 || leb (r .start + r .count) w) (allOf (rangeWithin w) rs) e))
-    (and-left (eqb (r .count) 0 || leb (r .start + r .count) w) (allOf (rangeWithin w) rs) e)
+    go (split-in s (slotsFrom (r .start) (r .count)) (slotsOf rs) i) (slots-within w rs s (right-true (eqb (r .count) 0 || leb (r .start + r .count) w) (allOf (rangeWithin w) rs) e))
+    (left-true (eqb (r .count) 0 || leb (r .start + r .count) w) (allOf (rangeWithin w) rs) e)
   where
     go : In s (slotsFrom (r .start) (r .count)) ⊎ In s (slotsOf rs) → (In s (slotsOf rs) → s < w) → (eqb (r .count) 0 || leb (r .start + r .count) w) ≡ true → s < w
     go (inl j) f b = within (eqb (r .count) 0) refl b (in-slots (r .start) (r .count) s j)
@@ -147,11 +147,6 @@ slots-within w (r ∷ rs) s e i =
         within true z b h = let c : r .count ≡ 0 = eqb-true (r .count) 0 z in absurd (omega arith)
         within false z b h = let k = leb-true (r .start + r .count) w b in omega arith
     go (inr j) f b = f j
-
-pub allOf-left : (f : Range → Bool) (xs ys : List Range) → allOf f (xs ++ ys) ≡ true → allOf f xs ≡ true
-unfolding allOf
-allOf-left f [] ys e = refl
-allOf-left f (x ∷ xs) ys e = rw (and-left (f x) (allOf f (xs ++ ys)) e) (allOf-left f xs ys (and-right (f x) (allOf f (xs ++ ys)) e))
 
 pub any-left : (f : Range → Bool) (xs ys : List Range) → anyOf f xs ≡ true → anyOf f (xs ++ ys) ≡ true
 unfolding anyOf

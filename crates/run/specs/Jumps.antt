@@ -1,7 +1,6 @@
 -- The jump rounds: each dropped jump passes over nothing that is kept, to the end.
 -- Assumes nothing.
 use mathlib.Core.Path.{_≡_, refl, sym, ap, _∙_}
-use mathlib.Core.Logic.{_⊎_, inl, inr}
 use mathlib.Core.Bool.{Bool, true, false, cond, not, _&&_, false≢true}
 use mathlib.Core.List.{List}
 use Prim.Native.Nat.{ℕ, zero, suc, _+_, _-_, _≤_, _<_}
@@ -15,9 +14,10 @@ use Rattle.words.specs.Lists.{mapFrom, length-mapFrom, getD-mapFrom}
 use Rattle.instruction.specs.Opcode as op
 use Rattle.effects.specs.Shape.{Cell, cellAt, noCell}
 use Rattle.flow.specs.Branch.{target}
+use Rattle.flow.specs.Flags.{Flags}
 use Rattle.pc_map.specs.Boundary.{isKept, boundary}
+use Rattle.pc_map.specs.Boundaries.{boundary-kept, boundary-dropped, boundary-mono}
 use Rattle.answer.specs.Jump.{isIdle, dropIdle, jumpRounds}
-use Rattle.run.specs.Retained.{Bits, boundary-yes, boundary-no, boundary-between}
 
 module _ (anchors : List ℕ) (cells : List Cell) where
   -- ---- a round
@@ -35,12 +35,12 @@ module _ (anchors : List ℕ) (cells : List Cell) where
       let l : length (dropIdle anchors cells keep) ≤ p = rw (round-long keep) h in
       List·getD-eq-default (dropIdle anchors cells keep) 0 l
 
-  round-bits : (keep : List ℕ) → Bits keep → Bits (dropIdle anchors cells keep)
-  round-bits keep b p = elim (decLe (length cells) p) [ yes h ↦ inl (past keep p h) | no h ↦ rw (round-at keep p (omega arith)) (go (isIdle anchors keep p (cellAt cells p)) (b p)) ]
+  pub round-flags : (keep : List ℕ) → Flags keep → Flags (dropIdle anchors cells keep)
+  round-flags keep b p = elim (decLe (length cells) p) [ yes h ↦ rw (past keep p h) (omega arith) | no h ↦ rw (round-at keep p (omega arith)) (go (isIdle anchors keep p (cellAt cells p))) ]
     where
-      go : (t : Bool) → (getD keep p 0 ≡ 0) ⊎ (getD keep p 0 ≡ 1) → (cond t 0 (getD keep p 0) ≡ 0) ⊎ (cond t 0 (getD keep p 0) ≡ 1)
-      go true h = inl refl
-      go false h = h
+      go : (t : Bool) → cond t 0 (getD keep p 0) ≤ 1
+      go true = omega arith
+      go false = b p
 
   -- no round keeps more
   round-fewer : (keep : List ℕ) (p : ℕ) → isKept keep p ≡ false → isKept (dropIdle anchors cells keep) p ≡ false
@@ -76,10 +76,10 @@ module _ (anchors : List ℕ) (cells : List Cell) where
   rounds-long zero keep e = e
   rounds-long (suc i) keep e = rounds-long i (dropIdle anchors cells keep) (round-long keep)
 
-  pub rounds-bits : (i : ℕ) (keep : List ℕ) → Bits keep → Bits (jumpRounds i anchors cells keep)
+  pub rounds-flags : (i : ℕ) (keep : List ℕ) → Flags keep → Flags (jumpRounds i anchors cells keep)
   unfolding jumpRounds
-  rounds-bits zero keep b = b
-  rounds-bits (suc i) keep b = rounds-bits i (dropIdle anchors cells keep) (round-bits keep b)
+  rounds-flags zero keep b = b
+  rounds-flags (suc i) keep b = rounds-flags i (dropIdle anchors cells keep) (round-flags keep b)
 
   pub rounds-fewer : (i : ℕ) (keep : List ℕ) (p : ℕ) → isKept keep p ≡ false → isKept (jumpRounds i anchors cells keep) p ≡ false
   unfolding jumpRounds
@@ -90,30 +90,30 @@ module _ (anchors : List ℕ) (cells : List Cell) where
   abbrev Bare : List ℕ → ℕ → ℕ → Type 0
   Bare keep p t = (q : ℕ) → p < q → q < t → isKept keep q ≡ false
 
-  bare-of : (keep : List ℕ) → Bits keep → (p t : ℕ) → t ≤ length keep → isKept keep p ≡ true → boundary keep t ≡ boundary keep p + 1 → p < length keep → Bare keep p t
-  bare-of keep b p t l kp e h q x y = go (isKept keep q) refl
+  bare-of : (keep : List ℕ) (p t : ℕ) → t ≤ length keep → isKept keep p ≡ true → boundary keep t ≡ boundary keep p + 1 → p < length keep → Bare keep p t
+  bare-of keep p t l kp e h q x y = go (isKept keep q) refl
     where
       go : (u : Bool) → isKept keep q ≡ u → isKept keep q ≡ false
       go true u =
-          let f = boundary-yes keep p h kp in
-          let g = boundary-yes keep q (omega arith) u in
-          let i = boundary-between keep b (suc p) q x (omega arith) .0 in
-          let j = boundary-between keep b (suc q) t y l .0 in
+          let f = boundary-kept keep p h kp in
+          let g = boundary-kept keep q (omega arith) u in
+          let i = boundary-mono keep (suc p) q x in
+          let j = boundary-mono keep (suc q) t y in
           absurd (omega arith)
       go false u = u
 
-  onward-of : (keep : List ℕ) → Bits keep → (p t : ℕ) → p ≤ length keep → boundary keep t ≡ boundary keep p + 1 → p < t
-  onward-of keep b p t l e = elim (decLe (suc p) t) [ yes h ↦ h | no h ↦ (let f = boundary-between keep b t p (omega arith) l .0 in absurd (omega arith)) ]
+  onward-of : (keep : List ℕ) (p t : ℕ) → boundary keep t ≡ boundary keep p + 1 → p < t
+  onward-of keep p t e = elim (decLe (suc p) t) [ yes h ↦ h | no h ↦ (let f = boundary-mono keep t p (omega arith) in absurd (omega arith)) ]
 
   -- the boundary does not move over what is not kept
-  bare-steps : (keep : List ℕ) → Bits keep → (p d : ℕ) → suc p + d ≤ length keep → isKept keep p ≡ false → ((q : ℕ) → p < q → q < suc p + d → isKept keep q ≡ false)
+  bare-steps : (keep : List ℕ) → Flags keep → (p d : ℕ) → suc p + d ≤ length keep → isKept keep p ≡ false → ((q : ℕ) → p < q → q < suc p + d → isKept keep q ≡ false)
       → boundary keep (suc p + d) ≡ boundary keep p
-  bare-steps keep b p zero l kp f = rw add-zero (boundary-no keep b p (omega arith) kp)
+  bare-steps keep b p zero l kp f = rw add-zero (boundary-dropped keep b p (omega arith) kp)
   bare-steps keep b p (suc d) l kp f =
       rw add-suc
-      (boundary-no keep b (suc p + d) (omega arith) (f (suc p + d) (omega arith) (omega arith)) ∙ bare-steps keep b p d (omega arith) kp (λ q x y. f q x (omega arith)))
+      (boundary-dropped keep b (suc p + d) (omega arith) (f (suc p + d) (omega arith) (omega arith)) ∙ bare-steps keep b p d (omega arith) kp (λ q x y. f q x (omega arith)))
 
-  bare-stays : (keep : List ℕ) → Bits keep → (p t : ℕ) → p < t → t ≤ length keep → isKept keep p ≡ false → Bare keep p t → boundary keep t ≡ boundary keep p
+  bare-stays : (keep : List ℕ) → Flags keep → (p t : ℕ) → p < t → t ≤ length keep → isKept keep p ≡ false → Bare keep p t → boundary keep t ≡ boundary keep p
   bare-stays keep b p t h l kp f =
       let e : suc p + (t - suc p) ≡ t = omega arith in
       let s = bare-steps keep b p (t - suc p) (omega arith) kp (λ q x y. f q x (omega arith)) in
@@ -126,11 +126,11 @@ module _ (anchors : List ℕ) (cells : List Cell) where
       × (boundary keep (target p (cellAt cells p .instruction)) ≡ boundary keep p)
 
   -- What the rounds drop is such a jump.
-  pub rounds-why : (i : ℕ) (keep : List ℕ) → Bits keep → length keep ≡ length cells → (p : ℕ) → p < length cells → target p (cellAt cells p .instruction) ≤ length cells
+  pub rounds-why : (i : ℕ) (keep : List ℕ) → Flags keep → length keep ≡ length cells → (p : ℕ) → p < length cells → target p (cellAt cells p .instruction) ≤ length cells
       → isKept keep p ≡ true → isKept (jumpRounds i anchors cells keep) p ≡ false → Skips (jumpRounds i anchors cells keep) p
   unfolding jumpRounds
   rounds-why zero keep b l p h t kp e = absurd (false≢true (sym e ∙ kp))
-  rounds-why (suc i) keep b l p h t kp e = go (isKept (dropIdle anchors cells keep) p) refl (rounds-why i (dropIdle anchors cells keep) (round-bits keep b) (round-long keep) p h t)
+  rounds-why (suc i) keep b l p h t kp e = go (isKept (dropIdle anchors cells keep) p) refl (rounds-why i (dropIdle anchors cells keep) (round-flags keep b) (round-long keep) p h t)
     where
       go : (u : Bool) → isKept (dropIdle anchors cells keep) p ≡ u
           → (isKept (dropIdle anchors cells keep) p ≡ true → isKept (jumpRounds i anchors cells (dropIdle anchors cells keep)) p ≡ false → Skips (jumpRounds i anchors cells (dropIdle anchors cells keep)) p)
@@ -138,11 +138,11 @@ module _ (anchors : List ℕ) (cells : List Cell) where
       go true u ih = ih u e
       go false u ih =
           let w = round-why keep p h kp u in
-          let o : p < target p (cellAt cells p .instruction) = onward-of keep b p _ (omega arith) (w .1) in
-          let f = bare-of keep b p (target p (cellAt cells p .instruction)) (omega arith) kp (w .1) (omega arith) in
+          let o : p < target p (cellAt cells p .instruction) = onward-of keep p _ (w .1) in
+          let f = bare-of keep p (target p (cellAt cells p .instruction)) (omega arith) kp (w .1) (omega arith) in
           let r : length (jumpRounds i anchors cells (dropIdle anchors cells keep)) ≡ length cells = rounds-long i (dropIdle anchors cells keep) (round-long keep) in (
             w .0,
             o,
-            bare-stays (jumpRounds i anchors cells (dropIdle anchors cells keep)) (rounds-bits i (dropIdle anchors cells keep) (round-bits keep b)) p _ o (omega arith) e
+            bare-stays (jumpRounds i anchors cells (dropIdle anchors cells keep)) (rounds-flags i (dropIdle anchors cells keep) (round-flags keep b)) p _ o (omega arith) e
                 (λ q x y. rounds-fewer i (dropIdle anchors cells keep) q (round-fewer keep q (f q x y))),
           )

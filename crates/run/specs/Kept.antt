@@ -1,15 +1,13 @@
 -- The places that the pass keeps where it found live slots.
 -- Assumes nothing.
 use mathlib.Core.Path.{_≡_, refl, sym, ap, _∙_}
-use mathlib.Core.Logic.{_⊎_, inl, inr}
 use mathlib.Core.Bool.{Bool, true, false, cond, not, _&&_, _||_, false≢true, true≢false}
 use mathlib.Core.List.{List, [], _∷_, _++_}
 use mathlib.Core.Option.{Option, none, some}
 use Prim.Native.Nat.{ℕ, zero, suc, _+_, _*_, _-_, _/_, _≤_, _<_}
-use native.Mathlib.Decide.{decLe}
 use native.Mathlib.Omega.{arith}
 use lib.Dec.{eqb, leb, ltb}
-use lib.ListN.{length, getD, replicate, length-replicate, List·getD-eq-default}
+use lib.ListN.{length, getD, replicate, length-replicate}
 use borrow.Author.Tests.{eqb-true, eq-eqb, leb-true, ltb-true}
 use Rattle.words.specs.Lists.{every, every-at}
 use Rattle.instruction.specs.declared.Class.{Class}
@@ -19,17 +17,20 @@ use Rattle.instruction.specs.Instruction.{class}
 use Rattle.unit.specs.Size.{setWords, maxSetWords}
 use Rattle.effects.specs.declared.Range.{Range}
 use Rattle.effects.specs.Shape.{Tables, Sections, Cell, cellAt}
-use Rattle.effects.specs.Effects.{allReads, writes, rangeHas, rangeWithin, allOf, anyOf}
+use Rattle.effects.specs.Sound.{sound}
+use Rattle.effects.specs.Effects.{allReads, writes, rangeHas, allOf, anyOf}
 use Rattle.effects.specs.Check.{operandRefusal}
 use Rattle.flow.specs.Branch.{falls, branches, target}
 use Rattle.flow.specs.Block.{blockCount}
 use Rattle.flow.specs.Loop.{reachedPlaces, anchors}
 use Rattle.flow.specs.Marks.{Marked}
 use Rattle.values.specs.Number.{isScalar}
+use Rattle.flow.specs.Flags.{Flags}
 use Rattle.pc_map.specs.Boundary.{isKept}
 use Rattle.pc_map.specs.Relocate.{retainFrom}
 use Rattle.liveness.specs.Live.{Row, noRow, solveIn, liveRows, maxLivenessWork}
 use Rattle.liveness.specs.Dead.{unread, isDead, sweepFrom, withoutDead, deadStores}
+use Rattle.liveness.specs.Sweep.{sweep-flags, sweep-long}
 use Rattle.liveness.specs.Rows.{bit, Wide, start-wide}
 use Rattle.answer.specs.Jump.{jumpRounds}
 use Rattle.answer.specs.Pass.{usefulPlaces, keptPlaces}
@@ -37,28 +38,27 @@ use Rattle.run.specs.Machine.{SameRuns}
 use Rattle.run.specs.Program.{Function, givenRanges, slotsOf, programOf}
 use Rattle.run.specs.Returned.{resultFunction}
 use Rattle.run.specs.Shapes.{byFields, writeParts, given-by, writes-by}
-use Rattle.run.specs.Operands.{and-left, and-right, refusal-within}
+use Rattle.words.specs.Truth.{left-true, right-true}
 use Rattle.run.specs.Step.{Succ, next, branch}
-use Rattle.run.specs.Frame.{In, slots-any, slots-within, allOf-left, any-left}
-use Rattle.run.specs.Retained.{Bits}
+use Rattle.run.specs.Frame.{In, slots-any, slots-within, any-left}
 use Rattle.run.specs.Jumps.{rounds-fewer}
 use Rattle.run.specs.Removed.{passes, passing-falls, Dropped, store, skip, Removable, removed}
 use Rattle.run.specs.Solved.{solved, solve-long}
 use Rattle.run.specs.Rows.{solve-wide}
-use Rattle.run.specs.Alive.{flow-gone, flow-kept, flow-reads, before, after, dead, stays, Analysed, before-flow, out, stays-at, sweep-long}
-use Rattle.run.specs.Optimized.{Removing, useful-bits, useful-long, not-useful, hint-class, hint-gives, inner, skipped, removable, plain-removable}
+use Rattle.run.specs.Alive.{flow-gone, flow-kept, flow-reads, before, after, dead, stays, Analysed, before-flow, out, stays-at}
+use Rattle.run.specs.Optimized.{Removing, not-useful, plain-class, hint-gives, inner, skipped, removable, plain-removable}
 
 -- ---- a dead store's slots are not live
 
 unread-slot : (S : Sections) (a : Row) (r : Range) (s : ℕ) → unread S a r ≡ true → rangeHas s r ≡ true → bit a s ≡ false
 unfolding unread rangeHas
 unread-slot S a r s u h =
-    let lo : r .start ≤ s = leb-true (r .start) s (and-left (leb (r .start) s) (ltb s (r .start + r .count)) h) in
-    let hi : s < r .start + r .count = ltb-true s (r .start + r .count) (and-right (leb (r .start) s) (ltb s (r .start + r .count)) h) in
+    let lo : r .start ≤ s = leb-true (r .start) s (left-true (leb (r .start) s) (ltb s (r .start + r .count)) h) in
+    let hi : s < r .start + r .count = ltb-true s (r .start + r .count) (right-true (leb (r .start) s) (ltb s (r .start + r .count)) h) in
     let k : s - r .start < r .count = omega arith in
     let e : r .start + (s - r .start) ≡ s = omega arith in
     let t = every-at (r .count) (λ k. isScalar S (r .start + k) && not (getD a (r .start + k) false)) u (s - r .start) k in
-    let n : not (getD a (r .start + (s - r .start)) false) ≡ true = and-right (isScalar S (r .start + (s - r .start))) (not (getD a (r .start + (s - r .start)) false)) t in
+    let n : not (getD a (r .start + (s - r .start)) false) ≡ true = right-true (isScalar S (r .start + (s - r .start))) (not (getD a (r .start + (s - r .start)) false)) t in
     go (bit a s) (rw e at n)
   where
     go : (t : Bool) → not t ≡ true → t ≡ false
@@ -69,10 +69,10 @@ unread-slots : (S : Sections) (a : Row) (rs : List Range) (s : ℕ) → allOf (u
 unfolding allOf anyOf
 unread-slots S a [] s u h = absurd (false≢true h)
 unread-slots S a (r ∷ rs) s u h =
-    go (rangeHas s r) refl h (unread-slots S a rs s (and-right (unread S a r) (allOf (unread S a) rs) u))
+    go (rangeHas s r) refl h (unread-slots S a rs s (right-true (unread S a r) (allOf (unread S a) rs) u))
   where
     go : (t : Bool) → rangeHas s r ≡ t → (t || anyOf (rangeHas s) rs) ≡ true → (anyOf (rangeHas s) rs ≡ true → bit a s ≡ false) → bit a s ≡ false
-    go true e g ih = unread-slot S a r s (and-left (unread S a r) (allOf (unread S a) rs) u) e
+    go true e g ih = unread-slot S a r s (left-true (unread S a r) (allOf (unread S a) rs) u) e
     go false e g ih = ih g
 
 -- a pure class goes by fields and passes
@@ -198,7 +198,7 @@ module _ (G : Function) (leaders : List ℕ) (N : Removing G leaders) where
     remains p = stays S leaders useful code rows p
 
     keep-long : length keep ≡ n
-    keep-long = sweep-long S leaders useful code rows
+    keep-long = sweep-long S leaders useful code rows 0 code
 
     keep-at : (p : ℕ) → p < n → isKept keep p ≡ remains p
     keep-at p h = ap (λ (k : ℕ). eqb k 1) (stays-at S leaders useful code rows p h) ∙ go (remains p)
@@ -207,15 +207,8 @@ module _ (G : Function) (leaders : List ℕ) (N : Removing G leaders) where
         go true = refl
         go false = refl
 
-    pub keep-bits : Bits keep
-    keep-bits p = elim (decLe n p) [
-      | yes h ↦ (let l : length keep ≤ p = rw keep-long h in inl (List·getD-eq-default keep 0 l))
-      | no h ↦ rw (stays-at S leaders useful code rows p (omega arith)) (go (remains p))
-    ]
-      where
-        go : (t : Bool) → (cond {A = ℕ} t 1 0 ≡ 0) ⊎ (cond {A = ℕ} t 1 0 ≡ 1)
-        go true = inr refl
-        go false = inl refl
+    keep-flags : Flags keep
+    keep-flags = sweep-flags S leaders useful code rows 0 code
 
     -- the rounds only drop places
     still-kept : (p : ℕ) → p < n → isKept final p ≡ true → remains p ≡ true
@@ -227,7 +220,7 @@ module _ (G : Function) (leaders : List ℕ) (N : Removing G leaders) where
 
     reads-live : (p : ℕ) → p < n → Reach p → isKept final p ≡ true → (s : ℕ) → In s (slotsOf (allReads T (cell p))) → Live p s
     reads-live p h r e s i =
-        let l : s < S .locals = slots-within (S .locals) (allReads T (cell p)) s (allOf-left (rangeWithin (S .locals)) (allReads T (cell p)) (writes T (cell p)) (refusal-within (S .locals) T (cell p) (N .operands p h))) i in
+        let l : s < S .locals = slots-within (S .locals) (allReads T (cell p)) s (sound (S .locals) T (cell p) (N .operands p h) .reads-within) i in
         (l, before-flow S leaders useful code rows A p s h l ∙ flow-reads (remains p) _ _ _ (still-kept p h e) (slots-any (allReads T (cell p)) s i))
 
     -- what is live at a successor and not written is live before the place
@@ -282,16 +275,16 @@ module _ (G : Function) (leaders : List ℕ) (N : Removing G leaders) where
             died true false e g = absurd (true≢false g)
             died false false e g = absurd (false≢true e)
         gone g false k =
-            let c : class (cell p .instruction) ≡ Hint = hint-class G leaders N p (not-useful G leaders N p h (r .1 h) k) in
+            let c : class (cell p .instruction) ≡ Hint = plain-class G leaders N p (not-useful G leaders N p h (r .1 h) k) in
             let pass : passes (class (cell p .instruction)) ≡ true = rw c refl in
             store pass (gone-live p h g pass) (λ s v. hint-gives G leaders N p s c)
 
         go : (t : Bool) → isKept keep p ≡ t → Dropped G final Reach Live p
-        go true k = skipped G leaders N keep keep-bits keep-long Live p h k e jumped
+        go true k = skipped G leaders N keep keep-flags keep-long Live p h k e jumped
         go false k = gone (sym (keep-at p h) ∙ k) (isKept useful p) refl
 
     live-removable : Removable G final Reach Live
-    live-removable = removable G leaders N keep keep-bits keep-long Live reads-live (λ p h r e q g s v w. passes-on p h q g s v w) drops-live
+    live-removable = removable G leaders N keep keep-flags keep-long Live reads-live (λ p h r e q g s v w. passes-on p h q g s v w) drops-live
 
   -- the places that the pass keeps, relocated, run as all of them do
   pub kept-runs : SameRuns (programOf G) (programOf (resultFunction S (retainFrom (keptPlaces S leaders marks code) 0 code)))

@@ -1,12 +1,13 @@
 -- What it says of an instruction's slots that its operands are not refused, and back.
 -- Assumes nothing.
 use mathlib.Core.Path.{_≡_, refl, sym, ap, _∙_}
-use mathlib.Core.Bool.{Bool, true, false, cond, _&&_, _||_, false≢true}
+use mathlib.Core.Bool.{Bool, true, false, _&&_, _||_, false≢true}
 use mathlib.Core.List.{List, [], _∷_, _++_, map}
 use Prim.Native.Nat.{ℕ, _+_, _<_, _≤_}
 use native.Mathlib.Omega.{arith}
-use lib.Dec.{eqb, leb, ltb}
+use lib.Dec.{eqb, leb}
 use borrow.Author.Tests.{leb-true, le-leb, le-ltb}
+use Rattle.words.specs.Truth.{left-true, right-true}
 use Rattle.instruction.specs.Opcode as op
 use Rattle.instruction.specs.declared.Class.{Class}
 use Rattle.instruction.specs.declared.Class.the-variants.{Hint, LoadInt, LoadConst, Copy, CopyN, Unary, Binary, Jump, JumpIf, JumpIfNot, ForLoop, Return, Panic, Outside, Invalid}
@@ -15,28 +16,16 @@ use Rattle.effects.specs.declared.Range.{Range}
 use Rattle.effects.specs.Shape.{Tables, Cell, rangeOf, value, applies}
 use Rattle.effects.specs.Effects.{writes, allReads, demandsMet, rangeFits, rangeWithin, allOf}
 use Rattle.effects.specs.Check.{operandRefusal, effectsSound}
+use Rattle.effects.specs.Operands.{all-append}
+use Rattle.effects.specs.Sound.{sound}
 use Rattle.values.specs.Walk.{Named}
 use Rattle.run.specs.Shapes.{readParts, writeParts, byFields, valid-opcode, reads-by, writes-by, demands-by}
 
-pub and-left : (a b : Bool) → (a && b) ≡ true → a ≡ true
-and-left true b e = refl
-and-left false b e = e
-
-pub and-right : (a b : Bool) → (a && b) ≡ true → b ≡ true
-and-right true b e = e
-and-right false b e = absurd (false≢true e)
-
 -- every range lies within the frame
-pub refusal-within : (s : ℕ) (T : Tables) (x : Cell) → operandRefusal s T x ≡ 0 → allOf (rangeWithin s) (allReads T x ++ writes T x) ≡ true
-unfolding operandRefusal
+refusal-within : (s : ℕ) (T : Tables) (x : Cell) → operandRefusal s T x ≡ 0 → allOf (rangeWithin s) (allReads T x ++ writes T x) ≡ true
 refusal-within s T x e =
-    go (ltb op.maxValid (x .instruction .op)) (effectsSound T x) (allOf (rangeWithin s) (allReads T x ++ writes T x)) e
-  where
-    go : (a b c : Bool) → _≡_ {A = ℕ} (cond a 5 (cond b (cond c 0 7) 6)) 0 → c ≡ true
-    go true b c e = absurd (omega arith)
-    go false true true e = refl
-    go false true false e = absurd (omega arith)
-    go false false c e = absurd (omega arith)
+    let d = sound s T x e in
+    all-append (rangeWithin s) (allReads T x) (writes T x) ∙ rw (d .reads-within, d .writes-within)
 
 pub refusal-none : (s : ℕ) (T : Tables) (x : Cell) → byFields (class (x .instruction)) ≡ true → allOf rangeFits (allReads T x ++ writes T x) ≡ true
     → allOf (rangeWithin s) (allReads T x ++ writes T x) ≡ true → operandRefusal s T x ≡ 0
@@ -81,15 +70,15 @@ fits-one s a l h = rw (le-leb (a + 0) 65535 (omega arith), le-leb (a + 0 + 1) 65
 two-within : (s a b : ℕ) → allOf (rangeWithin s) (one a ∷ one b ∷ []) ≡ true → (a < s) × (b < s)
 unfolding allOf
 two-within s a b e =
-    let r = and-right (rangeWithin s (one a)) (rangeWithin s (one b) && true) e in
-    (one-within s a (and-left (rangeWithin s (one a)) (rangeWithin s (one b) && true) e), one-within s b (and-left (rangeWithin s (one b)) true r))
+    let r = right-true (rangeWithin s (one a)) (rangeWithin s (one b) && true) e in
+    (one-within s a (left-true (rangeWithin s (one a)) (rangeWithin s (one b) && true) e), one-within s b (left-true (rangeWithin s (one b)) true r))
 
 three-within : (s a b c : ℕ) → allOf (rangeWithin s) (one a ∷ one b ∷ one c ∷ []) ≡ true → (a < s) × (b < s) × (c < s)
 unfolding allOf
 three-within s a b c e =
     let rest = rangeWithin s (one b) && (rangeWithin s (one c) && true) in
-    let w = two-within s b c (and-right (rangeWithin s (one a)) rest e) in
-    (one-within s a (and-left (rangeWithin s (one a)) rest e), w .0, w .1)
+    let w = two-within s b c (right-true (rangeWithin s (one a)) rest e) in
+    (one-within s a (left-true (rangeWithin s (one a)) rest e), w .0, w .1)
 
 module _ (s : ℕ) (T : Tables) (x : Cell) where
   -- by the class's parts
@@ -103,18 +92,18 @@ module _ (s : ℕ) (T : Tables) (x : Cell) where
   pub named-of : (k : Class) → class (x .instruction) ≡ k → operandRefusal s T x ≡ 0 → Named k s (x .instruction)
   unfolding Named readParts writeParts byFields allOf rangeOf value applies
   named-of Hint e z = tt
-  named-of LoadInt e z = one-within s _ (and-left _ _ (within-parts LoadInt e refl z))
-  named-of LoadConst e z = one-within s _ (and-left _ _ (within-parts LoadConst e refl z))
+  named-of LoadInt e z = one-within s _ (left-true _ _ (within-parts LoadInt e refl z))
+  named-of LoadConst e z = one-within s _ (left-true _ _ (within-parts LoadConst e refl z))
   named-of Copy e z = two-within s (x .instruction .b) (x .instruction .a) (within-parts Copy e refl z)
   named-of CopyN e z = tt
   named-of Unary e z = two-within s (x .instruction .b) (x .instruction .a) (within-parts Unary e refl z)
   named-of Binary e z = three-within s (x .instruction .b) (x .instruction .c) (x .instruction .a) (within-parts Binary e refl z)
   named-of Jump e z = tt
-  named-of JumpIf e z = one-within s _ (and-left _ _ (within-parts JumpIf e refl z))
-  named-of JumpIfNot e z = one-within s _ (and-left _ _ (within-parts JumpIfNot e refl z))
+  named-of JumpIf e z = one-within s _ (left-true _ _ (within-parts JumpIf e refl z))
+  named-of JumpIfNot e z = one-within s _ (left-true _ _ (within-parts JumpIfNot e refl z))
   named-of ForLoop e z = tt
   named-of Return e z = λ b.
-      let w : rangeWithin s (record { start = x .instruction .a + 0; count = x .instruction .b }) ≡ true = and-left _ _ (within-parts Return e refl z) in
+      let w : rangeWithin s (record { start = x .instruction .a + 0; count = x .instruction .b }) ≡ true = left-true _ _ (within-parts Return e refl z) in
       one-within s _ (rw b at w)
   named-of Panic e z = tt
   named-of Outside e z = tt

@@ -1,7 +1,6 @@
 -- The places that the pass keeps meet the conditions of removal: with live slots, and without them where dead stores are skipped.
 -- Assumes nothing.
 use mathlib.Core.Path.{_≡_, refl, sym, ap, _∙_}
-use mathlib.Core.Logic.{_⊎_, inl, inr}
 use mathlib.Core.Bool.{Bool, true, false, cond, not, _&&_, _||_, or-true, false≢true, true≢false}
 use mathlib.Core.List.{List, [], _∷_, _++_}
 use mathlib.Core.Option.{Option, none, some}
@@ -17,8 +16,9 @@ use Rattle.instruction.specs.Opcode as op
 use Rattle.instruction.specs.declared.Instruction.{Instruction}
 use Rattle.instruction.specs.declared.Class.{Class}
 use Rattle.instruction.specs.declared.Class.the-variants.{Hint, LoadInt, LoadConst, Copy, CopyN, Unary, Binary, Jump, JumpIf, JumpIfNot, ForLoop, Return, Panic, Outside, Invalid}
-use Rattle.instruction.specs.Class.{classOf, single}
+use Rattle.instruction.specs.Class.{classOf}
 use Rattle.instruction.specs.Instruction.{class}
+use Rattle.instruction.specs.Laws.{hint-class, jump-class}
 use Rattle.unit.specs.Size.{maxInstructions}
 use Rattle.effects.specs.Shape.{Tables, Sections, Cell, cellAt, noCell}
 use Rattle.effects.specs.Effects.{allReads, writes, rangeHas, anyOf}
@@ -27,9 +27,10 @@ use Rattle.flow.specs.Branch.{falls, branches, targetBy, target}
 use Rattle.flow.specs.Block.{blockCount}
 use Rattle.flow.specs.Loop.{reachedPlaces, anchors, isPlainHint}
 use Rattle.flow.specs.Marks.{Marked}
-use Rattle.flow.specs.Flags.{Flags, flag}
+use Rattle.flow.specs.Flags.{Flags}
 use Rattle.flow.specs.Reached.{places-long, places-flags, places-zero, places-next, places-target}
 use Rattle.pc_map.specs.Boundary.{isKept, boundary}
+use Rattle.pc_map.specs.Boundaries.{boundary-kept}
 use Rattle.pc_map.specs.Relocate.{relocate, relocateBy}
 use Rattle.pc_map.specs.Moved.{target-moves}
 use Rattle.liveness.specs.Live.{Row, isLast, liveRows}
@@ -39,15 +40,32 @@ use Rattle.answer.specs.Pass.{usefulPlaces, keptPlaces}
 use Rattle.run.specs.Program.{Function, givenRanges, slotsOf}
 use Rattle.run.specs.Frame.{In}
 use Rattle.run.specs.Shapes.{byFields, writeParts, given-by}
-use Rattle.run.specs.Operands.{and-left, and-right}
+use Rattle.words.specs.Truth.{left-true}
 use Rattle.run.specs.Step.{Succ, next, branch}
-use Rattle.run.specs.Retained.{Bits, boundary-yes}
 use Rattle.run.specs.Relocated.{relocated-op}
-use Rattle.run.specs.Jumps.{Skips, rounds-long, rounds-bits, rounds-fewer, rounds-why}
+use Rattle.run.specs.Jumps.{Skips, rounds-long, rounds-flags, rounds-why}
 use Rattle.run.specs.Removed.{passes, Dropped, store, skip, Removable}
 
-pub bits-of : (l : List ℕ) → Flags l → Bits l
-bits-of l f p = flag l f p
+-- ---- what is useful: a flag for each cell
+
+module _ (marks : List ℕ) (cells : List Cell) where
+  pub useful-long : length (usefulPlaces marks cells) ≡ length cells
+  unfolding usefulPlaces
+  useful-long = length-mapFrom _ 0 cells
+
+  useful-at : (p : ℕ) → p < length cells → getD (usefulPlaces marks cells) p 0 ≡ cond (isPlainHint (cellAt cells p .instruction)) 0 (getD marks p 0)
+  unfolding usefulPlaces
+  useful-at p h = getD-mapFrom (λ p x. cond (isPlainHint (x .instruction)) 0 (getD marks p 0)) 0 cells p noCell 0 h ∙ rw zero-add
+
+  pub useful-flags : Flags marks → Flags (usefulPlaces marks cells)
+  useful-flags f p = elim (decLe (length cells) p) [
+    | yes h ↦ (let l : length (usefulPlaces marks cells) ≤ p = rw useful-long h in rw (List·getD-eq-default (usefulPlaces marks cells) 0 l) (omega arith))
+    | no h ↦ rw (useful-at p (omega arith)) (go (isPlainHint (cellAt cells p .instruction)))
+  ]
+    where
+      go : (t : Bool) → cond t 0 (getD marks p 0) ≤ 1
+      go true = omega arith
+      go false = f p
 
 -- What is asked of the code that is removed from, and of the blocks of the code that it was made of.
 pub record Removing (G : Function) (leaders : List ℕ) : Type 0 where
@@ -89,41 +107,16 @@ module _ (G : Function) (leaders : List ℕ) (N : Removing G leaders) where
   abbrev Reach : ℕ → Type 0
   Reach p = (p ≤ n) × (p < n → Marked marks p)
 
-  -- ---- what is useful
-
-  pub useful-long : length useful ≡ n
-  unfolding usefulPlaces
-  useful-long = length-mapFrom _ 0 code
-
-  useful-at : (p : ℕ) → p < n → getD useful p 0 ≡ cond (isPlainHint (cell p .instruction)) 0 (getD marks p 0)
-  unfolding usefulPlaces
-  useful-at p h = getD-mapFrom (λ p x. cond (isPlainHint (x .instruction)) 0 (getD marks p 0)) 0 code p noCell 0 h ∙ rw zero-add
-
-  pub useful-bits : Bits useful
-  useful-bits p = elim (decLe n p) [
-    | yes h ↦ (let l : length useful ≤ p = rw useful-long h in inl (List·getD-eq-default useful 0 l))
-    | no h ↦ rw (useful-at p (omega arith)) (go (isPlainHint (cell p .instruction)) (bits-of marks (places-flags code) p))
-  ]
-    where
-      go : (t : Bool) → (getD marks p 0 ≡ 0) ⊎ (getD marks p 0 ≡ 1) → (cond t 0 (getD marks p 0) ≡ 0) ⊎ (cond t 0 (getD marks p 0) ≡ 1)
-      go true b = inl refl
-      go false b = b
-
   -- a reached place that is not useful is a plain hint
   pub not-useful : (p : ℕ) → p < n → Marked marks p → isKept useful p ≡ false → isPlainHint (cell p .instruction) ≡ true
-  not-useful p h m e = go (isPlainHint (cell p .instruction)) refl (rw (useful-at p h) at e)
+  not-useful p h m e = go (isPlainHint (cell p .instruction)) refl (rw (useful-at marks code p h) at e)
     where
       go : (t : Bool) → isPlainHint (cell p .instruction) ≡ t → eqb (cond t 0 (getD marks p 0)) 1 ≡ false → isPlainHint (cell p .instruction) ≡ true
       go true q r = q
       go false q r = absurd (true≢false (sym (eq-eqb (getD marks p 0) 1 m) ∙ r))
 
-  pub hint-class : (p : ℕ) → isPlainHint (cell p .instruction) ≡ true → class (cell p .instruction) ≡ Hint
-  unfolding classOf single
-  hint-class p e = let o : cell p .instruction .op ≡ op.Hint = eqb-true _ _ (and-left (eqb (cell p .instruction .op) op.Hint) (eqb (cell p .instruction .flags) 0) e) in rw o
-
-  jump-class : (p : ℕ) → cell p .instruction .op ≡ op.Jump → class (cell p .instruction) ≡ Jump
-  unfolding classOf single
-  jump-class p e = rw e
+  pub plain-class : (p : ℕ) → isPlainHint (cell p .instruction) ≡ true → class (cell p .instruction) ≡ Hint
+  plain-class p e = hint-class (cell p .instruction) (eqb-true _ _ (left-true (eqb (cell p .instruction .op) op.Hint) (eqb (cell p .instruction .flags) 0) e))
 
   -- a hint gives no slot a word
   pub hint-gives : (p s : ℕ) → class (cell p .instruction) ≡ Hint → anyOf (rangeHas s) (givenRanges T (cell p)) ≡ false
@@ -184,18 +177,15 @@ module _ (G : Function) (leaders : List ℕ) (N : Removing G leaders) where
 
   -- ---- kept places after the jump rounds
 
-  module _ (keep : List ℕ) (b : Bits keep) (l : length keep ≡ n) where
+  module _ (keep : List ℕ) (b : Flags keep) (l : length keep ≡ n) where
     abbrev final : List ℕ
     final = jumpRounds 16 (anchors marks code) code keep
 
-    final-bits : Bits final
-    final-bits = rounds-bits (anchors marks code) code 16 keep b
+    final-flags : Flags final
+    final-flags = rounds-flags (anchors marks code) code 16 keep b
 
     final-long : n ≡ length final
     final-long = sym (rounds-long (anchors marks code) code 16 keep l)
-
-    final-flags : Flags final
-    final-flags p = elim (final-bits p) [ inl e ↦ omega arith | inr e ↦ omega arith ]
 
     -- a kept place goes where its target goes
     moved : (p : ℕ) → p < n → isKept final p ≡ true
@@ -204,7 +194,7 @@ module _ (G : Function) (leaders : List ℕ) (N : Removing G leaders) where
     moved p h e = go (class (cell p .instruction)) refl
       where
         stays : suc (boundary final p) ≡ boundary final (suc p)
-        stays = sym (boundary-yes final p (rw (← final-long) h) e)
+        stays = sym (boundary-kept final p (rw (← final-long) h) e)
 
         same : class (relocate final p (cell p) .instruction) ≡ class (cell p .instruction)
         same = ap classOf (relocated-op final p (cell p) (class (cell p .instruction)))
@@ -242,7 +232,7 @@ module _ (G : Function) (leaders : List ℕ) (N : Removing G leaders) where
         → ((s : ℕ) → class (cell p .instruction) ≡ Jump → live (target p (cell p .instruction)) s → live p s) → Dropped G final Reach live p
     skipped live p h k e l+ =
         let w : Skips (anchors marks code) code final p = rounds-why (anchors marks code) code 16 keep b l p h (target-le p h) k e in
-        let c : class (cell p .instruction) ≡ Jump = jump-class p (w .0) in
+        let c : class (cell p .instruction) ≡ Jump = jump-class (cell p .instruction) (w .0) in
         let t : target p (cell p .instruction) ≡ targetBy Jump p (cell p .instruction) = ap (λ (k : Class). targetBy k p (cell p .instruction)) c in
         skip c (rw t at (w .1)) (rw t at (w .2)) (λ s v. l+ s c (rw t v))
 
@@ -255,7 +245,7 @@ module _ (G : Function) (leaders : List ℕ) (N : Removing G leaders) where
       pub removable : Removable G final Reach live
       removable = record {
         described = N .described;
-        bits = final-bits;
+        flags = final-flags;
         long = final-long;
         operands = N .operands;
         moved = moved;
@@ -269,18 +259,24 @@ module _ (G : Function) (leaders : List ℕ) (N : Removing G leaders) where
 
   -- ---- where dead stores are skipped, every slot counts as live
 
+  plain-flags : Flags useful
+  plain-flags = useful-flags marks code (places-flags code)
+
+  plain-long : length useful ≡ n
+  plain-long = useful-long marks code
+
   abbrev All : ℕ → ℕ → Type 0
   All p s = Unit {0}
 
-  dropped-plain : (p : ℕ) → p < n → Reach p → isKept (final useful useful-bits useful-long) p ≡ false → Dropped G (final useful useful-bits useful-long) Reach All p
+  dropped-plain : (p : ℕ) → p < n → Reach p → isKept (final useful plain-flags plain-long) p ≡ false → Dropped G (final useful plain-flags plain-long) Reach All p
   unfolding passes
   dropped-plain p h r e = go (isKept useful p) refl
     where
-      go : (t : Bool) → isKept useful p ≡ t → Dropped G (final useful useful-bits useful-long) Reach All p
-      go true k = skipped useful useful-bits useful-long All p h k e (λ s c v. tt)
+      go : (t : Bool) → isKept useful p ≡ t → Dropped G (final useful plain-flags plain-long) Reach All p
+      go true k = skipped useful plain-flags plain-long All p h k e (λ s c v. tt)
       go false k =
-          let c : class (cell p .instruction) ≡ Hint = hint-class p (not-useful p h (r .1 h) k) in
+          let c : class (cell p .instruction) ≡ Hint = plain-class p (not-useful p h (r .1 h) k) in
           store (rw c refl) (λ s v. tt) (λ s v. hint-gives p s c)
 
   pub plain-removable : Removable G (jumpRounds 16 (anchors marks code) code useful) Reach All
-  plain-removable = removable useful useful-bits useful-long All (λ p h r k s i. tt) (λ p h r k q g s v w. tt) dropped-plain
+  plain-removable = removable useful plain-flags plain-long All (λ p h r k s i. tt) (λ p h r k q g s v w. tt) dropped-plain

@@ -1,13 +1,13 @@
 -- One pass over cells: what it returns runs as what it was given.
 -- Assumes nothing.
 use mathlib.Core.Path.{_≡_, refl, sym, ap, _∙_}
-use mathlib.Core.Bool.{Bool, true, false, cond, not, _&&_, false≢true}
+use mathlib.Core.Bool.{Bool, true, false, cond, not, _&&_}
 use mathlib.Core.List.{List, [], _∷_}
 use Prim.Native.Nat.{ℕ, suc, _≤_, _<_}
 use native.Mathlib.Omega.{arith}
 use lib.Dec.{ltb}
 use lib.ListN.{length, length-map}
-use borrow.Author.Tests.{ltb-true, ltb-false}
+use borrow.Author.Tests.{ltb-true, ltb-false, not-true}
 use Rattle.unit.specs.Result.{Retained}
 use Rattle.unit.specs.Size.{maxInstructions}
 use Rattle.effects.specs.declared.Check.{Check}
@@ -24,7 +24,7 @@ use Rattle.answer.specs.Clean.{cellOf, cellsAfter}
 use Rattle.run.specs.Machine.{SameRuns, same-runs-trans}
 use Rattle.run.specs.Program.{Function, programOf}
 use Rattle.run.specs.Returned.{resultFunction}
-use Rattle.run.specs.Operands.{and-left, and-right}
+use Rattle.words.specs.Truth.{left-true, right-true}
 use Rattle.run.specs.Numbered.{numberedFunction, numbering}
 use Rattle.run.specs.Kept.{kept-runs}
 use Rattle.run.specs.Checked.{Well, numberable, removing, numbered-fields, retained-fields}
@@ -40,6 +40,12 @@ unfolding checked
 passed-check Passed rest kept e = (refl, e)
 passed-check (Refused k p) rest kept e = let z : _≡_ {A = ℕ} 0 1 = cc in absurd (omega arith)
 
+-- how many instructions are worked on
+pub worked-size : (n : ℕ) → isWorkedOn n ≡ true → (1 < n) × (n ≤ maxInstructions)
+unfolding isWorkedOn
+worked-size n w =
+    (ltb-true 1 n (left-true (ltb 1 n) (not (ltb maxInstructions n)) w), ltb-false maxInstructions n (not-true (ltb maxInstructions n) (right-true (ltb 1 n) (not (ltb maxInstructions n)) w)))
+
 module _ (F : Function) (w : Well F) (worked : isWorkedOn (length (F .cells)) ≡ true) where
   abbrev S : Sections
   S = F .sections
@@ -48,16 +54,10 @@ module _ (F : Function) (w : Well F) (worked : isWorkedOn (length (F .cells)) �
   cells = F .cells
 
   pub some-code : 0 < length cells
-  unfolding isWorkedOn
-  some-code = let h = ltb-true 1 (length cells) (and-left (ltb 1 (length cells)) (not (ltb maxInstructions (length cells))) worked) in omega arith
+  some-code = omega (arith, worked-size (length cells) worked .0)
 
   pub few : length cells ≤ 65536
-  unfolding isWorkedOn
-  few = go (ltb maxInstructions (length cells)) refl (and-right (ltb 1 (length cells)) (not (ltb maxInstructions (length cells))) worked)
-    where
-      go : (t : Bool) → ltb maxInstructions (length cells) ≡ t → not t ≡ true → length cells ≤ 65536
-      go true e f = absurd (false≢true f)
-      go false e f = ltb-false maxInstructions (length cells) e
+  few = worked-size (length cells) worked .1
 
   abbrev code : List Cell
   code = numberCode S (leaders cells) cells

@@ -18,7 +18,9 @@ use Rattle.effects.specs.Shape.{Tables, Sections, Cell, cellAt}
 use Rattle.effects.specs.Effects.{allReads, rangeHas, anyOf}
 use Rattle.effects.specs.Check.{operandRefusal}
 use Rattle.flow.specs.Branch.{falls, branches, targetBy, target}
+use Rattle.flow.specs.Flags.{Flags}
 use Rattle.pc_map.specs.Boundary.{isKept, boundary}
+use Rattle.pc_map.specs.Boundaries.{boundary-zero, boundary-kept, boundary-dropped}
 use Rattle.pc_map.specs.Relocate.{relocate, relocateBy, retainFrom}
 use Rattle.answer.specs.Clean.{cellOf, cellsAfter}
 use Rattle.run.specs.Machine.{Words, Event, World, Act, silent, Node, Program, goto, SameRuns}
@@ -28,7 +30,7 @@ use Rattle.run.specs.Returned.{resultFunction}
 use Rattle.run.specs.Shapes.{writeParts, byFields, given-by}
 use Rattle.run.specs.Step.{Succ, next, branch, goes-succ}
 use Rattle.run.specs.Frame.{In, frame}
-use Rattle.run.specs.Retained.{Bits, boundary-yes, boundary-no, boundary-zero, kept-at, kept-long, kept-inside}
+use Rattle.run.specs.Retained.{kept-at, kept-long, kept-inside}
 use Rattle.run.specs.Relocated.{relocated-op, relocated-refusal, relocated-writes, relocated-act}
 
 -- a silent class that does not branch
@@ -91,7 +93,7 @@ module _ (F : Function) (keep : List ℕ) (reach : ℕ → Type 0) (live : ℕ �
   -- What must hold of kept places and live slots, over a set of places that the run does not leave.
   pub record Removable : Type 0 where
     pub described : length (F .cells) ≤ F .described
-    pub bits : Bits keep
+    pub flags : Flags keep
     pub long : length (F .cells) ≡ length keep
     pub operands : (p : ℕ) → p < length (F .cells) → operandRefusal (F .sections .locals) T (cell p) ≡ 0
     -- a kept branch goes to the boundary of its target
@@ -111,11 +113,11 @@ module _ (F : Function) (keep : List ℕ) (reach : ℕ → Type 0) (live : ℕ �
 
     moved-cell : (p : ℕ) → p < length (F .cells) → isKept keep p ≡ true → cellAt (F′ .cells) (boundary keep p) ≡ relocate keep p (cell p)
     unfolding resultFunction
-    moved-cell p h e = kept-at keep (A .bits) (F .cells) (A .long) p h e
+    moved-cell p h e = kept-at keep (A .flags) (F .cells) (A .long) p h e
 
     inside : (p : ℕ) → p < length (F .cells) → isKept keep p ≡ true → boundary keep p < length (F′ .cells)
     unfolding resultFunction
-    inside p h e = kept-inside keep (A .bits) (F .cells) (A .long) p h e
+    inside p h e = kept-inside keep (A .flags) (F .cells) (A .long) p h e
 
     -- both cells have a meaning, and one class
     class-given : (p : ℕ) → p < length (F .cells) → classIn F p (cell p) ≡ classAt p
@@ -137,7 +139,7 @@ module _ (F : Function) (keep : List ℕ) (reach : ℕ → Type 0) (live : ℕ �
           → goto (programOf F′ W .node (boundary keep p)) (boundary keep p) j ≡ boundary keep (goto (programOf F W .node p) p j)
       unfolding programOf nodeBy goto
       goto-moved p h e true = rw (moved-cell p h e, class-moved p h e, class-given p h) (A .moved p h e)
-      goto-moved p h e false = sym (boundary-yes keep p (rw (← A .long) h) e)
+      goto-moved p h e false = sym (boundary-kept keep p (rw (← A .long) h) e)
 
       kept-place : (p : ℕ) → p < length (F .cells) → reach p → isKept keep p ≡ true → Kept reach live (boundary keep) (programOf F W) (programOf F′ W) p
       unfolding programOf nodeBy resultFunction
@@ -188,7 +190,7 @@ module _ (F : Function) (keep : List ℕ) (reach : ℕ → Type 0) (live : ℕ �
         jumps = false;
         still = λ σ. rw (class-given p h) (passing (classAt p) (cell p) σ k);
         onward = omega arith;
-        stays = boundary-no keep (A .bits) p (rw (← A .long) h) e;
+        stays = boundary-dropped keep (A .flags) p (rw (← A .long) h) e;
         reach+ = A .onward p h r _ (next (passing-falls (classAt p) k));
         live+ = l+;
         unread = dead;
@@ -208,7 +210,7 @@ module _ (F : Function) (keep : List ℕ) (reach : ℕ → Type 0) (live : ℕ �
       sound = record {
         within = A .within;
         first = boundary-zero keep;
-        last = sym (kept-long keep (A .bits) (F .cells) (A .long));
+        last = sym (kept-long keep (A .flags) (F .cells) (A .long));
         place = λ p h r. which p h r (isKept keep p) refl;
       }
         where

@@ -17,7 +17,7 @@ use Rattle.values.specs.declared.Atom.the-variants.{Integer, Float, Definition}
 use Rattle.values.specs.Table.{sameAtom, Expression, sameExpression, SlotEntry, Values, empty, atStart, valueIn, slotIn, expressionIn, valueOf, learn}
 use Rattle.run.specs.Machine.{Words, World, put}
 use Rattle.run.specs.Program.{unaryWord, binaryWord}
-use Rattle.run.specs.Operands.{and-left, and-right}
+use Rattle.words.specs.Truth.{left-true, right-true}
 
 -- ---- the tests say what they seem to
 
@@ -31,7 +31,7 @@ same-atom (Float x) (Float y) e = ap Float (eqb-true x y e)
 same-atom (Float x) (Definition q t) e = absurd (false≢true e)
 same-atom (Definition p s) (Integer y) e = absurd (false≢true e)
 same-atom (Definition p s) (Float y) e = absurd (false≢true e)
-same-atom (Definition p s) (Definition q t) e = ap₂ Definition (eqb-true p q (and-left (eqb p q) (eqb s t) e)) (eqb-true s t (and-right (eqb p q) (eqb s t) e))
+same-atom (Definition p s) (Definition q t) e = ap₂ Definition (eqb-true p q (left-true (eqb p q) (eqb s t) e)) (eqb-true s t (right-true (eqb p q) (eqb s t) e))
 
 abbrev expressionOf : ℕ → ℕ → Atom → Atom → Expression
 expressionOf o f l r = record { opcode = o; flags = f; left = l; right = r }
@@ -44,10 +44,10 @@ same-expression d e q = go (eqb (d .opcode) (e .opcode) && eqb (d .flags) (e .fl
         → cond t (sameAtom (d .left) (e .left) && sameAtom (d .right) (e .right)) false ≡ true → d ≡ e
     go false t q = absurd (false≢true q)
     go true t q =
-        let o : d .opcode ≡ e .opcode = eqb-true _ _ (and-left (eqb (d .opcode) (e .opcode)) (eqb (d .flags) (e .flags)) t) in
-        let f : d .flags ≡ e .flags = eqb-true _ _ (and-right (eqb (d .opcode) (e .opcode)) (eqb (d .flags) (e .flags)) t) in
-        let l : d .left ≡ e .left = same-atom _ _ (and-left (sameAtom (d .left) (e .left)) (sameAtom (d .right) (e .right)) q) in
-        let r : d .right ≡ e .right = same-atom _ _ (and-right (sameAtom (d .left) (e .left)) (sameAtom (d .right) (e .right)) q) in
+        let o : d .opcode ≡ e .opcode = eqb-true _ _ (left-true (eqb (d .opcode) (e .opcode)) (eqb (d .flags) (e .flags)) t) in
+        let f : d .flags ≡ e .flags = eqb-true _ _ (right-true (eqb (d .opcode) (e .opcode)) (eqb (d .flags) (e .flags)) t) in
+        let l : d .left ≡ e .left = same-atom _ _ (left-true (sameAtom (d .left) (e .left)) (sameAtom (d .right) (e .right)) q) in
+        let r : d .right ≡ e .right = same-atom _ _ (right-true (sameAtom (d .left) (e .left)) (sameAtom (d .right) (e .right)) q) in
         ap (λ (z : ℕ). expressionOf z (d .flags) (d .left) (d .right)) o
         ∙ ap (λ (z : ℕ). expressionOf (e .opcode) z (d .left) (d .right)) f
         ∙ ap₂ (λ (y z : Atom). expressionOf (e .opcode) (e .flags) y z) l r

@@ -13,6 +13,7 @@ use Rattle.words.specs.Inside.{get-inside, mid-inside}
 use Rattle.words.specs.Le.{toLe, from-to}
 use Rattle.words.specs.Lists.{every, every-at}
 use Rattle.words.specs.Regions.{mid-long}
+use Rattle.words.specs.Truth.{both}
 use Rattle.unit.specs.Entry.{metadataAt, metadataBytes, goodMetadata, typeAt, goodType, goodConstant, caseAt, goodCase}
 use Rattle.unit.specs.Layout.{headerOf, sectionsFollow, goodCounts, goodEntries, isUnit, layoutOf, codeOf, metadataOf, typesOf, constantsOf, functionsOf, externsOf, casesOf}
 use Rattle.unit.specs.Refusal.{notUnit}
@@ -21,11 +22,6 @@ use Rattle.unit.specs.Size.{headerSize, instructionSize, metadataSize, c
 use Rattle.unit.specs.declared.Header.{Header}
 use Rattle.unit.specs.declared.Layout.the-variants.{Unit, Refused}
 use Rattle.unit.specs.declared.Metadata.{Metadata}
-
--- both tests passed
-both : (s t : Bool) → (s && t) ≡ true → (s ≡ true) × (t ≡ true)
-both true t e = (refl, e)
-both false t e = let z : _≡_ {A = ℕ} 0 1 = cc in absurd (omega arith)
 
 passed : (s t : Bool) → cond s t false ≡ true → (s ≡ true) × (t ≡ true)
 passed true t e = (refl, e)

@@ -1,4 +1,5 @@
 pub mod Regions
+pub mod Only
 pub mod Inside
 pub mod Le
 pub mod Bytes
@@ -7,3 +8,4 @@ pub mod Bits
 pub mod Lists
 pub mod Tabulate
 pub mod Keys
+pub mod Truth

@@ -6,7 +6,7 @@ use lib.ListN.{length}
 use Rattle.effects.specs.Shape.{Tables, tablesOf}
 use Rattle.effects.specs.Cells.{cellsBy}
 use Rattle.liveness.specs.Memory.{codeOf, usesOf, preservedOf, InSums, past-sums, in-sums, sums-turn, same-word, same-code}
-use Rattle.liveness.specs.Only.{Only, only-none, only-both, same-mid}
+use Rattle.words.specs.Only.{Only, only-none, only-both, same-mid}
 use Rattle.liveness.specs.Shown.{row-before}
 use Rattle.liveness.specs.Visit.{Summed, summed-begin}
 use borrow.Author.Needs.{needs}

@@ -8,7 +8,7 @@ use Rattle.words.specs.Regions.{mid-long}
 use Rattle.effects.specs.Shape.{Tables, tablesOf}
 use Rattle.effects.specs.Cells.{cellOf, cellsBy}
 use Rattle.liveness.specs.Memory.{cell-in}
-use Rattle.liveness.specs.Only.{At, Either, Only, only-none, only-both, lent-long, both-lent, same-mid}
+use Rattle.words.specs.Only.{At, Either, Only, only-none, only-both, lent-long, both-lent, same-mid}
 use Rattle.liveness.specs.Through.{Summary, summary-begin, summary-turn}
 use borrow.Author.Needs.{needs}
 use Rattle.liveness.proofs.block.summarize_block.Statement.{statement}

@@ -3,7 +3,7 @@ use lib.ListN.{getD}
 use borrow.Author.Tests.{eq-eqb, ne-eqb}
 use Rattle.effects.specs.Shape.{Tables, Cell, tablesOf}
 use Rattle.effects.specs.Cells.{cellOf}
-use Rattle.liveness.specs.Only.{only-none, lent-long, second-long}
+use Rattle.words.specs.Only.{only-none, lent-long, second-long}
 use Rattle.liveness.specs.Plain.{PlainFits, plain-fits}
 use Rattle.liveness.specs.Through.{not-placed, lent-placed}
 use borrow.Author.Needs.{needs}

@@ -2,7 +2,7 @@ use Prim.Native.Nat.{_*_}
 use native.Mathlib.Omega.{arith}
 use lib.ListN.{getD}
 use Rattle.liveness.specs.Memory.{liveOf}
-use Rattle.liveness.specs.Only.{mid-mid, only-none}
+use Rattle.words.specs.Only.{mid-mid, only-none}
 use Rattle.liveness.specs.Out.{joined-if, not-joined}
 use borrow.Author.Needs.{needs}
 use Rattle.liveness.proofs.out.join_if.Statement.{statement}

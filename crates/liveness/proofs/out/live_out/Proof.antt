@@ -5,9 +5,9 @@ use native.Mathlib.Omega.{arith}
 use lib.ListN.{length}
 use borrow.Author.Tests.{ltb-true}
 use borrow.Rule.Slice.PartMut.{midOf}
-use Rattle.effects.specs.Operands.{right-true}
+use Rattle.words.specs.Truth.{right-true}
 use Rattle.liveness.specs.Memory.{liveOf, same-live}
-use Rattle.liveness.specs.Only.{lent, only-both}
+use Rattle.words.specs.Only.{lent, only-both}
 use Rattle.liveness.specs.Out.{target-inside, out-joined}
 use borrow.Author.Needs.{needs}
 use Rattle.liveness.proofs.out.live_out.Statement.{statement}

@@ -7,7 +7,7 @@ use Rattle.effects.specs.Shape.{Sections}
 use Rattle.effects.specs.Cells.{cellsBy}
 use Rattle.liveness.specs.Live.{Row}
 use Rattle.liveness.specs.Memory.{codeOf, usesOf, preservedOf, liveOf, InRows, still-ready, visited-then}
-use Rattle.liveness.specs.Only.{Only, only-none, only-both}
+use Rattle.words.specs.Only.{Only, only-none, only-both}
 use Rattle.liveness.specs.Rounding.{Around, Rounding, rounding-begin, rounding-turn, rounding-end}
 use borrow.Author.Needs.{needs}
 use Rattle.liveness.proofs.round.round.Statement.{statement}

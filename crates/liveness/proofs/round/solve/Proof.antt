@@ -8,7 +8,7 @@ use Rattle.effects.specs.Shape.{Sections}
 use Rattle.effects.specs.Cells.{cellsBy}
 use Rattle.liveness.specs.Live.{Row}
 use Rattle.liveness.specs.Memory.{codeOf, usesOf, preservedOf, liveOf, InRows, still-ready, rows-code, rows-uses, rows-preserved}
-use Rattle.liveness.specs.Only.{Only, only-none, only-both}
+use Rattle.words.specs.Only.{Only, only-none, only-both}
 use Rattle.liveness.specs.Rounding.{Around}
 use Rattle.liveness.specs.Solving.{Solving, solving-begin, solving-turn, solving-found, solving-none}
 use borrow.Author.Needs.{needs}

@@ -4,7 +4,7 @@ use native.Mathlib.Omega.{arith}
 use lib.ListN.{length}
 use borrow.Rule.Slice.PartMut.{midOf}
 use Rattle.words.specs.Regions.{mid-long}
-use Rattle.liveness.specs.Only.{At, Only, only-none}
+use Rattle.words.specs.Only.{At, Only, only-none}
 use Rattle.liveness.specs.Wordwise.{orWords, or-past, joined-sets, Stored, stored-begin, stored-end, part-only, part-other, part-old, part-turn}
 use borrow.Author.Needs.{needs}
 use Rattle.liveness.proofs.row.join.Statement.{statement}

@@ -5,7 +5,7 @@ use lib.ListN.{length, getD}
 use lib.Bits.{or-lt, and-lt}
 use borrow.Rule.Slice.PartMut.{midOf}
 use Rattle.words.specs.Regions.{mid-long}
-use Rattle.liveness.specs.Only.{At, Only, only-none}
+use Rattle.words.specs.Only.{At, Only, only-none}
 use Rattle.liveness.specs.Wordwise.{transferWords, transfer-past, transferred-sets, stored-end, Storing, storing-begin, moved, part-only, part-other, part-moves}
 use borrow.Author.Needs.{needs}
 use Rattle.liveness.proofs.row.transfer.Statement.{statement}

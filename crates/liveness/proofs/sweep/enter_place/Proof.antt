@@ -2,7 +2,7 @@ use mathlib.Core.Path.{sym, _∙_}
 use lib.ListN.{getD}
 use Rattle.instruction.specs.Instruction.{ofWord}
 use Rattle.liveness.specs.Memory.{liveOf}
-use Rattle.liveness.specs.Only.{only-none}
+use Rattle.words.specs.Only.{only-none}
 use Rattle.liveness.specs.Sweeping.{entered, not-entered}
 use borrow.Author.Needs.{needs}
 use Rattle.liveness.proofs.sweep.enter_place.Statement.{statement}

@@ -8,7 +8,7 @@ use Rattle.effects.specs.Shape.{tablesOf}
 use Rattle.effects.specs.Cells.{cellsBy, cells-long}
 use Rattle.liveness.specs.Live.{Row}
 use Rattle.liveness.specs.Memory.{codeOf, rowOf, liveOf, leadersOf, blocksOf, flagsAt, flagsOf, row-inside, code-word, same-word, same-code, same-live, same-leaders, same-blocks, still-coded}
-use Rattle.liveness.specs.Only.{At, Only, only-none, only-both, lent, lent-long, put-only}
+use Rattle.words.specs.Only.{At, Only, only-none, only-both, lent, lent-long, put-only}
 use Rattle.liveness.specs.Sweep.{Grounds, SweepFrom, sections, sweep-begin, sweep-end, code-turn}
 use borrow.Author.Needs.{needs}
 use Rattle.liveness.proofs.sweep.sweep.Statement.{statement}

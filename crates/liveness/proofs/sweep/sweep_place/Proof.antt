@@ -9,7 +9,7 @@ use Rattle.effects.specs.Shape.{Tables, Cell, tablesOf}
 use Rattle.effects.specs.Cells.{cellOf}
 use Rattle.effects.specs.Plain.{isPlain}
 use Rattle.liveness.specs.Memory.{rowOf, row-inside}
-use Rattle.liveness.specs.Only.{only-none, lent-long}
+use Rattle.words.specs.Only.{only-none, lent-long}
 use Rattle.liveness.specs.Plain.{plain-fits}
 use Rattle.liveness.specs.Unread.{deadBy}
 use Rattle.liveness.specs.Sweeping.{swept-off, lent-gone, lent-on}

@@ -8,8 +8,8 @@ use native.Mathlib.Decide.{decLe}
 use native.Mathlib.Omega.{arith}
 use lib.ListN.{length, getD, set, length-set, List·getD-eq-default}
 use lib.Seq.{getD-set-other, ext-getD}
-use borrow.Rule.Slice.PartMut.{midOf, putMid, set-mid-at}
+use borrow.Rule.Slice.PartMut.{midOf, putMid}
 use Rattle.words.specs.Regions.{mid-long, get-mid, put-long, mid-put, get-before, get-after}
 
 -- a place of the region of k from a on
 abbrev pub At : ℕ → ℕ → ℕ → Type 0
@@ -47,11 +47,6 @@ mid-mid m b l i k h g =
 
 module _ (m : List ℕ) (a k : ℕ) (h : a + k ≤ length m) where
   -- one place written
-  pub mid-set : (i v : ℕ) → i < k → midOf a k (set m (a + i) v) ≡ set (midOf a k m) i v
-  mid-set i v q =
-      let long : length (midOf a k m) ≡ k = mid-long m a k h in
-      rw (← set-mid-at a k i m v (rw long q)) (mid-put m a k (set (midOf a k m) i v) (length-set (midOf a k m) i v ∙ long) h)
-
   pub only-set : (i v : ℕ) → i < k → Only (At a k) m (set m (a + i) v)
   only-set i v q = record { long = length-set m (a + i) v; same = λ j n. getD-set-other m (a + i) j v 0 (λ e. n (omega arith, omega arith)) }
 
@@ -87,6 +82,17 @@ module _ (P : ℕ → Type 0) (m m′ : List ℕ) (o : Only P m m′) where
   -- a region with no such place is as it was
   pub same-mid : (b k : ℕ) → b + k ≤ length m → ((j : ℕ) → At b k j → P j → ⊥) → midOf b k m′ ≡ midOf b k m
   same-mid b k h f = same-part m′ m b b k (rw (o .long) h) h (λ i q. o .same (b + i) (f (b + i) (omega arith, omega arith)))
+
+-- regions of a list after a part of it was written: within the part, before it and after it
+module _ (xs : List ℕ) (a k : ℕ) (ys : List ℕ) (h : a + k ≤ length xs) (e : length ys ≡ k) where
+  pub back-within : (i j : ℕ) → i + j ≤ k → midOf (a + i) j (putMid a k xs ys) ≡ midOf i j ys
+  back-within i j g = sym (mid-mid (putMid a k xs ys) a k i j (rw (put-long xs a k ys e h) h) g) ∙ ap (λ (l : List ℕ). midOf i j l) (mid-put xs a k ys e h)
+
+  pub back-before : (b j : ℕ) → b + j ≤ a → midOf b j (putMid a k xs ys) ≡ midOf b j xs
+  back-before b j g = same-mid (At a k) xs (putMid a k xs ys) (only-put xs a k h ys e) b j (omega arith) (λ i q r. omega (arith, q .1, r .0))
+
+  pub back-after : (b j : ℕ) → a + k ≤ b → b + j ≤ length xs → midOf b j (putMid a k xs ys) ≡ midOf b j xs
+  back-after b j g f = same-mid (At a k) xs (putMid a k xs ys) (only-put xs a k h ys e) b j f (λ i q r. omega (arith, q .0, r .1))
 
 -- two parts that were lent one after the other, first the one that lies behind
 pub record Both (a b k : ℕ) (m m₁ m₂ xs ys : List ℕ) : Type 0 where

@@ -1,0 +1,15 @@
+-- What two tests say where both passed.
+-- Assumes nothing.
+use mathlib.Core.Path.{_≡_, refl}
+use mathlib.Core.Bool.{Bool, true, false, _&&_, false≢true}
+
+pub left-true : (s t : Bool) → (s && t) ≡ true → s ≡ true
+left-true true t e = refl
+left-true false t e = e
+
+pub right-true : (s t : Bool) → (s && t) ≡ true → t ≡ true
+right-true true t e = e
+right-true false t e = absurd (false≢true e)
+
+pub both : (s t : Bool) → (s && t) ≡ true → (s ≡ true) × (t ≡ true)
+both s t e = (left-true s t e, right-true s t e)
