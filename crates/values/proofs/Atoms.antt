@@ -9,16 +9,13 @@ use Prim.Native.Nat.{ℕ, suc, _+_, _*_, _-_, _≤_, _<_}
 use native.Mathlib.Omega.{arith}
 use lib.Dec.{eqb, ltb}
 use borrow.Author.Tests.{eqb-true, eqb-false, eq-eqb, ne-eqb, lt-ltb, le-ltb, ltb-true, ltb-false}
+use Rattle.words.specs.Truth.{both}
 use Rattle.values.specs.Table.{atStart, sameAtom}
 use Rattle.values.specs.Folded.{integerOf}
 use Rattle.values.specs.Entries.{Key, key, keyAt, newest}
 use Rattle.values.specs.Memory.{Memory, constantOf, constantKey, limit, atomAt, integerAt, Ordered, atomIn}
 use Rattle.values.specs.declared.Atom.{Atom}
 use Rattle.values.specs.declared.Atom.the-variants.{Integer, Float, Definition}
-
-pub both : (s t : Bool) → s && t ≡ true → (s ≡ true) × (t ≡ true)
-both true t e = (refl, e)
-both false t e = let z : _≡_ {A = ℕ} 0 1 = cc in absurd (omega arith)
 
 pub same-bool : (s t : Bool) → (s ≡ true → t ≡ true) → (t ≡ true → s ≡ true) → s ≡ t
 same-bool true t f g = sym (f refl)

@@ -11,11 +11,12 @@ use lib.ListN.{length, getD, set, length-set}
 use lib.Seq.{getD-set-same, getD-set-other}
 use borrow.Rule.Slice.PartMut.{putMid}
 use Rattle.words.specs.Regions.{mid-long, mid-set-before, get-before, put-long}
+use Rattle.words.specs.Truth.{both}
 use Rattle.values.specs.Entries.{Key, key, keyAt, newest, Added}
 use Rattle.values.specs.Chain.{newest-le, newest-key}
 use Rattle.values.specs.Memory.{part, marksAt, constantsAt, expressionsAt, endAt, Memory, memoryOf, numberAt, constantOf, constantKey, expressionKey, limit, Ready, atomIn}
 use Rattle.values.specs.Kept.{Kept, Same, Interns, Learns}
-use Rattle.values.proofs.Atoms.{both, atom-zero, atom-constant}
+use Rattle.values.proofs.Atoms.{atom-zero, atom-constant}
 use Rattle.values.proofs.Parts.{put-length, part-put, part-before, part-after}
 use Rattle.values.proofs.Holding.{grown, taught, number-same}
 use Rattle.values.proofs.Learning.{more-ordered, more-holds, atom-next, learn-ordered, learn-holds}

@@ -8,11 +8,8 @@ use native.Mathlib.Nat.{mul-lt-mul-of-pos-right, mul-le-mul}
 use native.Mathlib.Omega.{arith}
 use lib.Dec.{eqb}
 use borrow.Author.Tests.{eqb-true, eqb-false, eq-eqb}
+use Rattle.words.specs.Truth.{both}
 use Rattle.values.specs.Entries.{Key, key, keyAt, link, bucketOf, bucketAt, headAt, sameKey, newest, latest, Linked}
-
-both : (s t : Bool) → s && t ≡ true → (s ≡ true) × (t ≡ true)
-both true t e = (refl, e)
-both false t e = let z : _≡_ {A = ℕ} 0 1 = cc in absurd (omega arith)
 
 pub same-key : (k l : Key) → sameKey k l ≡ true → k ≡ l
 unfolding sameKey
