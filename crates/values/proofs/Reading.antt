@@ -6,14 +6,15 @@ use mathlib.Core.List.{List}
 use mathlib.Core.Option.{none, some}
 use Prim.Native.Nat.{ℕ, zero, suc, _+_, _*_, _-_, _/_, _%_, _≤_, _<_}
 use native.Mathlib.Omega.{arith}
-use lib.Dec.{eqb}
+use lib.Dec.{eqb, ltb}
 use lib.ListN.{length, getD}
-use borrow.Author.Tests.{eq-eqb, ne-eqb, lt-ltb, le-ltb}
+use borrow.Author.Tests.{eq-eqb, ne-eqb, lt-ltb, le-ltb, ltb-true}
 use Rattle.words.specs.Regions.{get-mid}
+use Rattle.words.specs.Truth.{both}
 use Rattle.values.specs.Entries.{Key, keyAt, value, newest}
 use Rattle.values.specs.Chain.{newest-le}
 use Rattle.values.specs.Folded.{integerOf}
-use Rattle.values.specs.Memory.{constantsAt, expressionsAt, endAt, Memory, memoryOf, numberAt, markedAt, usableIn, usableAt, integerAt, expressionIf, expressionAt, limit, Ready}
+use Rattle.values.specs.Memory.{constantsAt, expressionsAt, endAt, Memory, memoryOf, numberAt, markedAt, markedOr, slotOr, usableIn, usableAt, integerAt, expressionIf, expressionAt, limit, Ready}
 use Rattle.values.specs.declared.Atom.the-variants.{Integer, Float, Definition}
 use Rattle.values.specs.declared.Found.{Found}
 use Rattle.values.specs.declared.Found.the-variants.{At, Nothing}
@@ -52,6 +53,32 @@ module _ {n S : ℕ} {t : List ℕ} (g : Ready n S t) where
     pub usable-by : {r x : ℕ} (b : Bool) → f ≡ At r → r < S → x ≡ numberAt (memoryOf n S t) r → eqb x d && eqb (getD types r 0) type ≡ b → cond b (At r) Nothing ≡ usableAt n S types (memoryOf n S t) d type
     unfolding usableIn
     usable-by {r} {x} b q l y z = rw (← e, q, lt-ltb r S l, ← y, z)
+
+  -- the recorded slot, or s
+  pub marked-yes : (d s : ℕ) → eqb (memoryOf n S t .mark d / 65536) (memoryOf n S t .epoch) && ltb (memoryOf n S t .mark d % 65536) S ≡ true
+      → (memoryOf n S t .mark d % 65536 ≡ markedOr S (memoryOf n S t) d s) × (memoryOf n S t .mark d % 65536 < S)
+  marked-yes d s e = (rw e, ltb-true (m .mark d % 65536) S (both (eqb (m .mark d / 65536) (m .epoch)) (ltb (m .mark d % 65536) S) e .1))
+
+  pub marked-no : (d s : ℕ) → eqb (memoryOf n S t .mark d / 65536) (memoryOf n S t .epoch) && ltb (memoryOf n S t .mark d % 65536) S ≡ false → s < S
+      → (s ≡ markedOr S (memoryOf n S t) d s) × (s < S)
+  marked-no d s e l = (rw e, l)
+
+  -- the slot that is usable, or s: s itself has the number and the type
+  pub usable-or : (types : List ℕ) (d s : ℕ) {c x : ℕ} (b : Bool) → c ≡ markedOr S (memoryOf n S t) d s → x ≡ numberAt (memoryOf n S t) c → eqb x d && eqb (getD types c 0) (getD types s 0) ≡ b
+      → cond b c s ≡ slotOr s (usableAt n S types (memoryOf n S t) d (getD types s 0))
+  unfolding usableIn markedAt slotOr
+  usable-or types d s {c} {x} b k y z = go (eqb (m .mark d / 65536) (m .epoch)) (ltb (m .mark d % 65536) S) refl k b (rw y at z)
+    where
+      same : (b : Bool) → cond b s s ≡ s
+      same true = refl
+      same false = refl
+
+      go : (p q : Bool) → ltb (m .mark d % 65536) S ≡ q → c ≡ cond (p && q) (m .mark d % 65536) s → (b : Bool) → eqb (numberAt m c) d && eqb (getD types c 0) (getD types s 0) ≡ b
+          → cond b c s ≡ slotOr s (usableIn n S types m d (getD types s 0) (cond p (At (m .mark d % 65536)) Nothing))
+      go true true l e true z = rw (l, ← e, z)
+      go true true l e false z = rw (l, ← e, z)
+      go true false l e b z = rw (l, e) (same b)
+      go false q l e b z = rw e (same b)
 
   -- a slot that is found fits 16 bits
   pub found-fits : (types : List ℕ) (d type : ℕ) {f : Found} {r : ℕ} → f ≡ usableAt n S types (memoryOf n S t) d type → f ≡ At r → r < 65536

@@ -1,25 +1,25 @@
 -- What the functions of the table do to the memory, each with the table of values that it then holds.
 -- Assumes nothing.
 use mathlib.Core.Path.{_≡_, refl, sym, ap, _∙_}
-use mathlib.Core.Bool.{Bool, true, false}
+use mathlib.Core.Bool.{Bool, true, false, cond, _&&_}
 use mathlib.Core.List.{List, _∷_}
 use mathlib.Core.Option.{none, some}
-use Prim.Native.Nat.{ℕ, zero, suc, _+_, _*_, _-_, _/_, _≤_, _<_}
+use Prim.Native.Nat.{ℕ, zero, suc, _+_, _*_, _-_, _/_, _%_, _≤_, _<_}
 use native.Mathlib.Omega.{arith}
-use lib.Dec.{eqb}
+use lib.Dec.{eqb, ltb}
 use lib.ListN.{length, getD, set, length-set}
-use lib.Seq.{getD-set-same, getD-set-other}
+use lib.Seq.{getD-set-same, getD-set-other, set-getD}
 use borrow.Rule.Slice.PartMut.{putMid, midOf}
-use borrow.Author.Tests.{eqb-true, eqb-false, eq-eqb}
+use borrow.Author.Tests.{eqb-true, eqb-false, eq-eqb, ltb-true}
 use Rattle.words.specs.Regions.{mid-long, mid-set-before}
 use Rattle.values.specs.Table.{Values, valueIn, valueOf, recordedSlot, representative, orItself, store}
 use Rattle.values.specs.Entries.{Linked}
 use Rattle.values.specs.Adding.{next-epoch}
-use Rattle.values.specs.Memory.{marksAt, constantsAt, expressionsAt, endAt, Memory, memoryOf, numberAt, markedAt, usableAt, slotFound, limit, Ordered, Ready, atomIn, Holds}
+use Rattle.values.specs.Memory.{marksAt, constantsAt, expressionsAt, endAt, Memory, memoryOf, numberAt, markedAt, slotOr, usableIn, usableAt, slotFound, limit, Ordered, Ready, atomIn, Holds}
 use Rattle.values.specs.Kept.{Kept, Same, Clears, Represents, Stores}
 use Rattle.values.specs.declared.Found.{Found}
 use Rattle.values.specs.declared.Found.the-variants.{At, Nothing}
-use Rattle.values.proofs.Holding.{turned, number-same, mark-ordered, mark-holds, put-ordered, put-number, put-holds, nothing-ordered, nothing-holds, usable-holds, usable-low}
+use Rattle.values.proofs.Holding.{turned, number-same, mark-same, mark-ordered, mark-holds, put-ordered, put-number, put-holds, nothing-ordered, nothing-holds, usable-holds, usable-low}
 
 -- a word of a slot or a mark stored: the counts and the tables of entries are as they were
 set-memory : (n S : ℕ) (t : List ℕ) (i w : ℕ) → 3 ≤ i → i < constantsAt n S
@@ -32,6 +32,22 @@ set-memory n S t i w l h =
       mid-set-before t (constantsAt n S) (expressionsAt n S - constantsAt n S) i w h,
       mid-set-before t (expressionsAt n S) (endAt n S - expressionsAt n S) i w (omega arith),
     )
+
+-- the word of the mark of a slot that is found to be usable
+recorded-word : (n S : ℕ) (m : Memory) (types : List ℕ) (d type r : ℕ) → usableAt n S types m d type ≡ At r → 65536 * m .epoch + r ≡ m .mark d
+unfolding usableIn markedAt
+recorded-word n S m types d type r u = go (eqb (m .mark d / 65536) (m .epoch)) refl u
+  where
+    is : (q : ℕ) (x y : Bool) → cond x (cond y (At q) Nothing) Nothing ≡ At r → q ≡ r
+    is q true true z = cc
+    is q true false z = let w : _≡_ {A = ℕ} 0 1 = cc in absurd (omega arith)
+    is q false y z = let w : _≡_ {A = ℕ} 0 1 = cc in absurd (omega arith)
+
+    go : (p : Bool) → eqb (m .mark d / 65536) (m .epoch) ≡ p → usableIn n S types m d type (cond p (At (m .mark d % 65536)) Nothing) ≡ At r → 65536 * m .epoch + r ≡ m .mark d
+    go true e z =
+        let same = is (m .mark d % 65536) (ltb (m .mark d % 65536) S) (eqb (numberAt m (m .mark d % 65536)) d && eqb (getD types (m .mark d % 65536) 0) type) z in
+        let epoch = eqb-true (m .mark d / 65536) (m .epoch) e in omega arith
+    go false e z = let w : _≡_ {A = ℕ} 0 1 = cc in absurd (omega arith)
 
 module _ {n S : ℕ} {t : List ℕ} (g : Ready n S t) where
   abbrev m : Memory
@@ -112,7 +128,7 @@ module _ {n S : ℕ} {t : List ℕ} (g : Ready n S t) where
     value : (dest : ℕ → ℕ) {v : Values} → Holds n S dest v m → valueOf v s ≡ atomIn n S dest m d
     value dest h = sym (h .slots s low) ∙ ap (atomIn n S dest m) (sym is)
 
-    pub represent-found : {f : Found} {r : ℕ} → f ≡ usableAt n S types (memoryOf n S t) d (getD types s 0) → f ≡ At r → Represents n S types t s d r t
+    represent-found : {f : Found} {r : ℕ} → f ≡ usableAt n S types (memoryOf n S t) d (getD types s 0) → f ≡ At r → Represents n S types t s d r t
     unfolding representative orItself slotFound
     represent-found {f} {r} e q =
         let found : usableAt n S types m d (getD types s 0) ≡ At r = sym e ∙ q in
@@ -152,7 +168,7 @@ module _ {n S : ℕ} {t : List ℕ} (g : Ready n S t) where
     long₁ : length t₁ ≡ length t
     long₁ = length-set t (3 + S + d) (65536 * getD t 0 0 + s)
 
-    pub represent-itself : {f : Found} → f ≡ usableAt n S types (memoryOf n S t) d (getD types s 0) → f ≡ Nothing → Represents n S types t s d s (set t (3 + S + d) (65536 * getD t 0 0 + s))
+    represent-itself : {f : Found} → f ≡ usableAt n S types (memoryOf n S t) d (getD types s 0) → f ≡ Nothing → Represents n S types t s d s (set t (3 + S + d) (65536 * getD t 0 0 + s))
     unfolding representative orItself slotFound
     represent-itself {f} e q =
         let found : usableAt n S types m d (getD types s 0) ≡ Nothing = sym e ∙ q in
@@ -176,6 +192,15 @@ module _ {n S : ℕ} {t : List ℕ} (g : Ready n S t) where
               = ap slotFound (sym found) ∙ usable-holds n S few (g .order) dest h types d (getD types s 0) used ∙ ap (λ x. recordedSlot types v x (getD types s 0)) (sym (value dest h)) in
               rw (sym known, memory₁, value dest h) (refl, mark-holds n S few (g .order) d s low used (λ r. getD t₁ (3 + r) 0) (λ e. getD t₁ (marksAt S + e) 0) slots₁ here₁ there₁ dest h);
         }
+
+    -- either way that slot is recorded
+    pub represents : (r : ℕ) → r ≡ slotOr s (usableAt n S types (memoryOf n S t) d (getD types s 0)) → Represents n S types t s d r (set t (3 + S + d) (65536 * getD t 0 0 + r))
+    unfolding slotOr
+    represents r e = go (usableAt n S types m d (getD types s 0)) refl e
+      where
+        go : (f : Found) → usableAt n S types m d (getD types s 0) ≡ f → r ≡ slotOr s f → Represents n S types t s d r (set t (3 + S + d) (65536 * getD t 0 0 + r))
+        go (At q) u k = rw (k, recorded-word n S m types d (getD types s 0) q u, set-getD t (3 + S + d) 0) (represent-found refl u)
+        go Nothing u k = rw k (represent-itself refl u)
 
   -- a number stored in a slot, before the slot is represented
   module _ (s d : ℕ) (low : s < S) (used : d < limit n S (memoryOf n S t)) where
@@ -210,6 +235,9 @@ module _ {n S : ℕ} {t : List ℕ} (g : Ready n S t) where
     pub put-is : d ≡ numberAt (memoryOf n S (set t (3 + s) (4294967296 * getD t 0 0 + d))) s
     put-is = rw memory₂ (sym (put-number n S few (g .order) s d low used (λ r. getD t₂ (3 + r) 0) (λ e. getD t₂ (marksAt S + e) 0) here₂ there₂ marks₂))
 
+    epoch₂ : getD t₂ 0 0 ≡ getD t 0 0
+    epoch₂ = getD-set-other t (3 + s) 0 (4294967296 * getD t 0 0 + d) 0 (λ e. omega arith)
+
     pub stores : (types : List ℕ) {slot : ℕ} {t′ : List ℕ} → Represents n S types (set t (3 + s) (4294967296 * getD t 0 0 + d)) s d slot t′ → Stores n S types t s d t′
     unfolding store
     stores types {slot} {t′} b =
@@ -225,3 +253,53 @@ module _ {n S : ℕ} {t : List ℕ} (g : Ready n S t) where
               b .holds dest (record { slots = record { slot = s; value = atomIn n S dest m d } ∷ v .slots; recorded = v .recorded; expressions = v .expressions })
               (rw memory₂ (put-holds n S few (g .order) s d low used (λ r. getD t₂ (3 + r) 0) (λ e. getD t₂ (marksAt S + e) 0) here₂ there₂ marks₂ dest h)) .1;
         }
+
+    abbrev m₂ : Memory
+    m₂ = turned m (λ r. getD t₂ (3 + r) 0) (λ e. getD t₂ (marksAt S + e) 0)
+
+    -- whether a slot other than s is usable is as before
+    usable₂ : (types : List ℕ) → slotOr s (usableAt n S types (memoryOf n S t₂) d (getD types s 0)) ≡ slotOr s (usableAt n S types m d (getD types s 0))
+    unfolding usableIn slotOr
+    usable₂ types = rw (memory₂, mark-same m m₂ d refl (marks₂ d)) (go (markedAt m d))
+      where
+        own : numberAt m₂ s ≡ d
+        own = put-number n S few (g .order) s d low used (λ r. getD t₂ (3 + r) 0) (λ e. getD t₂ (marksAt S + e) 0) here₂ there₂ marks₂
+
+        here : (b : Bool) → s ≡ slotOr s (cond b (At s) Nothing)
+        here true = refl
+        here false = refl
+
+        at : (r : ℕ) (x : Bool) → ltb r S ≡ x → (y : Bool) → eqb r s ≡ y
+            → slotOr s (cond x (cond (eqb (numberAt m₂ r) d && eqb (getD types r 0) (getD types s 0)) (At r) Nothing) Nothing)
+            ≡ slotOr s (cond x (cond (eqb (numberAt m r) d && eqb (getD types r 0) (getD types s 0)) (At r) Nothing) Nothing)
+        at r true l true e = rw (eqb-true r s e, own, eq-eqb d d refl, eq-eqb (getD types s 0) (getD types s 0) refl) (here (eqb (numberAt m s) d && true))
+        at r true l false e = rw (number-same m m₂ r refl (there₂ r (ltb-true r S l) (eqb-false r s e)))
+        at r false l y e = refl
+
+        go : (f : Found) → slotOr s (usableIn n S types m₂ d (getD types s 0) f) ≡ slotOr s (usableIn n S types m d (getD types s 0) f)
+        go Nothing = refl
+        go (At r) = at r (ltb r S) refl (eqb r s) refl
+
+-- A number stored in a slot: the slot that was usable for it stays recorded, or the slot itself is.
+module _ {n S : ℕ} {t : List ℕ} (g : Ready n S t) (s d : ℕ) (low : s < S) (used : d < limit n S (memoryOf n S t)) (types : List ℕ) where
+  -- the memory with the slot's word alone
+  abbrev put : List ℕ
+  put = set t (3 + s) (4294967296 * getD t 0 0 + d)
+
+  recorded : (r : ℕ) → slotOr s (usableAt n S types (memoryOf n S t) d (getD types s 0)) ≡ r → Represents n S types put s d r (set put (3 + S + d) (65536 * getD t 0 0 + r))
+  recorded r e =
+      let b : Represents n S types put s d r (set put (3 + S + d) (65536 * getD put 0 0 + r)) = represents (put-ready g s d low used) types s d low (put-is g s d low used) r (sym (usable₂ g s d low used types ∙ e)) in
+      rw (epoch₂ g s d low used) at b
+
+  pub store-found : {f : Found} {r : ℕ} → f ≡ usableAt n S types (memoryOf n S t) d (getD types s 0) → f ≡ At r → Stores n S types t s d (set t (3 + s) (4294967296 * getD t 0 0 + d))
+  unfolding slotOr
+  store-found {f} {r} e q =
+      let found : usableAt n S types (memoryOf n S t) d (getD types s 0) ≡ At r = sym e ∙ q in
+      let word : 65536 * getD t 0 0 + r ≡ getD put (3 + S + d) 0 = recorded-word n S (memoryOf n S t) types d (getD types s 0) r found ∙ sym (marks₂ g s d low used d) in
+      let same : set put (3 + S + d) (65536 * getD t 0 0 + r) ≡ put = ap (set put (3 + S + d)) word ∙ set-getD put (3 + S + d) 0 in
+      stores g s d low used types (rw same at (recorded r (ap (slotOr s) found)))
+
+  pub store-itself : {f : Found} → f ≡ usableAt n S types (memoryOf n S t) d (getD types s 0) → f ≡ Nothing
+      → Stores n S types t s d (set (set t (3 + s) (4294967296 * getD t 0 0 + d)) (3 + S + d) (65536 * getD t 0 0 + s))
+  unfolding slotOr
+  store-itself {f} e q = stores g s d low used types (recorded s (ap (slotOr s) (sym e ∙ q)))

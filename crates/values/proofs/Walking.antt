@@ -28,7 +28,7 @@ use Rattle.values.specs.Entries.{Key, value, newest}
 use Rattle.values.specs.Chain.{newest-le}
 use Rattle.values.specs.Memory.{memoryOf, numberAt, constantOf, constantKey, expressionKey, slotFound, limit, usableAt, integerAt, expressionIf, expressionAt, Ready, atomAt, atomIn, atomFound, Holds}
 use Rattle.values.specs.Kept.{Kept, Same, Clears, Represents, Stores, Interns, Learns}
-use Rattle.values.specs.Walk.{sectionsOf, wordOf, Stands, Becomes, Room, Second, secondNumber, foldBy, secondOf, atomOf, KindOf, binaryClass, onZero, Named, combined, operated, scalarIn, undecidedBy, takes, pureBy, otherBy, by-other}
+use Rattle.values.specs.Walk.{sectionsOf, wordOf, Stands, Becomes, Room, Second, secondNumber, foldBy, secondOf, atomOf, KindOf, binaryClass, operatorClass, onZero, Named, combined, operated, scalarIn, undecidedBy, takes, pureBy, otherBy, by-other}
 use Rattle.values.specs.declared.Atom.{Atom}
 use Rattle.values.specs.declared.Atom.the-variants.{Integer, Float, Definition}
 use Rattle.values.specs.declared.Found.{Found}
@@ -554,16 +554,34 @@ by-number k j e = sym (named-number k) ∙ ap namedClass (sym (tag-number k) ∙
 pub not-number : (k : Class) (ks : List ℕ) (j : ℕ) → (OneOf ks j → ⊥) → OneOf ks (variantOf class-type k) → eqb (numberOf k) j ≡ false
 not-number k ks j h o = ne-eqb (numberOf k) j (λ e. h (rw (tag-number k ∙ e) at o))
 
-operator-class : (k : Class) → OneOf (5 ∷ 6 ∷ []) (variantOf class-type k) → (k ≡ Unary) ⊎ (k ≡ Binary)
-unfolding namedClass
-operator-class k o = ⊎-elim (λ e. inl (by-number k 5 e)) (λ e. inr (by-number k 6 e)) o
+operator-class : (k : Class) → operatorClass k ≡ true → (k ≡ Unary) ⊎ (k ≡ Binary)
+unfolding numberOf
+operator-class Hint e = let w : _≡_ {A = ℕ} 0 1 = cc in absurd (omega arith)
+operator-class LoadInt e = let w : _≡_ {A = ℕ} 0 1 = cc in absurd (omega arith)
+operator-class LoadConst e = let w : _≡_ {A = ℕ} 0 1 = cc in absurd (omega arith)
+operator-class Copy e = let w : _≡_ {A = ℕ} 0 1 = cc in absurd (omega arith)
+operator-class CopyN e = let w : _≡_ {A = ℕ} 0 1 = cc in absurd (omega arith)
+operator-class Unary e = inl refl
+operator-class Binary e = inr refl
+operator-class Jump e = let w : _≡_ {A = ℕ} 0 1 = cc in absurd (omega arith)
+operator-class JumpIf e = let w : _≡_ {A = ℕ} 0 1 = cc in absurd (omega arith)
+operator-class JumpIfNot e = let w : _≡_ {A = ℕ} 0 1 = cc in absurd (omega arith)
+operator-class ForLoop e = let w : _≡_ {A = ℕ} 0 1 = cc in absurd (omega arith)
+operator-class Return e = let w : _≡_ {A = ℕ} 0 1 = cc in absurd (omega arith)
+operator-class Panic e = let w : _≡_ {A = ℕ} 0 1 = cc in absurd (omega arith)
+operator-class Outside e = let w : _≡_ {A = ℕ} 0 1 = cc in absurd (omega arith)
+operator-class Invalid e = let w : _≡_ {A = ℕ} 0 1 = cc in absurd (omega arith)
+
+pub operator-yes : (k : Class) → OneOf (5 ∷ 6 ∷ []) (variantOf class-type k) → operatorClass k ≡ true
+unfolding numberOf namedClass
+operator-yes k o = ⊎-elim (λ e. rw (by-number k 5 e)) (λ e. rw (by-number k 6 e)) o
 
 jump-class : (k : Class) → OneOf (8 ∷ 9 ∷ []) (variantOf class-type k) → (k ≡ JumpIf) ⊎ (k ≡ JumpIfNot)
 unfolding namedClass
 jump-class k o = ⊎-elim (λ e. inl (by-number k 8 e)) (λ e. inr (by-number k 9 e)) o
 
 -- an opcode of one operand or of two
-pub operator-named : (k : Class) (s : ℕ) (i : Instruction) → OneOf (5 ∷ 6 ∷ []) (variantOf class-type k) → Named k s i → (i .b < s) × (binaryClass k ≡ true → i .c < s) × (i .a < s)
+pub operator-named : (k : Class) (s : ℕ) (i : Instruction) → operatorClass k ≡ true → Named k s i → (i .b < s) × (binaryClass k ≡ true → i .c < s) × (i .a < s)
 unfolding Named numberOf
 operator-named k s i o h =
     ⊎-elim
@@ -571,7 +589,7 @@ operator-named k s i o h =
     (λ e. let g : Named Binary s i = rw e at h in rw e (g .0, (λ z. g .1), g .2))
     (operator-class k o)
 
-pub operator-pure : (S : Sections) (k : Class) (p : ℕ) (i : Instruction) (v : Values) → OneOf (5 ∷ 6 ∷ []) (variantOf class-type k) → operated S (binaryClass k) p i v ≡ pureBy S k p i v
+pub operator-pure : (S : Sections) (k : Class) (p : ℕ) (i : Instruction) (v : Values) → operatorClass k ≡ true → operated S (binaryClass k) p i v ≡ pureBy S k p i v
 unfolding pureBy numberOf operated combined secondOf foldBy numberUnary numberBinary
 operator-pure S k p i v o = ⊎-elim (λ e. rw e) (λ e. rw e) (operator-class k o)
 
@@ -585,24 +603,24 @@ pub jump-by : (S : Sections) (k : Class) (p : ℕ) (i : Instruction) (v : Values
 unfolding numberBy numberOf takes
 jump-by S k p i v o = ⊎-elim (λ e. rw e) (λ e. rw e) (jump-class k o)
 
--- the classes that are neither pure nor jumps nor Return
-pub pure-none : (S : Sections) (k : Class) (p : ℕ) (i : Instruction) (v : Values) → OneOf (0 ∷ 4 ∷ 7 ∷ 8 ∷ 9 ∷ 10 ∷ 11 ∷ 12 ∷ 13 ∷ 14 ∷ []) (variantOf class-type k) → pureBy S k p i v ≡ clearedBy S i
-unfolding pureBy
-pure-none S Hint p i v o = refl
-pure-none S LoadInt p i v o = absurd (miss (0 ∷ 4 ∷ 7 ∷ 8 ∷ 9 ∷ 10 ∷ 11 ∷ 12 ∷ 13 ∷ 14 ∷ []) 1 tt o)
-pure-none S LoadConst p i v o = absurd (miss (0 ∷ 4 ∷ 7 ∷ 8 ∷ 9 ∷ 10 ∷ 11 ∷ 12 ∷ 13 ∷ 14 ∷ []) 2 tt o)
-pure-none S Copy p i v o = absurd (miss (0 ∷ 4 ∷ 7 ∷ 8 ∷ 9 ∷ 10 ∷ 11 ∷ 12 ∷ 13 ∷ 14 ∷ []) 3 tt o)
-pure-none S CopyN p i v o = refl
-pure-none S Unary p i v o = absurd (miss (0 ∷ 4 ∷ 7 ∷ 8 ∷ 9 ∷ 10 ∷ 11 ∷ 12 ∷ 13 ∷ 14 ∷ []) 5 tt o)
-pure-none S Binary p i v o = absurd (miss (0 ∷ 4 ∷ 7 ∷ 8 ∷ 9 ∷ 10 ∷ 11 ∷ 12 ∷ 13 ∷ 14 ∷ []) 6 tt o)
-pure-none S Jump p i v o = refl
-pure-none S JumpIf p i v o = refl
-pure-none S JumpIfNot p i v o = refl
-pure-none S ForLoop p i v o = refl
-pure-none S Return p i v o = refl
-pure-none S Panic p i v o = refl
-pure-none S Outside p i v o = refl
-pure-none S Invalid p i v o = refl
+-- the other classes
+pub pure-none : (S : Sections) (k : Class) (p : ℕ) (i : Instruction) (v : Values) → OneOf (0 ∷ 4 ∷ 5 ∷ 6 ∷ 7 ∷ 8 ∷ 9 ∷ 10 ∷ 11 ∷ 12 ∷ 13 ∷ 14 ∷ []) (variantOf class-type k) → operatorClass k ≡ false → pureBy S k p i v ≡ clearedBy S i
+unfolding pureBy numberOf
+pure-none S Hint p i v o e = refl
+pure-none S LoadInt p i v o e = absurd (miss (0 ∷ 4 ∷ 5 ∷ 6 ∷ 7 ∷ 8 ∷ 9 ∷ 10 ∷ 11 ∷ 12 ∷ 13 ∷ 14 ∷ []) 1 tt o)
+pure-none S LoadConst p i v o e = absurd (miss (0 ∷ 4 ∷ 5 ∷ 6 ∷ 7 ∷ 8 ∷ 9 ∷ 10 ∷ 11 ∷ 12 ∷ 13 ∷ 14 ∷ []) 2 tt o)
+pure-none S Copy p i v o e = absurd (miss (0 ∷ 4 ∷ 5 ∷ 6 ∷ 7 ∷ 8 ∷ 9 ∷ 10 ∷ 11 ∷ 12 ∷ 13 ∷ 14 ∷ []) 3 tt o)
+pure-none S CopyN p i v o e = refl
+pure-none S Unary p i v o e = let w : _≡_ {A = ℕ} 0 1 = cc in absurd (omega arith)
+pure-none S Binary p i v o e = let w : _≡_ {A = ℕ} 0 1 = cc in absurd (omega arith)
+pure-none S Jump p i v o e = refl
+pure-none S JumpIf p i v o e = refl
+pure-none S JumpIfNot p i v o e = refl
+pure-none S ForLoop p i v o e = refl
+pure-none S Return p i v o e = refl
+pure-none S Panic p i v o e = refl
+pure-none S Outside p i v o e = refl
+pure-none S Invalid p i v o e = refl
 
 pub number-other : (S : Sections) (k : Class) (p : ℕ) (i : Instruction) (v : Values) → OneOf (0 ∷ 1 ∷ 2 ∷ 3 ∷ 4 ∷ 5 ∷ 6 ∷ 7 ∷ 10 ∷ 12 ∷ 13 ∷ 14 ∷ []) (variantOf class-type k)
     → numberBy S k p i v ≡ otherBy S k p i v

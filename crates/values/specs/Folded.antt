@@ -30,13 +30,13 @@ expressionOf o flags left right = record { opcode = o; flags = flags; left = lef
 abbrev pub inRuns : ℕ → Bool
 inRuns o = cond (ltb o 22) (leb 19 o) (cond (ltb o 42) (leb 32 o) (cond (ltb o 52) (leb 48 o) false))
 
-unfoldable agree : Bool → Bool → Bool
+unfoldable pub agree : Bool → Bool → Bool
 agree true true = true
 agree true false = false
 agree false true = false
 agree false false = true
 
-agree-same : (s t : Bool) → agree s t ≡ true → s ≡ t
+pub agree-same : (s t : Bool) → agree s t ≡ true → s ≡ t
 unfolding agree
 agree-same true true e = refl
 agree-same true false e = cc

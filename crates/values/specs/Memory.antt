@@ -85,6 +85,15 @@ unfoldable pub slotFound : Found → Option ℕ
 slotFound (At r) = some r
 slotFound Nothing = none
 
+-- a slot that was found, or slot s
+unfoldable pub slotOr : ℕ → Found → ℕ
+slotOr s (At r) = r
+slotOr s Nothing = s
+
+-- the slot, of S, that was recorded for a number in this epoch, or slot s
+abbrev pub markedOr : ℕ → Memory → ℕ → ℕ → ℕ
+markedOr S m d s = cond (eqb (m .mark d / 65536) (m .epoch) && ltb (m .mark d % 65536) S) (m .mark d % 65536) s
+
 module _ (n S : ℕ) where
   -- the numbers in use: one for each slot's value at the block's start, one for each place, one for Integer 0, then the constants
   abbrev pub limit : Memory → ℕ

@@ -81,9 +81,12 @@ unfoldable pub secondOf : List ℕ → Values → ℕ → Bool → Represented
 secondOf types t s true = representative types t s
 secondOf types t s false = record { slot = s; table = t }
 
--- the classes of two operands, and of a jump on 0
+-- the classes of two operands, of one or two, and of a jump on 0
 abbrev pub binaryClass : Class → Bool
 binaryClass k = eqb (numberOf k) 6
+
+abbrev pub operatorClass : Class → Bool
+operatorClass k = eqb (numberOf k) 5 || eqb (numberOf k) 6
 
 abbrev pub onZero : Class → Bool
 onZero k = eqb (numberOf k) 9

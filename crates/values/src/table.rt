@@ -4,10 +4,10 @@
 // each number (the slot that is recorded for it), and two tables of entries.
 ghost use mathlib.Core.Path.{_≡_};
 ghost use Prim.Native.Nat.{ℕ, _+_, _*_, _≤_, _<_};
-ghost use lib.ListN.{length};
+ghost use lib.ListN.{length, getD};
 ghost use Rattle.values.specs.Entries.{key, bucketOf};
 ghost use Rattle.values.specs.Folded.{integerOf};
-ghost use Rattle.values.specs.Memory.{memoryOf, numberAt, markedAt, usableAt, expressionAt, expressionKey, integerAt, limit, Ready};
+ghost use Rattle.values.specs.Memory.{memoryOf, numberAt, markedAt, markedOr, slotOr, usableAt, expressionAt, expressionKey, integerAt, limit, Ready};
 ghost use Rattle.values.specs.Kept.{Clears, Represents, Stores, Interns, Learns};
 use crate::Atom;
 use crate::Found;
@@ -67,31 +67,60 @@ pub fn usable(t: &[u64], types: &[u8], n: usize, d: u64, kind: u8) -> Found
     Found::Nothing
 }
 
+// The slot that is recorded for the number d, or s.
+fn marked_or(t: &[u64], n: usize, locals: usize, d: u64, s: u16) -> u16
+    requires { ⌜ Ready n locals (now t) × (d < limit n locals (memoryOf n locals (now t))) × (s < locals) ⌝ }
+    ensures { λ r. ⌜ (r ≡ markedOr locals (memoryOf n locals (now (t .entry))) d s) × (r < locals) ⌝ }
+{
+    let w = t[3 + locals + (d as usize)];
+    let r = w % 65536;
+    if (w / 65536 == t[0]) & ((r as usize) < locals) {
+        return r as u16;
+    }
+    s
+}
+
+// The slot that is usable for the number d of the value of slot s, or s. Both tests choose between two slots: the processor has no
+// branch to predict.
+fn usable_or(t: &[u64], types: &[u8], n: usize, d: u64, s: u16) -> u16
+    requires { ⌜ Ready n (length (now types)) (now t) × (s < length (now types)) × (d ≡ numberAt (memoryOf n (length (now types)) (now t)) s) ⌝ }
+    ensures { λ r. ⌜ r ≡ slotOr s (usableAt n (length (now (types .entry))) (now (types .entry)) (memoryOf n (length (now (types .entry))) (now (t .entry))) d (getD (now (types .entry)) s 0)) ⌝ }
+{
+    let locals = types.len();
+    let c = marked_or(t, n, locals, d, s);
+    if (number(t, n, locals, c) == d) & (types[c as usize] == types[s as usize]) {
+        return c;
+    }
+    s
+}
+
 // "Operands .. become the recorded slot .. otherwise the operand stays and is recorded instead": the slot that stands for slot s,
 // whose value has the number d.
 pub fn representative(t: &mut [u64], types: &[u8], n: usize, s: u16, d: u64) -> u16
     requires { ⌜ Ready n (length (now types)) (now t) × (s < length (now types)) × (d ≡ numberAt (memoryOf n (length (now types)) (now t)) s) ⌝ }
     ensures { λ r. ⌜ Represents n (length (now (types .entry))) (now (types .entry)) (now (t .entry)) s d r (now (t .exit)) ⌝ }
 {
-    let at = s as usize;
-    let kind = types[at];
-    match usable(&t[..], types, n, d, kind) {
-        Found::At(r) => r as u16,
-        Found::Nothing => {
-            let mark = 3 + types.len() + (d as usize);
-            t[mark] = 65536 * t[0] + (s as u64);
-            s
-        }
-    }
+    let r = usable_or(&t[..], types, n, d, s);
+    let mark = 3 + types.len() + (d as usize);
+    t[mark] = 65536 * t[0] + (r as u64);
+    r
 }
 
-// "A store then treats its destination likewise."
-pub fn store(t: &mut [u64], types: &[u8], n: usize, s: u16, d: u64)
+// "A store then treats its destination likewise": the slot that was usable for the value stays recorded, or the destination is. The
+// answer is the former.
+pub fn store(t: &mut [u64], types: &[u8], n: usize, s: u16, d: u64) -> Found
     requires { ⌜ Ready n (length (now types)) (now t) × (s < length (now types)) × (d < limit n (length (now types)) (memoryOf n (length (now types)) (now t))) ⌝ }
-    ensures { λ _. ⌜ Stores n (length (now (types .entry))) (now (types .entry)) (now (t .entry)) s d (now (t .exit)) ⌝ }
+    ensures { λ r. ⌜ (r ≡ usableAt n (length (now (types .entry))) (now (types .entry)) (memoryOf n (length (now (types .entry))) (now (t .entry))) d (getD (now (types .entry)) s 0)) × Stores n (length (now (types .entry))) (now (types .entry)) (now (t .entry)) s d (now (t .exit)) ⌝ }
 {
-    t[3 + (s as usize)] = 4294967296 * t[0] + d;
-    representative(t, types, n, s, d);
+    let epoch = t[0];
+    let at = s as usize;
+    let found = usable(&t[..], types, n, d, types[at]);
+    t[3 + at] = 4294967296 * epoch + d;
+    if let Found::Nothing = found {
+        let mark = 3 + types.len() + (d as usize);
+        t[mark] = 65536 * epoch + (s as u64);
+    }
+    found
 }
 
 // The value with a number, as far as folding asks: of a definition neither place nor slot plays a part.

@@ -14,7 +14,7 @@ ghost use Rattle.values.specs.Folded.{expressionOf};
 ghost use Rattle.values.specs.Memory.{memoryOf, constantOf, constantKey, expressionKey, limit, atomIn, endAt, Ready, Holds};
 ghost use Rattle.values.specs.Entries.{key, bucketOf};
 ghost use Rattle.values.specs.Kept.{Clears};
-ghost use Rattle.values.specs.Walk.{Named, wordOf, Stands, Becomes, Room, Coded, Second, secondNumber, foldBy, binaryClass, onZero, atomOf, KindOf, operated, scalarIn, pureBy, undecidedBy, takes, otherBy, sectionsOf, Begins, Enters, Turns, Numberable};
+ghost use Rattle.values.specs.Walk.{Named, wordOf, Stands, Becomes, Room, Coded, Second, secondNumber, foldBy, binaryClass, operatorClass, onZero, atomOf, KindOf, operated, scalarIn, pureBy, undecidedBy, takes, otherBy, sectionsOf, Begins, Enters, Turns, Numberable};
 ghost use Rattle.instruction.specs.declared.Class.the-variants.{Return};
 ghost use Rattle.values.specs.declared.Atom.the-variants.{Definition};
 use crate::Atom;
@@ -81,26 +81,17 @@ fn expression_word(op: u8, flags: u8, left: u64, right: u64) -> u64
     (op as u64) + 256 * (flags as u64) + 65536 * left + 1099511627776 * right
 }
 
-// "becomes Copy from the recorded slot under the same two conditions, the type being the destination's; otherwise it stays"
-fn copied(t: &[u64], types: &[u8], n: usize, i: Instruction, d: u64) -> Instruction
-    requires { ⌜ Ready n (length (now types)) (now t) × (i .a < length (now types)) × (d < limit n (length (now types)) (memoryOf n (length (now types)) (now t))) ⌝ }
-    ensures { λ r. ⌜ (r .a ≡ i .a) × ((dest : ℕ → ℕ) (constants : List ℕ) (locals : ℕ) (tables : Tables) (v : Values) → Holds n (length (now (types .entry))) dest v (memoryOf n (length (now (types .entry))) (now (t .entry))) → r ≡ copyOrStay (sectionsOf (now (types .entry)) constants locals tables) i (recordedSlot (now (types .entry)) v (atomIn n (length (now (types .entry))) dest (memoryOf n (length (now (types .entry))) (now (t .entry))) d) (getD (now (types .entry)) (i .a) 0))) ⌝ }
-{
-    let a = i.a as usize;
-    let kind = types[a];
-    match table::usable(t, types, n, d, kind) {
-        Found::At(r) => Instruction::new(COPY, i.a, r as u16, 0),
-        Found::Nothing => i,
-    }
-}
-
-// An equal expression, whose value has the number d.
+// An equal expression, whose value has the number d: "becomes Copy from the recorded slot under the same two conditions, the type
+// being the destination's; otherwise it stays"
 fn copy_or_stay(t: &mut [u64], types: &[u8], n: usize, i: Instruction, d: u64) -> Instruction
     requires { ⌜ Ready n (length (now types)) (now t) × (i .a < length (now types)) × (d < limit n (length (now types)) (memoryOf n (length (now types)) (now t))) ⌝ }
     ensures { λ r. ⌜ Becomes n (now (types .entry)) 0 0 0 (now (t .entry)) r (now (t .exit)) (λ dest constants. Unit {0}) (λ dest S x. storedBy S (copyOrStay S i (recordedSlot (S .types) x (atomIn n (length (now (types .entry))) dest (memoryOf n (length (now (types .entry))) (now (t .entry))) d) (getD (S .types) (i .a) 0))) x (atomIn n (length (now (types .entry))) dest (memoryOf n (length (now (types .entry))) (now (t .entry))) d)) ⌝ }
 {
-    let j = copied(&t[..], types, n, i, d);
-    store(t, types, n, j, d)
+    let a = i.a;
+    match table::store(t, types, n, a, d) {
+        Found::At(r) => Instruction::new(COPY, i.a, r as u16, 0),
+        Found::Nothing => i,
+    }
 }
 
 // A new expression: its value is what this place defines.
@@ -292,16 +283,15 @@ fn number_constant(
     }
 }
 
-// "scalar": a slot of type Value or Float.
+// "scalar": a slot of type Value or Float, which are bits 0 and 5 of 33. Two tests would be a branch that the processor cannot
+// predict.
 fn scalar(types: &[u8], s: u16) -> bool
     ensures { λ r. ⌜ r ≡ scalarIn (now (types .entry)) s ⌝ }
 {
     let at = s as usize;
     if at < types.len() {
-        if types[at] == 0 {
-            return true;
-        }
-        return types[at] == 5;
+        let k = types[at];
+        return (k < 6) & ((33u8 >> (k % 8)) % 2 == 1);
     }
     false
 }
@@ -313,7 +303,17 @@ fn is_binary(k: Class) -> bool
     if let Class::Binary = k { true } else { false }
 }
 
-// The pure opcodes, of a scalar destination.
+// Of one operand or of two?
+fn is_operator(k: Class) -> bool
+    ensures { λ r. ⌜ r ≡ operatorClass k ⌝ }
+{
+    match k {
+        Class::Unary | Class::Binary => true,
+        _ => false,
+    }
+}
+
+// The pure opcodes, of a scalar destination. Most are operators.
 fn number_pure(
     t: &mut [u64],
     types: &[u8],
@@ -326,6 +326,9 @@ fn number_pure(
     requires { ⌜ Room n (length (now types)) (now t) × Named k (length (now types)) i × (p < n) ⌝ }
     ensures { λ r. ⌜ Becomes n (now (types .entry)) 1 1 1 (now (t .entry)) r (now (t .exit)) (λ dest c. Stands n p i dest × (c ≡ now (constants .entry))) (λ dest S x. pureBy S k p i x) ⌝ }
 {
+    if is_operator(k) {
+        return number_operator(t, types, n, i, p, is_binary(k));
+    }
     match k {
         Class::LoadInt => store_constant(t, types, n, i, 0, i.imm32()),
         Class::LoadConst => {
@@ -333,7 +336,6 @@ fn number_pure(
             number_constant(t, types, n, i, constant)
         }
         Class::Copy => number_copy(t, types, n, i),
-        Class::Unary | Class::Binary => number_operator(t, types, n, i, p, is_binary(k)),
         _ => forget(t, n, types.len(), i),
     }
 }

@@ -1,18 +1,18 @@
-use Rattle.values.proofs.Recording.{put-ready, put-is, stores}
-use mathlib.Core.Path.{_∙_}
 use lib.ListN.{length-set}
+use Rattle.values.proofs.Reading.{mark-long}
+use Rattle.values.proofs.Recording.{store-found, store-itself}
 use borrow.Author.Needs.{needs}
 use Rattle.values.proofs.table.store.Statement.{statement}
 use Rattle.values.proofs.table.store.Tie as tie
 
-representative-requires : tie.Need-representative-requires
-representative-requires c κs = (put-ready (c .before .before .before .before .pre .0) _ _ (c .before .before .before .before .pre .1) (c .before .before .before .before .pre .2), c .before .before .before .before .pre .1, put-is (c .before .before .before .before .pre .0) _ _ (c .before .before .before .before .pre .1) (c .before .before .before .before .pre .2))
-
-same-length : tie.Need-same-length
-same-length c = c .before .before .representative .ensures .kept .long ∙ simp length-set
+slice-write-t-2 : tie.Need-slice-write-t-2
+slice-write-t-2 c = let h = c .before .before .before .before .before .before .before .before .pre in rw (length-set (c .before .before .before .before .before .before .before .before .args .t .now) _ _) (mark-long (h .0) _ (h .2))
 
 returns : tie.Need-returns
-returns c = stores (c .before .before .before .before .before .before .before .pre .0) _ _ (c .before .before .before .before .before .before .before .pre .1) (c .before .before .before .before .before .before .before .pre .2) _ (c .before .before .representative .ensures)
+returns c = let h = c .before .before .before .before .before .before .before .before .pre in (c .before .before .usable .ensures, store-itself (h .0) _ _ (h .1) (h .2) _ (c .before .before .usable .ensures) (c .enum-told .given .1))
+
+returns-2 : tie.Need-returns-2
+returns-2 c = let h = c .before .before .before .before .before .before .before .before .pre in (c .before .before .usable .ensures, store-found (h .0) _ _ (h .1) (h .2) _ (c .before .before .usable .ensures) (c .enum-told2 .given .1))
 
 pub store-spec : {M : Type 1} → statement M
 store-spec =
@@ -20,10 +20,21 @@ store-spec =
     (tie.spec
     (λ c. search needs)
     (λ c. search needs)
+    (λ c κs. search needs)
     (λ c. search needs)
     (λ c. search needs)
     (λ c. search needs)
     (λ c. search needs)
-    representative-requires
-    same-length
-    returns)
+    (λ c. search needs)
+    (λ c. search needs)
+    (λ c. search needs)
+    (λ c. search needs)
+    (λ c. search needs)
+    (λ c. search needs)
+    (λ c. search needs)
+    slice-write-t-2
+    (λ c. search needs)
+    (λ c. search needs)
+    returns
+    (λ c. search needs)
+    returns-2)
