@@ -2,7 +2,7 @@
 ghost use mathlib.Core.Path.{_≡_};
 ghost use mathlib.Core.Bool.{true, false};
 ghost use mathlib.Core.List.{_++_};
-ghost use Prim.Native.Nat.{ℕ, _*_, _/_, _≤_, _<_};
+ghost use Prim.Native.Nat.{ℕ, _+_, _*_, _/_, _≤_, _<_};
 ghost use lib.ListN.{length};
 ghost use Rattle.instruction.specs.Opcode.{maxValid};
 ghost use Rattle.unit.specs.Size.{metadataSize, caseSize, maxInstructions, maxLocalSlots};
@@ -25,7 +25,7 @@ use unit::entry;
 use unit::refusal;
 
 // The largest valid opcode.
-const MAX_VALID: u8 = 135;
+pub const MAX_VALID: u8 = 135;
 
 // All slots that a range may have.
 const SLOTS: usize = 65536;
@@ -158,13 +158,14 @@ fn ranges_refusal(
 pub fn operand_refusal(
     locals: usize,
     i: Instruction,
-    m: Metadata,
+    metadata: &[u8],
+    p: usize,
     functions: &[u8],
     externs: &[u8],
     cases: &[u8],
 ) -> u32
-    requires { ⌜ (locals ≤ maxLocalSlots) × (goodMetadata (length (now cases) / caseSize) m ≡ true) ⌝ }
-    ensures { λ r. ⌜ r ≡ operandRefusal locals (tablesOf (now (functions .entry)) (now (externs .entry)) (now (cases .entry))) (record { instruction = i; metadata = m }) ⌝ }
+    requires { ⌜ (locals ≤ maxLocalSlots) × (metadataSize * p + metadataSize ≤ length (now metadata)) × (goodMetadata (length (now cases) / caseSize) (metadataAt (now metadata) p) ≡ true) ⌝ }
+    ensures { λ r. ⌜ r ≡ operandRefusal locals (tablesOf (now (functions .entry)) (now (externs .entry)) (now (cases .entry))) (record { instruction = i; metadata = metadataAt (now (metadata .entry)) p }) ⌝ }
 {
     let op = i.op;
     if op > MAX_VALID {
@@ -172,6 +173,7 @@ pub fn operand_refusal(
     }
     let row = table::row(op);
     if !plain::is_plain(op, row) {
+        let m = entry::metadata(metadata, p);
         return ranges_refusal(locals, i, m, functions, externs, cases);
     }
     if plain::is_within(locals, row, i) {
@@ -194,8 +196,7 @@ pub fn check_operands(
     let mut p: usize = 0;
     while p < words.len() {
         let i = Instruction::from_word(words[p]);
-        let m = entry::metadata(metadata, p);
-        let number = operand_refusal(locals, i, m, functions, externs, cases);
+        let number = operand_refusal(locals, i, metadata, p, functions, externs, cases);
         if number != 0 {
             return Check::Refused(number, p as u32);
         }

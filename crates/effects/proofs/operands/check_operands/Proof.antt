@@ -23,33 +23,33 @@ loop-holds c = (search needs, refl)
 
 operand-refusal-requires : tie.Need-operand-refusal-requires Inv-loop μ-loop
 operand-refusal-requires c κs =
-    (search needs, rw (c .metadata .ensures) (c .before .before .before .before .before .before .before .before .before .before .pre .3 _ (c .before .before .before .loop-test .taken)))
+    (search needs, omega arith, c .before .before .before .before .before .before .before .before .before .pre .3 _ (c .before .before .loop-test .taken))
 
 returns : tie.Need-returns Inv-loop μ-loop
 returns c =
-    let a = c .before .before .before .before .before .before .before .before .before .before .before .before .args in
+    let a = c .before .before .before .before .before .before .before .before .before .before .before .args in
     let T : Tables = tablesOf (a .functions .now) (a .externs .now) (a .cases .now) in
     let cells : List Cell = cellsBy (a .words .now) (a .metadata .now) in
     let test : ℕ → Cell → ℕ = λ p x. operandRefusal (a .locals) T x in
-    let p = c .before .before .before .before .before .before .loop .p in
-    let inside : p < length cells = rw (cells-long (a .words .now) (a .metadata .now)) (c .before .before .before .before .before .loop-test .taken) in
+    let p = c .before .before .before .before .before .loop .p in
+    let inside : p < length cells = rw (cells-long (a .words .now) (a .metadata .now)) (c .before .before .before .before .loop-test .taken) in
     let found : test p (cellAt cells p) ≡ c .before .operand-refusal .result =
-    rw (cell-at (a .words .now) (a .metadata .now) p (c .before .before .before .before .before .loop-test .taken), ← c .before .before .before .from-word .ensures, ← c .before .before .metadata .ensures) (sym (c .before .operand-refusal .ensures)) in
+    rw (cell-at (a .words .now) (a .metadata .now) p (c .before .before .before .before .loop-test .taken), ← c .before .before .from-word .ensures) (sym (c .before .operand-refusal .ensures)) in
     let refused : test p (cellAt cells p) ≡ 0 → ⊥ = λ e. c .if1 .taken (sym found ∙ e) in
-    rw (← found) (sym (lowest-here test cells p inside refused)) ∙ c .before .before .before .before .before .before .loop .inv .1
+    rw (← found) (sym (lowest-here test cells p inside refused)) ∙ c .before .before .before .before .before .loop .inv .1
 
 loop-again : tie.Need-loop-again Inv-loop μ-loop
 loop-again c =
-    let a = c .before .before .before .before .before .before .before .before .before .before .before .before .args in
+    let a = c .before .before .before .before .before .before .before .before .before .before .before .args in
     let T : Tables = tablesOf (a .functions .now) (a .externs .now) (a .cases .now) in
     let cells : List Cell = cellsBy (a .words .now) (a .metadata .now) in
     let test : ℕ → Cell → ℕ = λ p x. operandRefusal (a .locals) T x in
-    let p = c .before .before .before .before .before .before .loop .p in
-    let inside : p < length cells = rw (cells-long (a .words .now) (a .metadata .now)) (c .before .before .before .before .before .loop-test .taken) in
+    let p = c .before .before .before .before .before .loop .p in
+    let inside : p < length cells = rw (cells-long (a .words .now) (a .metadata .now)) (c .before .before .before .before .loop-test .taken) in
     let found : test p (cellAt cells p) ≡ c .before .operand-refusal .result =
-    rw (cell-at (a .words .now) (a .metadata .now) p (c .before .before .before .before .before .loop-test .taken), ← c .before .before .before .from-word .ensures, ← c .before .before .metadata .ensures) (sym (c .before .operand-refusal .ensures)) in
+    rw (cell-at (a .words .now) (a .metadata .now) p (c .before .before .before .before .loop-test .taken), ← c .before .before .from-word .ensures) (sym (c .before .operand-refusal .ensures)) in
     let passed : test p (cellAt cells p) ≡ 0 = found ∙ c .if1 .left in
-    (search needs, lowest-on test cells p inside passed ∙ c .before .before .before .before .before .before .loop .inv .1)
+    (search needs, lowest-on test cells p inside passed ∙ c .before .before .before .before .before .loop .inv .1)
 
 returns-2 : tie.Need-returns-2 Inv-loop μ-loop
 returns-2 c =
@@ -69,7 +69,6 @@ check-operands-spec =
     loop-holds
     (λ c. search needs)
     (λ c. search needs)
-    (λ c κs. search needs)
     (λ c κs. search needs)
     operand-refusal-requires
     (λ c. search needs)

@@ -2,6 +2,7 @@ use mathlib.Core.Path.{sym, _∙_}
 use native.Mathlib.Omega.{arith}
 use borrow.Author.Tests.{not-false}
 use Rattle.instruction.specs.Instruction.{Fields}
+use Rattle.unit.specs.Entry.{metadataAt}
 use Rattle.effects.specs.Shape.{Cell, Tables, tablesOf}
 use Rattle.effects.specs.Operands.{refused-invalid}
 use Rattle.effects.specs.Plain.{Plain, plain-row, plain-passes, plain-outside}
@@ -11,22 +12,28 @@ use Rattle.effects.proofs.operands.operand_refusal.Tie as tie
 
 returns : tie.Need-returns
 returns c =
-    let a = c .before .before .before .before .args in
-    let x : Cell = record { instruction = a .i; metadata = a .m } in
+    let a = c .before .before .before .before .before .args in
+    let x : Cell = record { instruction = a .i; metadata = metadataAt (a .metadata .now) (a .p) } in
     let T : Tables = tablesOf (a .functions .now) (a .externs .now) (a .cases .now) in
     sym (refused-invalid T x (a .locals) (c .if1 .taken))
 
+ranges-refusal-requires : tie.Need-ranges-refusal-requires
+ranges-refusal-requires c κs = (search needs, rw (c .metadata .ensures) (c .before .before .before .before .before .before .before .before .before .pre .2), search needs)
+
+returns-2 : tie.Need-returns-2
+returns-2 c = rw (← c .before .metadata .ensures) (c .ranges-refusal .ensures)
+
 is-within-requires : tie.Need-is-within-requires
 is-within-requires c κs =
-    let a = c .before .before .before .before .before .before .before .args in
+    let a = c .before .before .before .before .before .before .before .before .args in
     let row = c .before .before .row in
     let p : Plain (a .i .op) (row .result) = plain-row (a .i .op) (row .result) (row .ensures) (c .before .before .before .if1 .left) (sym (c .before .is-plain .ensures) ∙ not-false _ (c .if2 .left)) in
     (p .low, p .form)
 
 returns-3 : tie.Need-returns-3
 returns-3 c =
-    let a = c .before .before .before .before .before .before .before .before .before .args in
-    let x : Cell = record { instruction = a .i; metadata = a .m } in
+    let a = c .before .before .before .before .before .before .before .before .before .before .args in
+    let x : Cell = record { instruction = a .i; metadata = metadataAt (a .metadata .now) (a .p) } in
     let T : Tables = tablesOf (a .functions .now) (a .externs .now) (a .cases .now) in
     let row = c .before .before .before .before .row in
     let f : Fields (a .i) = record { op-fits = omega arith; flags-fits = omega arith; a-fits = omega arith; b-fits = omega arith; c-fits = omega arith } in
@@ -35,8 +42,8 @@ returns-3 c =
 
 returns-4 : tie.Need-returns-4
 returns-4 c =
-    let a = c .before .before .before .before .before .before .before .before .before .args in
-    let x : Cell = record { instruction = a .i; metadata = a .m } in
+    let a = c .before .before .before .before .before .before .before .before .before .before .args in
+    let x : Cell = record { instruction = a .i; metadata = metadataAt (a .metadata .now) (a .p) } in
     let T : Tables = tablesOf (a .functions .now) (a .externs .now) (a .cases .now) in
     let row = c .before .before .before .before .row in
     let f : Fields (a .i) = record { op-fits = omega arith; flags-fits = omega arith; a-fits = omega arith; b-fits = omega arith; c-fits = omega arith } in
@@ -51,7 +58,8 @@ operand-refusal-spec =
     (λ c κs. search needs)
     (λ c κs. search needs)
     (λ c κs. search needs)
-    (λ c. search needs)
+    ranges-refusal-requires
+    returns-2
     is-within-requires
     returns-3
     returns-4)
