@@ -5,7 +5,7 @@ use mathlib.Core.Bool.{Bool, true, false, cond, not, _&&_}
 use mathlib.Core.List.{List, [], _∷_}
 use Prim.Native.Nat.{ℕ, _+_}
 use native.Mathlib.Numerals.{add-one}
-use lib.Dec.{eqb, ltb}
+use lib.Dec.{eqb, ltb, leb}
 use borrow.Author.Tests.{not-true}
 use Rattle.instruction.specs.declared.Instruction.{Instruction}
 use Rattle.instruction.specs.declared.Class.{Class}
@@ -14,7 +14,7 @@ use Rattle.unit.specs.declared.Metadata.{Metadata}
 use Rattle.unit.specs.Entry.{kindLoopEnd, metadataAt}
 use Rattle.effects.specs.Cells.{cellOf}
 use Rattle.flow.specs.Branch.{falls, branches, target}
-use Rattle.flow.specs.Block.{endsBlock, no-branch}
+use Rattle.flow.specs.Block.{endsBlock, no-branch, valid-falls}
 use Rattle.flow.specs.Loop.{isLoopHint, successors}
 use Rattle.flow.specs.Stack.{Pushed, push-none, push-then}
 use Rattle.flow.specs.Successors.{nearSuccessors, loopSuccessorsOf}
@@ -25,11 +25,11 @@ module _ (n sp p : ℕ) (i : Instruction) (st : List ℕ) where
   push-near t x a b e f one g h two = push-then n sp st (rw (f, e, add-one p) at one) (rw (g, e, h) at two)
 
   -- the block goes on: no branch
-  pub push-next : (x : Class) (a e : Bool) {st₁ : List ℕ} {r₁ : ℕ} → x ≡ class i → a ≡ falls x → Pushed n sp (cond a ((p + 1) ∷ []) []) st st₁ r₁
-      → e ≡ endsBlock x → not e ≡ true → Pushed n sp (nearSuccessors p i) st st₁ r₁
-  push-next x a e k f one g h =
-      let ends : endsBlock (class i) ≡ false = rw k at (sym g ∙ not-true e h) in
-      rw (no-branch (class i) ends) (push-then n sp st (rw (f, k, add-one p) at one) (push-none n _ _))
+  pub push-next : (e : Bool) {st₁ : List ℕ} {r₁ : ℕ} → e ≡ endsBlock (class i) → not e ≡ true → Pushed n sp (cond (leb (i .op) 135) ((p + 1) ∷ []) []) st st₁ r₁
+      → Pushed n sp (nearSuccessors p i) st st₁ r₁
+  push-next e f g one =
+      let ends : endsBlock (class i) ≡ false = sym f ∙ not-true e g in
+      rw (no-branch (class i) ends) (push-then n sp st (rw (← valid-falls (i .op) ends, add-one p) at one) (push-none n _ _))
 
   module _ (metadata : List ℕ) (h : Bool) (hint : h ≡ isLoopHint i) where
     pub push-no-hint : h ≡ false → Pushed n sp (loopSuccessorsOf n i metadata p) st st sp

@@ -6,7 +6,7 @@ ghost use lib.ListN.{length};
 ghost use borrow.Rule.Slice.PartMut.{midOf, putMid};
 ghost use Rattle.unit.specs.Size.{maxInstructions};
 ghost use Rattle.effects.specs.Cells.{cellsBy};
-ghost use Rattle.flow.specs.Block.{endsBlock, leaders};
+ghost use Rattle.flow.specs.Block.{leaders};
 ghost use Rattle.flow.specs.Blocks.{Numbered};
 ghost use Rattle.flow.specs.Flags.{Flags};
 ghost use Rattle.flow.specs.Leaders.{starts};
@@ -14,34 +14,18 @@ ghost use Rattle.flow.specs.Marks.{Marked};
 ghost use Rattle.flow.specs.Reach.{markAll};
 use crate::branch;
 use crate::mark;
-use instruction::Class;
 use instruction::Instruction;
 use words::fill;
-
-// Does a block end after an instruction of that class?
-pub fn ends_block(c: Class) -> bool
-    ensures { λ r. ⌜ r ≡ endsBlock c ⌝ }
-{
-    match c {
-        Class::Jump
-        | Class::JumpIf
-        | Class::JumpIfNot
-        | Class::ForLoop
-        | Class::Return
-        | Class::Panic => true,
-        _ => false,
-    }
-}
 
 // Marks the leaders that the instruction at place p makes: its target, and the place after it. A branch ends its block.
 fn mark_starts(marks: &mut [u32], p: usize, i: Instruction)
     requires { ⌜ p < maxInstructions ⌝ }
     ensures { λ _. ⌜ now (marks .exit) ≡ markAll (now (marks .entry)) (starts p i) ⌝ }
 {
-    let c = i.class();
-    if !ends_block(c) {
+    if !branch::ends_block(i.op) {
         return;
     }
+    let c = i.class();
     mark::mark_if(marks, branch::branches(c), branch::target(p, i));
     mark::mark_if(marks, true, p as u64 + 1);
 }

@@ -7,7 +7,9 @@ ghost use lib.ListN.{length};
 ghost use Rattle.unit.specs.Refusal.{branchOutside};
 ghost use Rattle.unit.specs.Size.{maxInstructions};
 ghost use Rattle.effects.specs.Cells.{cellsBy};
+ghost use Rattle.instruction.specs.Class.{classOf};
 ghost use Rattle.flow.specs.Branch.{falls, branches, target, branchInside, branchCheck};
+ghost use Rattle.flow.specs.Block.{endsBlock};
 use effects::Check;
 use instruction::Class;
 use instruction::Instruction;
@@ -33,6 +35,17 @@ pub fn branches(c: Class) -> bool
     }
 }
 
+// Does a block end after an instruction of that opcode? Most end none, and the number tells it fastest: Jump, JumpIf, JumpIfNot,
+// Return, Panic and ForLoop do.
+pub fn ends_block(op: u8) -> bool
+    ensures { λ r. ⌜ r ≡ endsBlock (classOf op) ⌝ }
+{
+    match op {
+        57 | 58 | 59 | 64 | 111 | 124 => true,
+        _ => false,
+    }
+}
+
 // The target of a branch at place p; of what is no branch, the next place.
 pub fn target(p: usize, i: Instruction) -> u64
     requires { ⌜ p ≤ maxInstructions ⌝ }
@@ -53,6 +66,9 @@ fn branch_refusal(n: usize, p: usize, i: Instruction) -> u32
     requires { ⌜ p ≤ maxInstructions ⌝ }
     ensures { λ r. ⌜ r ≡ cond (branchInside n p i) 0 branchOutside ⌝ }
 {
+    if !ends_block(i.op) {
+        return 0;
+    }
     if branches(i.class()) {
         if target(p, i) >= n as u64 {
             return refusal::BRANCH_OUTSIDE;

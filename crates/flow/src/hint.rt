@@ -38,7 +38,10 @@ fn loop_refusal(words: &[u64], metadata: &[u8], marks: &[u32], p: usize) -> u32
     requires { ⌜ (p < length (now words)) × (metadataSize * length (now words) ≤ length (now metadata)) × (length (now marks) ≡ length (now words)) ⌝ }
     ensures { λ r. ⌜ r ≡ loopTest (now (marks .entry)) (length (now (words .entry))) p (cellOf (now (metadata .entry)) p (getD (now (words .entry)) p 0)) ⌝ }
 {
-    if (marks[p] == 1) & is_loop_hint(Instruction::from_word(words[p])) {
+    if !is_loop_hint(Instruction::from_word(words[p])) {
+        return 0;
+    }
+    if marks[p] == 1 {
         if !is_sound(words.len(), entry::metadata(metadata, p)) {
             return refusal::UNSOUND_LOOP;
         }

@@ -10,9 +10,9 @@ ghost use Rattle.effects.specs.Cells.{cellOf, cellsBy};
 ghost use Rattle.flow.specs.Loop.{successors, reachedPlaces};
 ghost use Rattle.flow.specs.Stack.{Pushed};
 ghost use Rattle.flow.specs.Successors.{nearSuccessors, loopSuccessorsOf};
-use crate::block;
 use crate::branch;
 use crate::hint;
+use effects::operands::MAX_VALID;
 use instruction::Instruction;
 use unit::entry;
 use words::fill;
@@ -36,11 +36,11 @@ fn push_near(stack: &mut [u32], n: usize, sp: usize, p: usize, i: Instruction) -
     requires { ⌜ (n ≤ maxInstructions) × (p < n) × (sp + 2 ≤ length (now stack)) ⌝ }
     ensures { λ r. ⌜ Pushed n sp (nearSuccessors p i) (now (stack .entry)) (now (stack .exit)) r ⌝ }
 {
+    if !branch::ends_block(i.op) {
+        return push_if(stack, n, sp, i.op <= MAX_VALID, p as u64 + 1);
+    }
     let c = i.class();
     let next = push_if(stack, n, sp, branch::falls(c), p as u64 + 1);
-    if !block::ends_block(c) {
-        return next;
-    }
     push_if(stack, n, next, branch::branches(c), branch::target(p, i))
 }
 

@@ -1,4 +1,4 @@
-use mathlib.Core.Path.{_≡_, refl, sym, _∙_}
+use mathlib.Core.Path.{_≡_, sym, _∙_}
 use mathlib.Core.Bool.{Bool, true, false, cond, not}
 use mathlib.Core.List.{List, [], _∷_}
 use Prim.Native.Nat.{ℕ, suc, _+_}
@@ -17,21 +17,21 @@ use Rattle.flow.proofs.block.mark_starts.Statement.{statement}
 use Rattle.flow.proofs.block.mark_starts.Tie as tie
 
 -- the block goes on
-no-marks : (m : List ℕ) (p : ℕ) (i : Instruction) (x : Class) (e : Bool) → x ≡ class i → e ≡ endsBlock x → not e ≡ true → m ≡ markAll m (starts p i)
+no-marks : (m : List ℕ) (p : ℕ) (i : Instruction) (e : Bool) → e ≡ endsBlock (class i) → not e ≡ true → m ≡ markAll m (starts p i)
 unfolding markAll
-no-marks m p i x e k f g =
-    let ends : endsBlock (class i) ≡ false = rw k at (sym f ∙ not-true e g) in
+no-marks m p i e f g =
+    let ends : endsBlock (class i) ≡ false = sym f ∙ not-true e g in
     rw (no-branch (class i) ends, ends)
 
 -- the answers of the calls, put together
 two-marks : (m m₁ m₂ : List ℕ) (p t : ℕ) (i : Instruction) (x : Class) (b e : Bool) → x ≡ class i → b ≡ branches x → t ≡ target p i
-    → m₁ ≡ markAll m (cond b (t ∷ []) []) → e ≡ endsBlock x → not e ≡ false → m₂ ≡ markAll m₁ ((p + 1) ∷ []) → m₂ ≡ markAll m (starts p i)
+    → m₁ ≡ markAll m (cond b (t ∷ []) []) → e ≡ endsBlock (class i) → not e ≡ false → m₂ ≡ markAll m₁ ((p + 1) ∷ []) → m₂ ≡ markAll m (starts p i)
 two-marks m m₁ m₂ p t i x b e k f g h j n l =
-    let ends : endsBlock (class i) ≡ true = rw k at (sym j ∙ not-false e n) in
+    let ends : endsBlock (class i) ≡ true = sym j ∙ not-false e n in
     rw (l, h, f, g, k, add-one p, ends) (sym (mark-append m (cond (branches (class i)) (target p i ∷ []) []) (suc p ∷ [])))
 
 returns : tie.Need-returns
-returns c = no-marks _ _ _ _ _ (c .before .before .class .ensures) (c .before .ends-block .ensures) (c .if1 .taken)
+returns c = no-marks _ _ _ _ (c .before .ends-block .ensures) (c .if1 .taken)
 
 returns-2 : tie.Need-returns-2
 returns-2 c =
@@ -39,18 +39,17 @@ returns-2 c =
     let first = second .before .before .before .before in
     let t = first .before in
     let b = t .before in
-    let test = b .before .before in
-    let ends = test .before in
-    let k = ends .before in
-    two-marks _ _ _ _ _ _ _ _ _ (k .class .ensures) (b .branches .ensures) (t .target .ensures) (first .mark-if .ensures) (ends .ends-block .ensures) (test .if1 .left) (second .mark-if2 .ensures)
+    let k = b .before .before in
+    let test = k .before in
+    two-marks _ _ _ _ _ _ _ _ _ (k .class .ensures) (b .branches .ensures) (t .target .ensures) (first .mark-if .ensures) (test .before .ends-block .ensures) (test .if1 .left) (second .mark-if2 .ensures)
 
 pub mark-starts-spec : {M : Type 1} → statement M
 mark-starts-spec =
     tie.close
     (tie.spec
     (λ c κs. search needs)
-    (λ c κs. search needs)
     returns
+    (λ c κs. search needs)
     (λ c κs. search needs)
     (λ c κs. search needs)
     (λ c κs. search needs)
