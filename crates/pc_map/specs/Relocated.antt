@@ -1,11 +1,12 @@
 -- Relocation of an instruction and of its metadata, each by itself; when it can be done.
 -- Assumes nothing.
-use mathlib.Core.Path.{_≡_, refl, ap, _∙_}
-use mathlib.Core.Bool.{Bool, true, false, cond, _&&_}
+use mathlib.Core.Path.{_≡_, refl, sym, ap, _∙_}
+use mathlib.Core.Bool.{Bool, true, false, cond, _&&_, false≢true}
 use mathlib.Core.List.{List}
 use Prim.Native.Nat.{ℕ}
 use lib.Dec.{eqb, leb}
-use borrow.Author.Tests.{eqb-true}
+use lib.ListN.{getD}
+use borrow.Author.Tests.{eqb-true, ne-eqb}
 use Rattle.words.specs.Truth.{left-true}
 use Rattle.instruction.specs.declared.Instruction.{Instruction}
 use Rattle.instruction.specs.declared.Class.{Class}
@@ -15,6 +16,7 @@ use Rattle.instruction.specs.Laws.{hint-class}
 use Rattle.unit.specs.Refusal.{lostLoop}
 use Rattle.unit.specs.declared.Metadata.{Metadata}
 use Rattle.effects.specs.Shape.{Cell}
+use Rattle.flow.specs.Block.{endsBlock}
 use Rattle.flow.specs.Loop.{isLoopHint, loopExit, loopEnd}
 use Rattle.pc_map.specs.Boundary.{isKept, boundary}
 use Rattle.pc_map.specs.Relocate.{movedHint, relocateBy, relocate}
@@ -72,17 +74,51 @@ module _ (keep : List ℕ) where
       go true e = ap (λ (k : Class). relocateBy keep k p x .metadata) (loop-class (x .instruction) e) ∙ rw e
       go false e = other e (class (x .instruction)) ∙ rw e
 
--- the three answers of the test; i is the cell's instruction and d its metadata, as the code has them
-module _ (keep : List ℕ) (n p : ℕ) (x : Cell) (i : Instruction) (h : Bool) (same : i ≡ x .instruction) (hint : h ≡ isLoopHint i) where
-  pub moves-no-hint : (isKept keep p && h) ≡ false → 0 ≡ relocationTest keep n p x
-  moves-no-hint e = let t : (isKept keep p && isLoopHint (x .instruction)) ≡ false = cc in rw t
+  -- where no block ends, a loop hint's exit moves and nothing else
+  pub moved-inside : (p : ℕ) (x : Cell) → endsBlock (class (x .instruction)) ≡ false → movedExit keep (x .instruction) ≡ relocate keep p x .instruction
+  unfolding relocateBy movedHint endsBlock
+  moved-inside p x ends = go (isLoopHint (x .instruction)) refl
+    where
+      other : isLoopHint (x .instruction) ≡ false → (k : Class) → endsBlock k ≡ false → x .instruction ≡ relocateBy keep k p x .instruction
+      other e Hint f = rw e
+      other e LoadInt f = refl
+      other e LoadConst f = refl
+      other e Copy f = refl
+      other e CopyN f = refl
+      other e Unary f = refl
+      other e Binary f = refl
+      other e Jump f = absurd (false≢true (sym f))
+      other e JumpIf f = absurd (false≢true (sym f))
+      other e JumpIfNot f = absurd (false≢true (sym f))
+      other e ForLoop f = absurd (false≢true (sym f))
+      other e Return f = refl
+      other e Panic f = refl
+      other e Outside f = refl
+      other e Invalid f = refl
 
-  module _ (d : Metadata) (v : ℕ) (s : Bool) (there : d ≡ x .metadata) (exit : v ≡ imm32Unsigned i) (kept : s ≡ isKept keep (d .end)) (e : (isKept keep p && h) ≡ true) where
-    t : (isKept keep p && isLoopHint (x .instruction)) ≡ true
-    t = cc
+      go : (t : Bool) → isLoopHint (x .instruction) ≡ t → movedExit keep (x .instruction) ≡ relocate keep p x .instruction
+      go true e = sym (ap (λ (k : Class). relocateBy keep k p x .instruction) (loop-class (x .instruction) e) ∙ hint-instruction x)
+      go false e = rw e (other e (class (x .instruction)) ends)
 
-    pub moves-well : (leb v n && s) ≡ true → 0 ≡ relocationTest keep n p x
-    moves-well f = let u : (leb (loopExit x) n && isKept keep (loopEnd x)) ≡ true = cc in rw (t, u)
+-- the answers of the test; i is the cell's instruction and d its metadata, as the code has them
+module _ (keep : List ℕ) (n p : ℕ) (x : Cell) where
+  pub moves-removed : (getD keep p 0 ≡ 1 → ⊥) → 0 ≡ relocationTest keep n p x
+  moves-removed f = rw (ne-eqb (getD keep p 0) 1 f)
 
-    pub moves-not : (leb v n && s) ≡ false → lostLoop ≡ relocationTest keep n p x
-    moves-not f = let u : (leb (loopExit x) n && isKept keep (loopEnd x)) ≡ false = cc in rw (t, u)
+  module _ (i : Instruction) (h : Bool) (same : i ≡ x .instruction) (hint : h ≡ isLoopHint i) where
+    pub moves-no-hint : h ≡ false → 0 ≡ relocationTest keep n p x
+    moves-no-hint e = let t : isLoopHint (x .instruction) ≡ false = cc in rw t (go (isKept keep p))
+      where
+        go : (m : Bool) → 0 ≡ cond (m && false) (cond (leb (loopExit x) n && isKept keep (loopEnd x)) 0 lostLoop) 0
+        go true = refl
+        go false = refl
+
+    module _ (d : Metadata) (v : ℕ) (s : Bool) (there : d ≡ x .metadata) (exit : v ≡ imm32Unsigned i) (kept : s ≡ isKept keep (d .end)) (e : h ≡ true) (f : getD keep p 0 ≡ 1) where
+      t : isLoopHint (x .instruction) ≡ true
+      t = cc
+
+      pub moves-well : (leb v n && s) ≡ true → 0 ≡ relocationTest keep n p x
+      moves-well g = let u : (leb (loopExit x) n && isKept keep (loopEnd x)) ≡ true = cc in rw (f, t, u)
+
+      pub moves-not : (leb v n && s) ≡ false → lostLoop ≡ relocationTest keep n p x
+      moves-not g = let u : (leb (loopExit x) n && isKept keep (loopEnd x)) ≡ false = cc in rw (f, t, u)

@@ -69,11 +69,13 @@ pub fn relocate(p: usize, i: Instruction, bounds: &[u32]) -> Instruction
     requires { ⌜ (p + 1 < length (now bounds)) × (length (now bounds) ≤ maxInstructions + 1) × (branches (class i) ≡ true → target p i < length (now bounds)) × (isLoopHint i ≡ true → imm32Unsigned i < length (now bounds)) ⌝ }
     ensures { λ r. ⌜ ((keep : List ℕ) → Mapped keep (now (bounds .entry)) → (d : Metadata) → r ≡ relocate keep p (cell i d) .instruction) ⌝ }
 {
+    if !branch::ends_block(i.op) {
+        return moved_hint(i, bounds);
+    }
     let c = i.class();
     match c {
         Class::Jump | Class::JumpIf | Class::JumpIfNot => moved_jump(p, i, bounds),
         Class::ForLoop => moved_for_loop(p, i, bounds),
-        Class::Hint => moved_hint(i, bounds),
         _ => i,
     }
 }
@@ -110,7 +112,10 @@ fn relocation_refusal(words: &[u64], metadata: &[u8], keep: &[u32], p: usize) ->
     ensures { λ r. ⌜ r ≡ relocationTest (now (keep .entry)) (length (now (words .entry))) p (cellOf (now (metadata .entry)) p (getD (now (words .entry)) p 0)) ⌝ }
 {
     let i = Instruction::from_word(words[p]);
-    if (keep[p] == 1) & hint::is_loop_hint(i) {
+    if !hint::is_loop_hint(i) {
+        return 0;
+    }
+    if keep[p] == 1 {
         let d = entry::metadata(metadata, p);
         let near = (i.imm32_unsigned() as usize) <= words.len();
         if !(near & is_kept(keep, d.end as usize)) {
