@@ -28,7 +28,7 @@ use Rattle.pc_map.specs.Boundary.{boundary}
 use Rattle.pc_map.specs.Boundaries.{Mapped}
 use Rattle.pc_map.specs.Listed.{keptList}
 use Rattle.answer.specs.Pass.{Outcome, refused, checked, removal}
-use Rattle.values.specs.Walk.{Named}
+use Rattle.values.specs.Named.{Named}
 use Rattle.run.specs.Operands.{named-of}
 use Rattle.optimize.specs.Parts.{Given, Room, Checked, wordsIn, words-long, wordsOf, sectionsIn, cellsIn, numberedCode, reachedMarks, retainedPlaces, afterLoops}
 use Rattle.optimize.specs.Kept.{keepAt, listAt, Retainable, Retains}

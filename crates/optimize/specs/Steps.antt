@@ -20,8 +20,9 @@ use Rattle.values.specs.Number.{numberCode}
 use Rattle.flow.specs.Block.{leaders}
 use Rattle.flow.specs.BranchLaws.{BranchesInside}
 use Rattle.flow.specs.Loop.{reachedPlaces, loopCheck}
-use Rattle.values.specs.Walk as walk
-use Rattle.values.specs.Walk.{Named, sectionsOf}
+use Rattle.numbering.specs.Walk as walk
+use Rattle.values.specs.Named.{Named}
+use Rattle.numbering.specs.Walk.{sectionsOf}
 use Rattle.pc_map.specs.Boundary.{boundary}
 use Rattle.pc_map.specs.Boundaries.{Mapped, mapped-at, boundary-most}
 use Rattle.pc_map.specs.Listed.{keptList, Listed}

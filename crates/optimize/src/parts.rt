@@ -13,7 +13,7 @@ ghost use Rattle.flow.specs.BranchLaws.{BranchesInside};
 ghost use Rattle.pc_map.specs.Listed.{Listed};
 ghost use Rattle.answer.specs.Pass.{optimized, removal};
 ghost use Rattle.optimize.specs.Parts.{Tells, wordsIn, sectionsIn, cellsIn, Given, Room, Checked, afterOperands, afterBranches, afterLoops};
-ghost use Rattle.values.specs.Walk.{sectionsOf};
+ghost use Rattle.numbering.specs.Walk.{sectionsOf};
 ghost use Rattle.optimize.specs.Kept.{keepAt};
 ghost use Rattle.optimize.specs.Steps.{Finished, Marks, Reached, Renumbered, Numberable};
 use crate::Answer;
@@ -28,7 +28,7 @@ use flow::reach;
 use pc_map::boundary;
 use pc_map::relocation;
 use pc_map::retained;
-use values::walk;
+use numbering::walk;
 
 // "unchanged: same code, all kept", refusal 10, or rewritten.
 fn conclude(

@@ -32,7 +32,7 @@ use Rattle.values.specs.declared.Atom.the-variants.{Integer, Float, Definition}
 use Rattle.values.specs.Fold.{foldWord, foldingUnary, foldingBinary, fitsImm32}
 use Rattle.values.specs.Table.{Values, Expression, valueOf, expressionIn}
 use Rattle.values.specs.Number.{setA, setB, setBC, constantAtom}
-use Rattle.values.specs.Walk.{Named}
+use Rattle.values.specs.Named.{Named}
 use Rattle.run.specs.Machine.{Words, Event, World, State, at, put, goto, perform, silent, ask, stop, byReturn}
 use Rattle.run.specs.Program.{Function, hasMeaning, classIn, nodeBy, actBy, givenRanges, event, constantWord, unaryWord, binaryWord, slotsOf, slotsFrom}
 use Rattle.run.specs.Shapes.{readParts, writeParts, byFields, reads-by, given-by}

@@ -24,7 +24,7 @@ use Rattle.values.specs.declared.Atom.the-variants.{Integer, Float, Definition}
 use Rattle.values.specs.Fold.{foldWord, foldingUnary, foldingBinary, fitsImm32}
 use Rattle.values.specs.Table.{sameAtom, Values, Expression, Represented, empty, atStart, valueIn, valueOf, slotIn, expressionIn, usable, recordedSlot, orItself, representative, store, learn}
 use Rattle.values.specs.Number.{Numbered, setA, setB, setBC, constantAtom, foldUnary, foldBinary, loadOrStay, isScalar, stored, copyOrStay, byExpression, byValue, numberUnary, numberBinary, numberCopy, numberConstant, numberRead, decided, numberJump, numberBy, cleared, number}
-use Rattle.values.specs.Walk.{Named}
+use Rattle.values.specs.Named.{Named}
 use Rattle.run.specs.Machine.{Words, Event, World, put}
 use Rattle.run.specs.Program.{Function}
 use Rattle.run.specs.Small.{sign-small, fold-small}

@@ -18,7 +18,7 @@ use Rattle.effects.specs.Effects.{writes, allReads, demandsMet, rangeFits, rang
 use Rattle.effects.specs.Check.{operandRefusal, effectsSound}
 use Rattle.effects.specs.Operands.{all-append}
 use Rattle.effects.specs.Sound.{sound}
-use Rattle.values.specs.Walk.{Named}
+use Rattle.values.specs.Named.{Named}
 use Rattle.run.specs.Shapes.{readParts, writeParts, byFields, valid-opcode, reads-by, writes-by, demands-by}
 
 -- every range lies within the frame

@@ -6,6 +6,3 @@ pub mod Learning
 pub mod Recording
 pub mod Growing
 pub mod Reading
-pub mod Walking
-pub mod Starting
-pub mod Loop

@@ -8,4 +8,4 @@ pub mod Chain
 pub mod Adding
 pub mod Memory
 pub mod Kept
-pub mod Walk
+pub mod Named

@@ -1,8 +1,7 @@
-// Value numbering within blocks.
+// The table of values within a block, by value numbers.
 pub mod entries;
 pub mod fold;
 pub mod table;
-pub mod walk;
 
 // The value of a slot: a known 64-bit integer, a float constant's bits, or what the instruction at a place gave to a slot.
 pub enum Atom {
@@ -21,10 +20,4 @@ pub enum Folded {
 pub enum Found {
     At(u64),
     Nothing,
-}
-
-// The kind and the bits of the constant that LoadConst gives.
-pub enum Loaded {
-    Value(u64, u64),
-    Unknown,
 }

@@ -1,0 +1,633 @@
+-- What each function of the walk does, from what the functions that it calls do.
+-- Assumes nothing.
+use mathlib.Core.Path.{_≡_, refl, sym, ap, _∙_}
+use mathlib.Core.Bool.{Bool, true, false, cond, _&&_}
+use mathlib.Core.List.{List, [], _∷_}
+use mathlib.Core.Logic.{⊎-elim, _⊎_, inl, inr}
+use mathlib.Core.Option.{Option, none, some}
+use Prim.Native.Nat.{ℕ, zero, suc, _+_, _%_, _^_, _≤_, _<_}
+use native.Mathlib.Omega.{arith}
+use lib.Dec.{eqb}
+use lib.ListN.{length, getD}
+use types.Run.{OneOf, miss}
+use borrow.Author.Tests.{eq-eqb, ne-eqb}
+use denote.Enum.Declared.{tagOf as variantOf}
+use Rattle.words.specs.Lists.{isIn}
+use Rattle.instruction.specs.declared.Instruction.{Instruction}
+use Rattle.instruction.specs.declared.Class.{Class}
+use Rattle.instruction.specs.declared.Class.the-variants.{Hint, LoadInt, LoadConst, Copy, CopyN, Unary, Binary, Jump, JumpIf, JumpIfNot, ForLoop, Return, Panic, Outside, Invalid}
+use Rattle.instruction.proofs.Class.{the-type as class-type}
+use Rattle.instruction.specs.Class.{numberOf, namedClass, named-number}
+use Rattle.instruction.specs.Instruction.{plain, withImm32}
+use Rattle.values.specs.Fold.{foldingUnary, foldingBinary, foldWord, fitsImm32}
+use Rattle.effects.specs.Shape.{Sections, Tables}
+use Rattle.values.specs.Table.{Values, Expression, valueOf, expressionIn, recordedSlot, representative, learn}
+use Rattle.values.specs.Number.{Numbered, setA, setB, setBC, foldUnary, foldBinary, loadOrStay, stored as storedBy, copyOrStay, byExpression, byValue, numberUnary, numberBinary, numberCopy, numberConstant, numberRead, decided, numberJump, cleared as clearedBy, numberBy}
+use Rattle.values.specs.Folded.{integerOf, answered, expressionOf}
+use Rattle.values.specs.Entries.{Key, value, newest}
+use Rattle.values.specs.Chain.{newest-le}
+use Rattle.values.specs.Memory.{memoryOf, numberAt, constantOf, constantKey, expressionKey, slotFound, limit, usableAt, integerAt, expressionIf, expressionAt, Ready, atomAt, atomIn, atomFound, Holds}
+use Rattle.values.specs.Kept.{Kept, Same, Clears, Represents, Stores, Interns, Learns}
+use Rattle.numbering.specs.Walk.{sectionsOf, wordOf, Stands, Becomes, Room, Second, secondNumber, foldBy, secondOf, atomOf, KindOf, binaryClass, operatorClass, onZero, combined, operated, scalarIn, undecidedBy, takes, pureBy, otherBy, by-other}
+use Rattle.values.specs.Named.{Named}
+use Rattle.values.specs.declared.Atom.{Atom}
+use Rattle.values.specs.declared.Atom.the-variants.{Integer, Float, Definition}
+use Rattle.values.specs.declared.Found.{Found}
+use Rattle.values.specs.declared.Found.the-variants.{At, Nothing}
+use Rattle.numbering.specs.declared.Loaded.{Loaded}
+use Rattle.numbering.specs.declared.Loaded.the-variants.{Value, Unknown}
+use Rattle.values.specs.declared.Folded.{Folded}
+use Rattle.values.specs.declared.Folded.the-variants.{Word, Not}
+use Rattle.values.proofs.Atom.{the-type}
+use Rattle.values.proofs.Atoms.{atom-place, atom-zero, integer-at}
+use Rattle.values.proofs.Holding.{usable-holds}
+use Rattle.values.proofs.Recording.{few, unchanged, same-self}
+
+-- ---- what stays in order
+
+-- more may be allowed than was used
+pub widen : {n S k c e k′ c′ e′ : ℕ} {t t′ : List ℕ} → k ≤ k′ → c ≤ c′ → e ≤ e′ → Kept n S k c e t t′ → Kept n S k′ c′ e′ t t′
+widen a b d w =
+    record {
+      ready = w .ready;
+      long = w .long;
+      epochs = omega (arith, w .epochs);
+      constants = omega (arith, w .constants);
+      expressions = omega (arith, w .expressions);
+    }
+
+-- one change after another
+pub kept-then : {n S k c e k′ c′ e′ : ℕ} {t t₁ t′ : List ℕ} → Kept n S k c e t t₁ → Kept n S k′ c′ e′ t₁ t′ → Kept n S (k + k′) (c + c′) (e + e′) t t′
+kept-then d w =
+    record {
+      ready = w .ready;
+      long = w .long ∙ d .long;
+      epochs = omega (arith, w .epochs, d .epochs);
+      constants = omega (arith, w .constants, d .constants);
+      expressions = omega (arith, w .expressions, d .expressions);
+    }
+
+-- nothing changed
+pub kept-same : {n S k c e : ℕ} {t : List ℕ} → Ready n S t → Kept n S k c e t t
+kept-same g = widen (omega arith) (omega arith) (omega arith) (unchanged g)
+
+pub room-kept : {n S : ℕ} {t t′ : List ℕ} → Room n S t → Kept n S 0 0 0 t t′ → Room n S t′
+room-kept g d =
+    record {
+      ready = d .ready;
+      constants = omega (arith, g .constants, d .constants);
+      expressions = omega (arith, g .expressions, d .expressions);
+      epoch = omega (arith, g .epoch, d .epochs);
+    }
+
+-- ---- numbers and values
+
+module _ {n S : ℕ} {t t₁ : List ℕ} (s : Same n S t t₁) where
+  pub same-limit : {d : ℕ} → d < limit n S (memoryOf n S t) → d < limit n S (memoryOf n S t₁)
+  same-limit l = omega (arith, s .constants)
+
+  -- the value of a slot that had the number d
+  same-value : {dest : ℕ → ℕ} {v : Values} (r d : ℕ) → r < S → numberAt (memoryOf n S t) r ≡ d → Holds n S dest v (memoryOf n S t₁) → atomIn n S dest (memoryOf n S t₁) d ≡ valueOf v r
+  same-value {dest} r d l e h = ap (atomIn n S dest (memoryOf n S t₁)) (sym (s .numbers r l ∙ e)) ∙ h .slots r l
+
+pub same-then : {n S : ℕ} {t t₁ t₂ : List ℕ} → Same n S t t₁ → Same n S t₁ t₂ → Same n S t t₂
+same-then s r = record { numbers = λ x l. r .numbers x l ∙ s .numbers x l; constants = r .constants ∙ s .constants; table = r .table ∙ s .table }
+
+-- the value with the number d, and what is known, in the memory t
+abbrev pub valueAt : ℕ → List ℕ → List ℕ → (ℕ → ℕ) → ℕ → Atom
+valueAt n types t dest d = atomIn n (length types) dest (memoryOf n (length types) t) d
+
+abbrev pub Knows : ℕ → List ℕ → List ℕ → (ℕ → ℕ) → Values → Type 0
+Knows n types t dest v = Holds n (length types) dest v (memoryOf n (length types) t)
+
+module _ {n : ℕ} (types : List ℕ) {t : List ℕ} where
+  -- a copy of the recorded slot
+  pub copy-found : {f : Found} {r d : ℕ} (i : Instruction) {j : Instruction} → Ready n (length types) t → d < limit n (length types) (memoryOf n (length types) t)
+      → f ≡ usableAt n (length types) types (memoryOf n (length types) t) d (getD types (i .a) 0) → f ≡ At r → j ≡ plain 3 (i .a) r 0
+      → (j .a ≡ i .a) × ((dest : ℕ → ℕ) (z : List ℕ) (l : ℕ) (T : Tables) (v : Values) → Knows n types t dest v
+      → j ≡ copyOrStay (sectionsOf types z l T) i (recordedSlot types v (valueAt n types t dest d) (getD types (i .a) 0)))
+  unfolding copyOrStay slotFound
+  copy-found {f} {r} {d} i {j} g low e q s = (
+    rw s,
+    λ dest z l T v h.
+        let known : some r ≡ recordedSlot types v (valueAt n types t dest d) (getD types (i .a) 0)
+        = ap slotFound (sym (sym e ∙ q)) ∙ usable-holds n (length types) (few g) (g .order) dest h types d (getD types (i .a) 0) low in
+        rw (sym known) s,
+  )
+
+  pub copy-none : {f : Found} {d : ℕ} (i : Instruction) → Ready n (length types) t → d < limit n (length types) (memoryOf n (length types) t)
+      → f ≡ usableAt n (length types) types (memoryOf n (length types) t) d (getD types (i .a) 0) → f ≡ Nothing
+      → (dest : ℕ → ℕ) (z : List ℕ) (l : ℕ) (T : Tables) (v : Values) → Knows n types t dest v
+      → i ≡ copyOrStay (sectionsOf types z l T) i (recordedSlot types v (valueAt n types t dest d) (getD types (i .a) 0))
+  unfolding copyOrStay slotFound
+  copy-none {f} {d} i g low e q dest z l T v h =
+      let known : none ≡ recordedSlot types v (valueAt n types t dest d) (getD types (i .a) 0)
+      = ap slotFound (sym (sym e ∙ q)) ∙ usable-holds n (length types) (few g) (g .order) dest h types d (getD types (i .a) 0) low in
+      rw (sym known)
+
+-- the number of an expression's value is in use
+pub found-low : {n S : ℕ} {t : List ℕ} {f : Found} → Ready n S t → (k : Key) (d : ℕ) → f ≡ expressionAt n S (memoryOf n S t) k → f ≡ At d → d < limit n S (memoryOf n S t)
+unfolding expressionIf
+found-low {n} {S} {t} g k d e q = go (newest (memoryOf n S t .expressionTable) n (memoryOf n S t .expressions) k) refl (sym e ∙ q)
+  where
+    go : (j : ℕ) → newest (memoryOf n S t .expressionTable) n (memoryOf n S t .expressions) k ≡ j → expressionIf n S (memoryOf n S t .expressionTable) j ≡ At d → d < limit n S (memoryOf n S t)
+    go zero l z = let y : _≡_ {A = ℕ} 0 1 = cc in absurd (omega arith)
+    go (suc j) l z =
+        let same : value (memoryOf n S t .expressionTable) n j ≡ d = cc in
+        let low : j < memoryOf n S t .expressions = omega (arith, newest-le (memoryOf n S t .expressionTable) n k (memoryOf n S t .expressions)) in
+        rw (← same) (g .order .values-low j low)
+
+-- the value of an expression of two numbers
+known-expression : {n S : ℕ} (t : List ℕ) {k : Key} {f : Found} {dest : ℕ → ℕ} {v : Values} (op flags left right : ℕ) → op < 256 → flags < 256
+    → left < limit n S (memoryOf n S t) → right < limit n S (memoryOf n S t) → k ≡ expressionKey op flags left right → f ≡ expressionAt n S (memoryOf n S t) k → Holds n S dest v (memoryOf n S t)
+    → atomFound n S dest (memoryOf n S t) f ≡ expressionIn (v .expressions) (expressionOf op flags (atomIn n S dest (memoryOf n S t) left) (atomIn n S dest (memoryOf n S t) right))
+known-expression {n} {S} t {k} {f} {dest} op flags left right a b c d q e h =
+    ap (atomFound n S dest (memoryOf n S t)) (e ∙ ap (expressionAt n S (memoryOf n S t)) q) ∙ h .expressions op flags left right a b c d
+
+-- ---- steps
+
+module _ {n : ℕ} {types : List ℕ} {t : List ℕ} where
+  -- a step after another change of the memory, ρ by the definition
+  pub after : {k c e k′ c′ e′ : ℕ} {t₁ t′ : List ℕ} {x : Instruction} {Good Good′ : (ℕ → ℕ) → List ℕ → Type 0} {f f′ : (ℕ → ℕ) → Sections → Values → Numbered} (ρ : (ℕ → ℕ) → Values → Values)
+      → Kept n (length types) k c e t t₁
+      → ((dest : ℕ → ℕ) (v : Values) → Knows n types t dest v → Knows n types t₁ dest (ρ dest v))
+      → ((dest : ℕ → ℕ) (z : List ℕ) (l : ℕ) (T : Tables) (v : Values) → Good′ dest z → Knows n types t dest v
+      → Good dest z × (f dest (sectionsOf types z l T) (ρ dest v) ≡ f′ dest (sectionsOf types z l T) v))
+      → Becomes n types k′ c′ e′ t₁ x t′ Good f → Becomes n types (k + k′) (c + c′) (e + e′) t x t′ Good′ f′
+  after ρ d w g b =
+      record {
+        kept = kept-then d (b .kept);
+        holds = λ dest z l T v y h.
+            let q = g dest z l T v y h in
+            rw (sym (q .1)) (b .holds dest z l T (ρ dest v) (q .0) (w dest v h));
+      }
+
+  -- the same step, told of another definition that agrees
+  pub as-becomes : {k c e k′ c′ e′ : ℕ} {t′ : List ℕ} {x : Instruction} {Good Good′ : (ℕ → ℕ) → List ℕ → Type 0} {f f′ : (ℕ → ℕ) → Sections → Values → Numbered} → k ≤ k′ → c ≤ c′ → e ≤ e′
+      → ((dest : ℕ → ℕ) (z : List ℕ) (l : ℕ) (T : Tables) (v : Values) → Good′ dest z → Knows n types t dest v
+      → Good dest z × (f dest (sectionsOf types z l T) v ≡ f′ dest (sectionsOf types z l T) v))
+      → Becomes n types k c e t x t′ Good f → Becomes n types k′ c′ e′ t x t′ Good′ f′
+  as-becomes a b d g w =
+      record {
+        kept = widen a b d (w .kept);
+        holds = λ dest z l T v y h.
+            let q = g dest z l T v y h in
+            rw (sym (q .1)) (w .holds dest z l T v (q .0) h);
+      }
+
+  -- a store
+  pub store-becomes : {i : Instruction} {d : ℕ} {t′ : List ℕ} → Stores n (length types) types t (i .a) d t′
+      → Becomes n types 0 0 0 t i t′ (λ dest z. Unit {0}) (λ dest S x. storedBy S i x (valueAt n types t dest d))
+  unfolding storedBy
+  store-becomes d = record { kept = d .kept; holds = λ dest z l T v y h. (refl, d .holds dest v h) }
+
+  -- a store of a constant
+  pub store-interned : (i : Instruction) {x : Instruction} {kind bits d : ℕ} {t₁ t′ : List ℕ} → Interns n (length types) t kind bits d t₁
+      → Becomes n types 0 0 0 t₁ x t′ (λ dest z. Unit {0}) (λ dest S v. storedBy S i v (valueAt n types t₁ dest d))
+      → Becomes n types 0 1 0 t x t′ (λ dest z. Unit {0}) (λ dest S v. storedBy S i v (constantOf (constantKey kind bits)))
+  store-interned i d b = after (λ dest v. v) (d .kept) (d .holds) (λ dest z l T v y h. (tt, rw (d .is dest))) b
+
+  -- all values are forgotten
+  pub forget-becomes : {i x : Instruction} {t′ : List ℕ} {c e : ℕ} {Good : (ℕ → ℕ) → List ℕ → Type 0} {f : (ℕ → ℕ) → Sections → Values → Numbered} → (x ≡ i) × Clears n (length types) t t′
+      → ((dest : ℕ → ℕ) (z : List ℕ) (l : ℕ) (T : Tables) (v : Values) → f dest (sectionsOf types z l T) v ≡ clearedBy (sectionsOf types z l T) i) → Becomes n types 1 c e t x t′ Good f
+  forget-becomes p e =
+      record {
+        kept = widen (omega arith) (omega arith) (omega arith) (p .1 .kept);
+        holds = λ dest z l T v y h. rw (e dest z l T v) (p .0, p .1 .holds dest);
+      }
+
+  -- nothing changes but the instruction
+  pub stay-becomes : {x : Instruction} {k c e : ℕ} {Good : (ℕ → ℕ) → List ℕ → Type 0} {f : (ℕ → ℕ) → Sections → Values → Numbered} → Ready n (length types) t
+      → ((dest : ℕ → ℕ) (z : List ℕ) (l : ℕ) (T : Tables) (v : Values) → Knows n types t dest v
+      → f dest (sectionsOf types z l T) v ≡ record { instruction = x; table = v }) → Becomes n types k c e t x t Good f
+  stay-becomes g e = record { kept = kept-same g; holds = λ dest z l T v y h. rw (e dest z l T v h) (refl, h) }
+
+  pub copied-becomes : (d : ℕ) (i : Instruction) {j x : Instruction} {t′ : List ℕ}
+      → ((dest : ℕ → ℕ) (z : List ℕ) (l : ℕ) (T : Tables) (v : Values) → Knows n types t dest v
+      → j ≡ copyOrStay (sectionsOf types z l T) i (recordedSlot types v (valueAt n types t dest d) (getD types (i .a) 0)))
+      → Becomes n types 0 0 0 t x t′ (λ dest z. Unit {0}) (λ dest S v. storedBy S j v (valueAt n types t dest d))
+      → Becomes n types 0 0 0 t x t′ (λ dest z. Unit {0})
+      (λ dest S v. storedBy S (copyOrStay S i (recordedSlot (S .types) v (valueAt n types t dest d) (getD (S .types) (i .a) 0))) v (valueAt n types t dest d))
+  copied-becomes d i g b =
+      as-becomes (omega arith) (omega arith) (omega arith)
+      (λ dest z l T v y h. (y, ap (λ (j : Instruction). storedBy (sectionsOf types z l T) j v (valueAt n types t dest d)) (g dest z l T v h))) b
+
+  -- a new expression, whose value is what place p defines
+  pub defines : {i x : Instruction} {p op flags left right : ℕ} {t₁ t′ : List ℕ} → Learns n (length types) t op flags left right (length types + p) t₁
+      → Becomes n types 0 0 0 t₁ x t′ (λ dest z. Unit {0}) (λ dest S v. storedBy S i v (valueAt n types t₁ dest (length types + p)))
+      → Becomes n types 0 0 1 t x t′ (λ dest z. Stands n p i dest)
+      (λ dest S v. storedBy S i (learn v (expressionOf op flags (valueAt n types t dest left) (valueAt n types t dest right)) (Definition p (i .a))) (Definition p (i .a)))
+  defines {i} {x} {p} {op} {flags} {left} {right} {t₁} d b =
+      after
+      (λ dest v.
+      learn v (expressionOf op flags (valueAt n types t dest left) (valueAt n types t dest right))
+      (valueAt n types t dest (length types + p)))
+      (d .kept) (d .holds)
+      (λ dest z l T v y h.
+      let here : valueAt n types t dest (length types + p) ≡ Definition p (i .a)
+      = atom-place n (length types) dest (memoryOf n (length types) t .constantTable) p (y .place) ∙ ap (Definition p) (sym (y .own)) in
+      let there : valueAt n types t₁ dest (length types + p) ≡ Definition p (i .a)
+      = atom-place n (length types) dest (memoryOf n (length types) t₁ .constantTable) p (y .place) ∙ ap (Definition p) (sym (y .own)) in
+      (tt, rw (here, there)))
+      b
+
+  -- looked up: found, or new
+  module _ (i : Instruction) (p left right : ℕ) {k : Key} {x : Instruction} {t′ : List ℕ} (lowl : left < limit n (length types) (memoryOf n (length types) t)) (lowr : right < limit n (length types) (memoryOf n (length types) t))
+      (q : k ≡ expressionKey (i .op) (i .flags) left right) where
+    pub expression-found : {f : Found} (d : ℕ) → f ≡ expressionAt n (length types) (memoryOf n (length types) t) k → f ≡ At d
+        → Becomes n types 0 0 0 t x t′ (λ dest z. Unit {0})
+        (λ dest S v. storedBy S (copyOrStay S i (recordedSlot (S .types) v (valueAt n types t dest d) (getD (S .types) (i .a) 0))) v (valueAt n types t dest d))
+        → Becomes n types 0 0 1 t x t′ (λ dest z. Stands n p i dest)
+        (λ dest S v. byExpression S p i v (expressionOf (i .op) (i .flags) (valueAt n types t dest left) (valueAt n types t dest right)) (expressionIn (v .expressions) (expressionOf (i .op) (i .flags) (valueAt n types t dest left) (valueAt n types t dest right))))
+    unfolding byExpression atomFound
+    expression-found {f} d e z b =
+        as-becomes (omega arith) (omega arith) (omega arith)
+        (λ dest w l T v y h.
+        let known : some (valueAt n types t dest d) ≡ expressionIn (v .expressions) (expressionOf (i .op) (i .flags) (valueAt n types t dest left) (valueAt n types t dest right))
+        = ap (atomFound n (length types) dest (memoryOf n (length types) t)) (sym z) ∙ known-expression t (i .op) (i .flags) left right (y .op) (y .flags) lowl lowr q e h in
+        (tt, rw (sym known)))
+        b
+
+    pub expression-none : {f : Found} → f ≡ expressionAt n (length types) (memoryOf n (length types) t) k → f ≡ Nothing → i .op < 256 → i .flags < 256
+        → ((op flags left right : ℕ) → op < 256 → flags < 256 → left < limit n (length types) (memoryOf n (length types) t) → right < limit n (length types) (memoryOf n (length types) t) → k ≡ expressionKey op flags left right
+        → Becomes n types 0 0 1 t x t′ (λ dest z. Stands n p i dest)
+        (λ dest S v. storedBy S i (learn v (expressionOf op flags (valueAt n types t dest left) (valueAt n types t dest right)) (Definition p (i .a))) (Definition p (i .a))))
+        → Becomes n types 0 0 1 t x t′ (λ dest z. Stands n p i dest)
+        (λ dest S v. byExpression S p i v (expressionOf (i .op) (i .flags) (valueAt n types t dest left) (valueAt n types t dest right)) (expressionIn (v .expressions) (expressionOf (i .op) (i .flags) (valueAt n types t dest left) (valueAt n types t dest right))))
+    unfolding byExpression atomFound
+    expression-none {f} e z a c b =
+        as-becomes (omega arith) (omega arith) (omega arith)
+        (λ dest w l T v y h.
+        let known : none ≡ expressionIn (v .expressions) (expressionOf (i .op) (i .flags) (valueAt n types t dest left) (valueAt n types t dest right))
+        = ap (atomFound n (length types) dest (memoryOf n (length types) t)) (sym z) ∙ known-expression t (i .op) (i .flags) left right a c lowl lowr q e h in
+        (y, rw (sym known)))
+        (b (i .op) (i .flags) left right a c lowl lowr q)
+
+  -- folded, or looked up
+  pub folded-word : (i : Instruction) (p : ℕ) (g : (ℕ → ℕ) → Expression) {f : Folded} {j : Instruction} {w : ℕ} {x : Instruction} {t′ : List ℕ} → f ≡ Word w → j ≡ loadOrStay i w
+      → Becomes n types 0 1 0 t x t′ (λ dest z. Unit {0}) (λ dest S v. storedBy S j v (constantOf (constantKey 0 w)))
+      → Becomes n types 0 1 1 t x t′ (λ dest z. Stands n p i dest) (λ dest S v. byValue S p i v (g dest) (wordOf f))
+  unfolding byValue wordOf constantOf
+  folded-word i p g q s b = as-becomes (omega arith) (omega arith) (omega arith) (λ dest z l T v y h. (tt, rw (q, s))) b
+
+  pub folded-not : (i : Instruction) (p : ℕ) (g : (ℕ → ℕ) → Expression) {f : Folded} {x : Instruction} {t′ : List ℕ} → f ≡ Not
+      → Becomes n types 0 0 1 t x t′ (λ dest z. Stands n p i dest) (λ dest S v. byExpression S p i v (g dest) (expressionIn (v .expressions) (g dest)))
+      → Becomes n types 0 1 1 t x t′ (λ dest z. Stands n p i dest) (λ dest S v. byValue S p i v (g dest) (wordOf f))
+  unfolding byValue wordOf
+  folded-not i p g q b = as-becomes (omega arith) (omega arith) (omega arith) (λ dest z l T v y h. (y, rw q)) b
+
+-- an instruction that becomes LoadInt keeps its destination
+pub load-a : (i : Instruction) (v : ℕ) → loadOrStay i v .a ≡ i .a
+unfolding loadOrStay
+load-a i v = go (fitsImm32 v)
+  where
+    go : (t : Bool) → cond t (withImm32 (plain 1 (i .a) 0 0) (v % 2 ^ 32)) i .a ≡ i .a
+    go true = refl
+    go false = refl
+
+-- ---- folding looks at known integers alone
+
+word-answered : (o : Option ℕ) → wordOf (answered o) ≡ o
+unfolding wordOf answered
+word-answered (some v) = refl
+word-answered none = refl
+
+unfoldable foldOne : ℕ → ℕ → Option ℕ → Option ℕ
+foldOne op flags (some x) = cond (isIn op foldingUnary) (some (foldWord op flags x 0)) none
+foldOne op flags none = none
+
+unfoldable foldTwo : ℕ → ℕ → Option ℕ → Option ℕ → Option ℕ
+foldTwo op flags (some x) (some y) = cond (isIn op foldingBinary) (some (foldWord op flags x y)) none
+foldTwo op flags (some x) none = none
+foldTwo op flags none y = none
+
+fold-one : (e : Expression) (v : Atom) → foldUnary e v ≡ foldOne (e .opcode) (e .flags) (integerOf v)
+unfolding foldUnary foldOne integerOf
+fold-one e (Integer x) = refl
+fold-one e (Float x) = refl
+fold-one e (Definition p s) = refl
+
+fold-two : (e : Expression) (v w : Atom) → foldBinary e v w ≡ foldTwo (e .opcode) (e .flags) (integerOf v) (integerOf w)
+unfolding foldBinary foldTwo integerOf
+fold-two e (Integer x) (Integer y) = refl
+fold-two e (Integer x) (Float y) = refl
+fold-two e (Integer x) (Definition q t) = refl
+fold-two e (Float x) w = refl
+fold-two e (Definition p s) w = refl
+
+module _ (n S : ℕ) (c : List ℕ) (op flags left right : ℕ) where
+  pub fold-binary-numbers : {b : Bool} (x y : Atom) {r : Folded} → b ≡ true → integerOf x ≡ integerAt n S c left → integerOf y ≡ integerAt n S c right
+      → r ≡ answered (foldBinary (expressionOf op flags x y) x y)
+      → (dest : ℕ → ℕ) → wordOf r ≡ foldBy b (expressionOf op flags (atomAt n S dest c left) (atomAt n S dest c right))
+  unfolding foldBy
+  fold-binary-numbers x y e p q z dest =
+      let lefts : integerOf x ≡ integerOf (atomAt n S dest c left) = p ∙ integer-at n S dest c left in
+      let rights : integerOf y ≡ integerOf (atomAt n S dest c right) = q ∙ integer-at n S dest c right in
+      rw e
+      (ap wordOf z
+      ∙ word-answered (foldBinary (expressionOf op flags x y) x y)
+      ∙ fold-two (expressionOf op flags x y) x y
+      ∙ ap (λ (o : Option ℕ). foldTwo op flags o (integerOf y)) lefts
+      ∙ ap (foldTwo op flags (integerOf (atomAt n S dest c left))) rights
+      ∙ sym (fold-two (expressionOf op flags (atomAt n S dest c left) (atomAt n S dest c right)) (atomAt n S dest c left) (atomAt n S dest c right)))
+
+  pub fold-unary-number : {b : Bool} (x : Atom) {r : Folded} → b ≡ false → integerOf x ≡ integerAt n S c left → ((y : Atom) → r ≡ answered (foldUnary (expressionOf op flags x y) x))
+      → (dest : ℕ → ℕ) → wordOf r ≡ foldBy b (expressionOf op flags (atomAt n S dest c left) (atomAt n S dest c right))
+  unfolding foldBy
+  fold-unary-number x e p z dest =
+      let lefts : integerOf x ≡ integerOf (atomAt n S dest c left) = p ∙ integer-at n S dest c left in
+      rw e
+      (ap wordOf (z (Integer 0))
+      ∙ word-answered (foldUnary (expressionOf op flags x (Integer 0)) x)
+      ∙ fold-one (expressionOf op flags x (Integer 0)) x
+      ∙ ap (foldOne op flags) lefts
+      ∙ sym (fold-one (expressionOf op flags (atomAt n S dest c left) (atomAt n S dest c right)) (atomAt n S dest c left)))
+
+-- other operands, the same destination
+other-operands : {n p : ℕ} {i : Instruction} {dest : ℕ → ℕ} (b c : ℕ) → Stands n p i dest → Stands n p (setBC i b c) dest
+other-operands b c y = record { op = y .op; flags = y .flags; a = y .a; place = y .place; own = y .own }
+
+-- a known integer, or none
+is-integer : (w : Atom) (x : ℕ) → integerOf w ≡ some x → w ≡ Integer x
+unfolding integerOf
+is-integer (Integer y) x e = cc
+is-integer (Float y) x e = let z : _≡_ {A = ℕ} 0 1 = cc in absurd (omega arith)
+is-integer (Definition p s) x e = let z : _≡_ {A = ℕ} 0 1 = cc in absurd (omega arith)
+
+-- what the `else` of a `let Atom::Integer(x) = ..` knows is the tag alone
+no-integer : (w : Atom) → OneOf (1 ∷ 2 ∷ []) (variantOf the-type w) → integerOf w ≡ none
+unfolding integerOf
+no-integer (Integer x) k = absurd (miss (1 ∷ 2 ∷ []) 0 tt k)
+no-integer (Float x) k = refl
+no-integer (Definition p s) k = refl
+
+not-integer : (S : Sections) (f : ℕ → Bool) (i : Instruction) (v : Values) (w : Atom) → integerOf w ≡ none → undecidedBy S i v ≡ numberJump S f i v w
+unfolding undecidedBy numberJump integerOf
+not-integer S f i v (Integer x) e = let z : _≡_ {A = ℕ} 0 1 = cc in absurd (omega arith)
+not-integer S f i v (Float x) e = refl
+not-integer S f i v (Definition p s) e = refl
+
+known-integer : (n : ℕ) (types t : List ℕ) (dest : ℕ → ℕ) (v : Values) → Knows n types t dest v → (s d : ℕ) (w : Atom) → s < length types → d ≡ numberAt (memoryOf n (length types) t) s
+    → integerOf w ≡ integerAt n (length types) (memoryOf n (length types) t .constantTable) d → integerOf (valueOf v s) ≡ integerOf w
+known-integer n types t dest v h s d w low e q =
+    ap integerOf (sym (h .slots s low) ∙ ap (valueAt n types t dest) (sym e)) ∙ sym (integer-at n (length types) dest (memoryOf n (length types) t .constantTable) d) ∙ sym q
+
+pub return-other : (types : List ℕ) (i : Instruction) (z : List ℕ) (l : ℕ) (T : Tables) (v : Values) → (eqb (i .b) 1 && scalarIn types (i .a)) ≡ false
+    → numberBy (sectionsOf types z l T) Return 0 i v ≡ clearedBy (sectionsOf types z l T) i
+unfolding numberBy
+return-other types i z l T v e = rw e
+
+-- no store to a scalar
+pub other-cleared : (types : List ℕ) (i : Instruction) (p : ℕ) (k : Class) {s : Bool} → s ≡ scalarIn types (i .a) → s ≡ false → (z : List ℕ) (l : ℕ) (T : Tables) (v : Values)
+    → otherBy (sectionsOf types z l T) k p i v ≡ clearedBy (sectionsOf types z l T) i
+unfolding otherBy
+other-cleared types i p k e q z l T v =
+    let known : scalarIn types (i .a) ≡ false = sym e ∙ q in
+    rw known
+
+-- no constant is known
+pub constant-unknown : (types : List ℕ) (i : Instruction) {f : Loaded} {o : Option Atom} → atomOf f ≡ o → f ≡ Unknown → (z : List ℕ) (l : ℕ) (T : Tables) (v : Values)
+    → numberConstant (sectionsOf types z l T) i v o ≡ clearedBy (sectionsOf types z l T) i
+unfolding numberConstant atomOf
+constant-unknown types i {f} {o} e q z l T v =
+    let known : o ≡ none = sym e ∙ ap atomOf q in
+    rw known
+
+-- the kind of a constant that is known
+pub kind-known : {f : Loaded} {kind bits : ℕ} → KindOf f → f ≡ Value kind bits → kind ≤ 1
+unfolding KindOf
+kind-known h e = rw e at h
+
+-- the second operand of a binary opcode; a unary one has none
+module _ {n S : ℕ} (types : List ℕ) {t : List ℕ} where
+  pub second-chosen : {s d slot : ℕ} {b : Bool} {t₁ : List ℕ} → b ≡ true → Represents n S types t s d slot t₁ → Second n S types t s d b slot t₁
+  unfolding secondOf
+  second-chosen e d = rw e (record { kept = d .kept; same = d .same; low = λ z. d .low; number = λ z. d .number; holds = d .holds })
+
+  pub second-none : {s d : ℕ} {b : Bool} → Ready n S t → b ≡ false → Second n S types t s d b s t
+  unfolding secondOf
+  second-none g e =
+      rw e (record {
+        kept = kept-same g;
+        same = same-self g;
+        low = λ z. let f : _≡_ {A = ℕ} 0 1 = cc in absurd (omega arith);
+        number = λ z. let f : _≡_ {A = ℕ} 0 1 = cc in absurd (omega arith);
+        holds = λ dest v h. (refl, h);
+      })
+
+  -- its value
+  second-value : {s d slot : ℕ} (b : Bool) {t₁ : List ℕ} {dest : ℕ → ℕ} {v : Values} → d ≡ secondNumber n S (memoryOf n S t) s b → Second n S types t s d b slot t₁ → Holds n S dest v (memoryOf n S t₁)
+      → atomIn n S dest (memoryOf n S t₁) d ≡ cond b (valueOf v slot) (Integer 0)
+  unfolding secondNumber
+  second-value {s} {d} {slot} true e w h = same-value (w .same) slot d (w .low refl) (w .number refl) h
+  second-value {s} {d} {slot} false {t₁} {dest} e w h = ap (atomIn n S dest (memoryOf n S t₁)) e ∙ atom-zero n S dest (memoryOf n S t₁ .constantTable)
+
+module _ {n : ℕ} {types : List ℕ} {t : List ℕ} where
+  pub operator-becomes : (i : Instruction) (p : ℕ) (b : Bool) {left right slot slot₂ : ℕ} {t₁ t₂ : List ℕ} (f : Folded) {x : Instruction} {t′ : List ℕ}
+      → Represents n (length types) types t (i .b) left slot t₁ → right ≡ secondNumber n (length types) (memoryOf n (length types) t₁) (i .c) b
+      → Second n (length types) types t₁ (i .c) right b slot₂ t₂
+      → ((dest : ℕ → ℕ) → wordOf f ≡ foldBy b (expressionOf (i .op) (i .flags) (valueAt n types t₂ dest left) (valueAt n types t₂ dest right)))
+      → Becomes n types 0 1 1 t₂ x t′ (λ dest z. Stands n p (setBC i slot slot₂) dest)
+      (λ dest S v. byValue S p (setBC i slot slot₂) v (expressionOf (i .op) (i .flags) (valueAt n types t₂ dest left) (valueAt n types t₂ dest right)) (wordOf f))
+      → Becomes n types 0 1 1 t x t′ (λ dest z. Stands n p i dest) (λ dest S v. operated S b p i v)
+  unfolding operated combined
+  operator-becomes i p b {left} {right} {slot} {slot₂} {t₁} {t₂} f d e d₂ g w =
+      after (λ dest v. secondOf types (representative types v (i .b) .table) (i .c) b .table) (kept-then (d .kept) (d₂ .kept))
+      (λ dest v h. d₂ .holds dest (representative types v (i .b) .table) (d .holds dest v h .1) .1)
+      (λ dest z l T v y h.
+      let h₁ = d .holds dest v h in
+      let h₂ = d₂ .holds dest (representative types v (i .b) .table) (h₁ .1) in
+      let lefts : valueAt n types t₂ dest left ≡ valueOf (secondOf types (representative types v (i .b) .table) (i .c) b .table) slot
+      = same-value (same-then (d .same) (d₂ .same)) slot left (d .low) (d .number) (h₂ .1) in
+      let rights : valueAt n types t₂ dest right ≡ cond b (valueOf (secondOf types (representative types v (i .b) .table) (i .c) b .table) slot₂) (Integer 0)
+      = second-value types b e d₂ (h₂ .1) in
+      (other-operands slot slot₂ y, rw (g dest, lefts, rights, h₁ .0, h₂ .0)))
+      w
+
+  pub copy-becomes : (i : Instruction) {d slot : ℕ} {t₁ : List ℕ} {x : Instruction} {t′ : List ℕ} → Represents n (length types) types t (i .b) d slot t₁
+      → Becomes n types 0 0 0 t₁ x t′ (λ dest z. Unit {0}) (λ dest S v. storedBy S (setB i slot) v (valueAt n types t₁ dest d))
+      → Becomes n types 0 0 0 t x t′ (λ dest z. Unit {0}) (λ dest S v. numberCopy S i v)
+  unfolding numberCopy
+  copy-becomes i {d} {slot} {t₁} r b =
+      after (λ dest v. representative types v (i .b) .table) (r .kept) (λ dest v h. r .holds dest v h .1)
+      (λ dest z l T v y h.
+      let q = r .holds dest v h in
+      let known : valueAt n types t₁ dest d ≡ valueOf (representative types v (i .b) .table) slot = same-value (r .same) slot d (r .low) (r .number) (q .1) in
+      (tt, rw (known, q .0)))
+      b
+
+  pub constant-becomes : (i : Instruction) {f : Loaded} {o : Option Atom} {kind bits : ℕ} {x : Instruction} {t′ : List ℕ} → atomOf f ≡ o → f ≡ Value kind bits
+      → Becomes n types 0 1 0 t x t′ (λ dest z. Unit {0}) (λ dest S v. storedBy S i v (constantOf (constantKey kind bits)))
+      → Becomes n types 1 1 0 t x t′ (λ dest z. Unit {0}) (λ dest S v. numberConstant S i v o)
+  unfolding numberConstant atomOf
+  constant-becomes i {f} {o} {kind} {bits} e q b =
+      let known : o ≡ some (constantOf (constantKey kind bits)) = sym e ∙ ap atomOf q in
+      as-becomes (omega arith) (omega arith) (omega arith) (λ dest z l T v y h. (tt, rw known)) b
+
+  pub read-becomes : (i : Instruction) {d slot : ℕ} {t₁ : List ℕ} {x : Instruction} → Represents n (length types) types t (i .a) d slot t₁
+      → x ≡ setA i slot → Becomes n types 0 0 0 t x t₁ (λ dest z. Unit {0}) (λ dest S v. numberRead S i v)
+  unfolding numberRead
+  read-becomes i d p =
+      record {
+        kept = d .kept;
+        holds = λ dest z l T v y h.
+            let r = d .holds dest v h in
+            (p ∙ ap (setA i) (r .0), r .1);
+      }
+
+  -- an undecided jump
+  pub undecided-read : (i : Instruction) {s : Bool} {x : Instruction} {t′ : List ℕ} → s ≡ scalarIn types (i .a) → s ≡ true → Becomes n types 0 0 0 t x t′ (λ dest z. Unit {0}) (λ dest S v. numberRead S i v)
+      → Becomes n types 0 0 0 t x t′ (λ dest z. Unit {0}) (λ dest S v. undecidedBy S i v)
+  unfolding undecidedBy
+  undecided-read i e q b =
+      let known : scalarIn types (i .a) ≡ true = sym e ∙ q in
+      as-becomes (omega arith) (omega arith) (omega arith) (λ dest z l T v y h. (y, rw known)) b
+
+  pub undecided-stay : (i : Instruction) {s : Bool} → Ready n (length types) t → s ≡ scalarIn types (i .a) → s ≡ false → Becomes n types 0 0 0 t i t (λ dest z. Unit {0}) (λ dest S v. undecidedBy S i v)
+  unfolding undecidedBy
+  undecided-stay i g e q =
+      let known : scalarIn types (i .a) ≡ false = sym e ∙ q in
+      stay-becomes g (λ dest z l T v h. rw known)
+
+  -- a jump on a slot whose value has the number d
+  module _ (i : Instruction) (f : ℕ → Bool) {d : ℕ} (w : Atom) (low : i .a < length types) (e : d ≡ numberAt (memoryOf n (length types) t) (i .a))
+      (q : integerOf w ≡ integerAt n (length types) (memoryOf n (length types) t .constantTable) d) where
+    pub jump-undecided : {x : Instruction} {t′ : List ℕ} → OneOf (1 ∷ 2 ∷ []) (variantOf the-type w) → Becomes n types 0 0 0 t x t′ (λ dest z. Unit {0}) (λ dest S v. undecidedBy S i v)
+        → Becomes n types 0 0 0 t x t′ (λ dest z. Unit {0}) (λ dest S v. numberJump S f i v (valueOf v (i .a)))
+    jump-undecided k b =
+        as-becomes (omega arith) (omega arith) (omega arith)
+        (λ dest z l T v y h. (y, not-integer (sectionsOf types z l T) f i v (valueOf v (i .a)) (known-integer n types t dest v h (i .a) d w low e q ∙ no-integer w k)))
+        b
+
+    pub jump-decided : {a : ℕ} {b : Bool} {x : Instruction} → Ready n (length types) t → w ≡ Integer a → f a ≡ b → x ≡ cond b (plain 57 0 (i .b) (i .c)) (plain 0 0 0 0)
+        → Becomes n types 0 0 0 t x t (λ dest z. Unit {0}) (λ dest S v. numberJump S f i v (valueOf v (i .a)))
+    unfolding numberJump decided integerOf
+    jump-decided {a} g k s p =
+        stay-becomes g
+        (λ dest z l T v h.
+        let known : valueOf v (i .a) ≡ Integer a = is-integer (valueOf v (i .a)) a (known-integer n types t dest v h (i .a) d w low e q ∙ ap integerOf k) in
+        rw (known, s, p))
+
+  -- a return
+  pub return-read : (i : Instruction) {s : Bool} {x : Instruction} {t′ : List ℕ} → i .b ≡ 1 → s ≡ scalarIn types (i .a) → s ≡ true
+      → Becomes n types 0 0 0 t x t′ (λ dest z. Unit {0}) (λ dest S v. numberRead S i v) → Becomes n types 1 0 0 t x t′ (λ dest z. Unit {0}) (λ dest S v. numberBy S Return 0 i v)
+  unfolding numberBy
+  return-read i r e q b =
+      let known : scalarIn types (i .a) ≡ true = sym e ∙ q in
+      as-becomes (omega arith) (omega arith) (omega arith) (λ dest z l T v y h. (y, rw (eq-eqb (i .b) 1 r, known))) b
+
+  -- a store to a scalar, or none
+  pub other-pure : (i : Instruction) (p : ℕ) (k : Class) {s : Bool} {x : Instruction} {t′ : List ℕ} {Good : (ℕ → ℕ) → List ℕ → Type 0} → s ≡ scalarIn types (i .a) → s ≡ true
+      → Becomes n types 1 1 1 t x t′ Good (λ dest S v. pureBy S k p i v) → Becomes n types 1 1 1 t x t′ Good (λ dest S v. otherBy S k p i v)
+  unfolding otherBy
+  other-pure i p k e q b =
+      let known : scalarIn types (i .a) ≡ true = sym e ∙ q in
+      as-becomes (omega arith) (omega arith) (omega arith) (λ dest z l T v y h. (y, rw known)) b
+
+  -- by class
+  pub pure-by : (i : Instruction) (p : ℕ) {k j : Class} {x : Instruction} {t′ : List ℕ} {Good Good′ : (ℕ → ℕ) → List ℕ → Type 0} (f : (ℕ → ℕ) → Sections → Values → Numbered) → k ≡ j
+      → ((dest : ℕ → ℕ) (z : List ℕ) (l : ℕ) (T : Tables) (v : Values) → Good′ dest z → Good dest z × (f dest (sectionsOf types z l T) v ≡ pureBy (sectionsOf types z l T) j p i v))
+      → {a b d : ℕ} → a ≤ 1 → b ≤ 1 → d ≤ 1 → Becomes n types a b d t x t′ Good f → Becomes n types 1 1 1 t x t′ Good′ (λ dest S v. pureBy S k p i v)
+  pure-by i p f e g u w z b = as-becomes u w z (λ dest c l T v y h. let q = g dest c l T v y in (q .0, rw e (q .1))) b
+
+-- a class by its number
+tag-number : (k : Class) → variantOf class-type k ≡ numberOf k
+unfolding numberOf
+tag-number Hint = refl
+tag-number LoadInt = refl
+tag-number LoadConst = refl
+tag-number Copy = refl
+tag-number CopyN = refl
+tag-number Unary = refl
+tag-number Binary = refl
+tag-number Jump = refl
+tag-number JumpIf = refl
+tag-number JumpIfNot = refl
+tag-number ForLoop = refl
+tag-number Return = refl
+tag-number Panic = refl
+tag-number Outside = refl
+tag-number Invalid = refl
+
+by-number : (k : Class) (j : ℕ) → variantOf class-type k ≡ j → k ≡ namedClass j
+by-number k j e = sym (named-number k) ∙ ap namedClass (sym (tag-number k) ∙ e)
+
+pub not-number : (k : Class) (ks : List ℕ) (j : ℕ) → (OneOf ks j → ⊥) → OneOf ks (variantOf class-type k) → eqb (numberOf k) j ≡ false
+not-number k ks j h o = ne-eqb (numberOf k) j (λ e. h (rw (tag-number k ∙ e) at o))
+
+operator-class : (k : Class) → operatorClass k ≡ true → (k ≡ Unary) ⊎ (k ≡ Binary)
+unfolding numberOf
+operator-class Hint e = let w : _≡_ {A = ℕ} 0 1 = cc in absurd (omega arith)
+operator-class LoadInt e = let w : _≡_ {A = ℕ} 0 1 = cc in absurd (omega arith)
+operator-class LoadConst e = let w : _≡_ {A = ℕ} 0 1 = cc in absurd (omega arith)
+operator-class Copy e = let w : _≡_ {A = ℕ} 0 1 = cc in absurd (omega arith)
+operator-class CopyN e = let w : _≡_ {A = ℕ} 0 1 = cc in absurd (omega arith)
+operator-class Unary e = inl refl
+operator-class Binary e = inr refl
+operator-class Jump e = let w : _≡_ {A = ℕ} 0 1 = cc in absurd (omega arith)
+operator-class JumpIf e = let w : _≡_ {A = ℕ} 0 1 = cc in absurd (omega arith)
+operator-class JumpIfNot e = let w : _≡_ {A = ℕ} 0 1 = cc in absurd (omega arith)
+operator-class ForLoop e = let w : _≡_ {A = ℕ} 0 1 = cc in absurd (omega arith)
+operator-class Return e = let w : _≡_ {A = ℕ} 0 1 = cc in absurd (omega arith)
+operator-class Panic e = let w : _≡_ {A = ℕ} 0 1 = cc in absurd (omega arith)
+operator-class Outside e = let w : _≡_ {A = ℕ} 0 1 = cc in absurd (omega arith)
+operator-class Invalid e = let w : _≡_ {A = ℕ} 0 1 = cc in absurd (omega arith)
+
+pub operator-yes : (k : Class) → OneOf (5 ∷ 6 ∷ []) (variantOf class-type k) → operatorClass k ≡ true
+unfolding numberOf namedClass
+operator-yes k o = ⊎-elim (λ e. rw (by-number k 5 e)) (λ e. rw (by-number k 6 e)) o
+
+jump-class : (k : Class) → OneOf (8 ∷ 9 ∷ []) (variantOf class-type k) → (k ≡ JumpIf) ⊎ (k ≡ JumpIfNot)
+unfolding namedClass
+jump-class k o = ⊎-elim (λ e. inl (by-number k 8 e)) (λ e. inr (by-number k 9 e)) o
+
+-- an opcode of one operand or of two
+pub operator-named : (k : Class) (s : ℕ) (i : Instruction) → operatorClass k ≡ true → Named k s i → (i .b < s) × (binaryClass k ≡ true → i .c < s) × (i .a < s)
+unfolding Named numberOf
+operator-named k s i o h =
+    ⊎-elim
+    (λ e. let g : Named Unary s i = rw e at h in rw e (g .0, (λ z. let f : _≡_ {A = ℕ} 0 1 = cc in absurd (omega arith)), g .1))
+    (λ e. let g : Named Binary s i = rw e at h in rw e (g .0, (λ z. g .1), g .2))
+    (operator-class k o)
+
+pub operator-pure : (S : Sections) (k : Class) (p : ℕ) (i : Instruction) (v : Values) → operatorClass k ≡ true → operated S (binaryClass k) p i v ≡ pureBy S k p i v
+unfolding pureBy numberOf operated combined secondOf foldBy numberUnary numberBinary
+operator-pure S k p i v o = ⊎-elim (λ e. rw e) (λ e. rw e) (operator-class k o)
+
+-- a jump on a word that is 0, or on one that is not
+pub jump-named : (k : Class) (s : ℕ) (i : Instruction) → OneOf (8 ∷ 9 ∷ []) (variantOf class-type k) → Named k s i → i .a < s
+unfolding Named
+jump-named k s i o h = ⊎-elim (λ e. rw e at h) (λ e. rw e at h) (jump-class k o)
+
+pub jump-by : (S : Sections) (k : Class) (p : ℕ) (i : Instruction) (v : Values) → OneOf (8 ∷ 9 ∷ []) (variantOf class-type k)
+    → numberJump S (takes (onZero k)) i v (valueOf v (i .a)) ≡ numberBy S k p i v
+unfolding numberBy numberOf takes
+jump-by S k p i v o = ⊎-elim (λ e. rw e) (λ e. rw e) (jump-class k o)
+
+-- the other classes
+pub pure-none : (S : Sections) (k : Class) (p : ℕ) (i : Instruction) (v : Values) → OneOf (0 ∷ 4 ∷ 5 ∷ 6 ∷ 7 ∷ 8 ∷ 9 ∷ 10 ∷ 11 ∷ 12 ∷ 13 ∷ 14 ∷ []) (variantOf class-type k) → operatorClass k ≡ false → pureBy S k p i v ≡ clearedBy S i
+unfolding pureBy numberOf
+pure-none S Hint p i v o e = refl
+pure-none S LoadInt p i v o e = absurd (miss (0 ∷ 4 ∷ 5 ∷ 6 ∷ 7 ∷ 8 ∷ 9 ∷ 10 ∷ 11 ∷ 12 ∷ 13 ∷ 14 ∷ []) 1 tt o)
+pure-none S LoadConst p i v o e = absurd (miss (0 ∷ 4 ∷ 5 ∷ 6 ∷ 7 ∷ 8 ∷ 9 ∷ 10 ∷ 11 ∷ 12 ∷ 13 ∷ 14 ∷ []) 2 tt o)
+pure-none S Copy p i v o e = absurd (miss (0 ∷ 4 ∷ 5 ∷ 6 ∷ 7 ∷ 8 ∷ 9 ∷ 10 ∷ 11 ∷ 12 ∷ 13 ∷ 14 ∷ []) 3 tt o)
+pure-none S CopyN p i v o e = refl
+pure-none S Unary p i v o e = let w : _≡_ {A = ℕ} 0 1 = cc in absurd (omega arith)
+pure-none S Binary p i v o e = let w : _≡_ {A = ℕ} 0 1 = cc in absurd (omega arith)
+pure-none S Jump p i v o e = refl
+pure-none S JumpIf p i v o e = refl
+pure-none S JumpIfNot p i v o e = refl
+pure-none S ForLoop p i v o e = refl
+pure-none S Return p i v o e = refl
+pure-none S Panic p i v o e = refl
+pure-none S Outside p i v o e = refl
+pure-none S Invalid p i v o e = refl
+
+pub number-other : (S : Sections) (k : Class) (p : ℕ) (i : Instruction) (v : Values) → OneOf (0 ∷ 1 ∷ 2 ∷ 3 ∷ 4 ∷ 5 ∷ 6 ∷ 7 ∷ 10 ∷ 12 ∷ 13 ∷ 14 ∷ []) (variantOf class-type k)
+    → numberBy S k p i v ≡ otherBy S k p i v
+number-other S k p i v o =
+    by-other S k
+    (λ e. miss (0 ∷ 1 ∷ 2 ∷ 3 ∷ 4 ∷ 5 ∷ 6 ∷ 7 ∷ 10 ∷ 12 ∷ 13 ∷ 14 ∷ []) 8 tt (rw e at o))
+    (λ e. miss (0 ∷ 1 ∷ 2 ∷ 3 ∷ 4 ∷ 5 ∷ 6 ∷ 7 ∷ 10 ∷ 12 ∷ 13 ∷ 14 ∷ []) 9 tt (rw e at o))
+    (λ e. miss (0 ∷ 1 ∷ 2 ∷ 3 ∷ 4 ∷ 5 ∷ 6 ∷ 7 ∷ 10 ∷ 12 ∷ 13 ∷ 14 ∷ []) 11 tt (rw e at o))
+    p i v

@@ -1,0 +1,29 @@
+use Rattle.numbering.proofs.Walking.{found-low, expression-found, expression-none}
+use borrow.Author.Needs.{needs}
+use Rattle.numbering.proofs.walk.by_expression.Statement.{statement}
+use Rattle.numbering.proofs.walk.by_expression.Tie as tie
+
+copy-or-stay-requires : tie.Need-copy-or-stay-requires
+copy-or-stay-requires c κs = (c .before .before .before .before .before .before .before .before .before .before .pre .0 .ready, c .before .before .before .before .before .before .before .before .before .before .pre .1, found-low (c .before .before .before .before .before .before .before .before .before .before .pre .0 .ready) _ _ (c .before .before .before .before .find-expression .ensures) (c .before .before .d .given .1))
+
+returns : tie.Need-returns
+returns c = expression-found (c .before .before .before .before .before .before .before .before .before .before .before .before .before .args .i) (c .before .before .before .before .before .before .before .before .before .before .before .before .before .args .p) (c .before .before .before .before .before .before .before .before .before .before .before .before .before .args .left) (c .before .before .before .before .before .before .before .before .before .before .before .before .before .args .right) (c .before .before .before .before .before .before .before .before .before .before .before .before .before .pre .3) (c .before .before .before .before .before .before .before .before .before .before .before .before .before .pre .4) (c .before .before .before .before .before .before .before .before .before .before .expression-word .ensures .2) _ (c .before .before .before .before .before .before .before .find-expression .ensures) (c .before .before .before .before .before .d .given .1) (c .before .before .copy-or-stay .ensures)
+
+returns-2 : tie.Need-returns-2
+returns-2 c = expression-none (c .before .before .before .before .before .before .before .before .before .before .before .before .args .i) (c .before .before .before .before .before .before .before .before .before .before .before .before .args .p) (c .before .before .before .before .before .before .before .before .before .before .before .before .args .left) (c .before .before .before .before .before .before .before .before .before .before .before .before .args .right) (c .before .before .before .before .before .before .before .before .before .before .before .before .pre .3) (c .before .before .before .before .before .before .before .before .before .before .before .before .pre .4) (c .before .before .before .before .before .before .before .before .before .expression-word .ensures .2) (c .before .before .before .before .before .before .find-expression .ensures) (c .before .before .before .before .enum-told .given .1) (c .before .before .before .before .before .before .before .before .before .expression-word .ensures .0) (c .before .before .before .before .before .before .before .before .before .expression-word .ensures .1) (c .before .before .define .ensures)
+
+pub by-expression-spec : {M : Type 1} → statement M
+by-expression-spec =
+    tie.close
+    (tie.spec
+    (λ c κs. search needs)
+    (λ c κs. search needs)
+    (λ c κs. search needs)
+    (λ c. search needs)
+    copy-or-stay-requires
+    (λ c. search needs)
+    (λ c κs. search needs)
+    (λ c. search needs)
+    returns
+    (λ c. search needs)
+    returns-2)
