@@ -13,7 +13,7 @@ pub mod Memory
 pub mod Rounding
 pub mod Solving
 pub mod Unread
-pub mod Plain
+pub mod Single
 pub mod Sweeping
 pub mod Sweep
 pub mod Droppable

@@ -94,7 +94,7 @@ has-more start k t = go (leb start t) refl (ltb t (start + (k + 1))) refl (ltb t
     go true p false q false r false s = refl
     go true p false q false r true s = absurd (omega (arith, ltb-false t (start + (k + 1)) q, eqb-true t (start + k) s))
 
-pub has-one : (start t : ℕ) → rangeHas t (range start 1) ≡ eqb t start
+has-one : (start t : ℕ) → rangeHas t (range start 1) ≡ eqb t start
 has-one start t =
     let z : start + 0 ≡ start = omega arith in
     has-more start 0 t ∙ rw (has-none start t, z)

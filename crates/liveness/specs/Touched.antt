@@ -138,14 +138,14 @@ writes-one Panic i = omega arith
 writes-one Outside i = omega arith
 writes-one Invalid i = omega arith
 
-pub touches-two : (l : List Range) → length l ≤ 2 → (t : ℕ) → touches l t ≡ (rangeHas t (getD l 0 emptyRange) || rangeHas t (getD l 1 emptyRange))
+touches-two : (l : List Range) → length l ≤ 2 → (t : ℕ) → touches l t ≡ (rangeHas t (getD l 0 emptyRange) || rangeHas t (getD l 1 emptyRange))
 unfolding anyOf
 touches-two [] h t = rw (has-none 0 t)
 touches-two (r ∷ []) h t = rw (has-none 0 t)
 touches-two (r ∷ s ∷ []) h t = rw (or-false (rangeHas t s))
 touches-two (r ∷ s ∷ u ∷ l) h t = absurd (omega arith)
 
-pub touches-one : (l : List Range) → length l ≤ 1 → (t : ℕ) → touches l t ≡ rangeHas t (getD l 0 emptyRange)
+touches-one : (l : List Range) → length l ≤ 1 → (t : ℕ) → touches l t ≡ rangeHas t (getD l 0 emptyRange)
 unfolding anyOf
 touches-one [] h t = rw (has-none 0 t)
 touches-one (r ∷ []) h t = rw (or-false (rangeHas t r))

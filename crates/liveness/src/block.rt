@@ -15,11 +15,10 @@ ghost use Rattle.liveness.specs.Visit.{Rising, Summed};
 use crate::Layout;
 use crate::row;
 use crate::touch;
-use effects::plain;
-use effects::table;
 use instruction::Instruction;
+use instruction::opcode;
 
-// A place more, before those that the two sets of w words are of. Most instructions are plain, and their opcode's row tells all.
+// A place more, before those that the two sets of w words are of. Most instructions name single slots, and their word tells all.
 fn summarize_place(
     memory: &mut [u64],
     uses: usize,
@@ -39,11 +38,10 @@ fn summarize_place(
         return;
     }
     let word = memory[p];
-    let op = (word % 256) as u8;
-    let r = table::row(op);
-    if plain::is_plain(op, r) {
-        touch::take_plain_write(&mut memory[preserved..preserved + w], word, r);
-        touch::plain_before(&mut memory[uses..uses + w], word, r);
+    let c = opcode::class_of((word % 256) as u8);
+    if touch::is_single(c) {
+        touch::take_single_write(&mut memory[preserved..preserved + w], word);
+        touch::single_before(&mut memory[uses..uses + w], word, c);
         return;
     }
     let i = Instruction::from_word(word);

@@ -3,19 +3,17 @@ ghost use mathlib.Core.Path.{_≡_};
 ghost use mathlib.Core.Bool.{true};
 ghost use Prim.Native.Nat.{_*_, _%_, _<_};
 ghost use lib.ListN.{length, getD};
-ghost use Rattle.instruction.specs.Class.{isPure};
+ghost use Rattle.instruction.specs.Class.{classOf, isPure};
 ghost use Rattle.instruction.specs.Instruction.{ofWord, class};
-ghost use Rattle.effects.specs.Effects.{rangeWithin};
-ghost use Rattle.effects.specs.Form.{emptyRange, rowOf};
-ghost use Rattle.effects.specs.Plain.{isPlain};
+ghost use Rattle.effects.specs.Form.{emptyRange};
 ghost use Rattle.effects.specs.Sound.{writesByClass};
 ghost use Rattle.liveness.specs.Sets.{range};
 ghost use Rattle.liveness.specs.Unread.{freeSlot, freeRange, deadBy, Spans};
+ghost use Rattle.liveness.specs.Single.{isSingle};
 use crate::touch;
 use effects::Range;
 use instruction::Class;
 use instruction::Instruction;
-use instruction::opcode;
 use words::bits;
 
 fn is_pure(c: Class) -> bool
@@ -79,13 +77,10 @@ pub fn is_dead(types: &[u8], row: &[u64], i: Instruction) -> bool
     is_range_free(types, row, touch::write(c, i))
 }
 
-// The same of a plain instruction, by its word. It writes one slot at most.
-pub fn is_plain_dead(types: &[u8], row: &[u64], w: u64) -> bool
-    requires { ⌜ (isPlain (w % 256) (rowOf (w % 256)) ≡ true) × Spans (now types) (now row) (getD (writesByClass (class (ofWord w)) (ofWord w)) 0 emptyRange) ⌝ }
+// The same, of the word of a load, a copy or an operator: it writes one slot.
+pub fn is_single_dead(types: &[u8], row: &[u64], w: u64) -> bool
+    requires { ⌜ (isSingle (classOf (w % 256)) ≡ true) × Spans (now types) (now row) (getD (writesByClass (class (ofWord w)) (ofWord w)) 0 emptyRange) ⌝ }
     ensures { λ r. ⌜ r ≡ deadBy (now (types .entry)) (now (row .entry)) (ofWord w) ⌝ }
 {
-    if !is_pure(opcode::class_of((w % 256) as u8)) {
-        return false;
-    }
     is_free(types, row, touch::field(w, 0))
 }

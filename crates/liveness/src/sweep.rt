@@ -23,9 +23,8 @@ use crate::Layout;
 use crate::dead;
 use crate::out;
 use crate::touch;
-use effects::plain;
-use effects::table;
 use instruction::Instruction;
+use instruction::opcode;
 
 // Is p the last place of its block?
 fn is_last(leaders: &[u32], p: usize) -> bool
@@ -69,14 +68,13 @@ fn sweep_place(
     let start = sets.row;
     let end = start + sets.width;
     let word = memory[p];
-    let op = (word % 256) as u8;
-    let r = table::row(op);
-    if plain::is_plain(op, r) {
-        if dead::is_plain_dead(types, &memory[start..end], word) {
+    let c = opcode::class_of((word % 256) as u8);
+    if touch::is_single(c) {
+        if dead::is_single_dead(types, &memory[start..end], word) {
             keep[p] = 0;
             return;
         }
-        touch::plain_before(&mut memory[start..end], word, r);
+        touch::single_before(&mut memory[start..end], word, c);
         return;
     }
     let i = Instruction::from_word(word);

@@ -3,7 +3,7 @@ ghost use mathlib.Core.Path.{_≡_};
 ghost use mathlib.Core.Bool.{true, false};
 ghost use Prim.Native.Nat.{_+_, _*_, _≤_, _<_};
 ghost use lib.ListN.{length, getD};
-ghost use Rattle.instruction.specs.Instruction.{ofWord};
+ghost use Rattle.instruction.specs.Instruction.{ofWord, class};
 ghost use Rattle.unit.specs.declared.Metadata.{Metadata};
 ghost use Rattle.unit.specs.Entry.{metadataAt};
 ghost use Rattle.unit.specs.Size.{metadataSize};
@@ -15,7 +15,7 @@ ghost use Rattle.effects.specs.Ranges.{CasesInside};
 ghost use Rattle.effects.specs.Sound.{isOutside, readsByClass, writesByClass};
 ghost use Rattle.liveness.specs.Sets.{Put};
 ghost use Rattle.liveness.specs.Touched.{Within, reading, writing, Fits, Before};
-ghost use Rattle.liveness.specs.Plain.{PlainFits};
+ghost use Rattle.liveness.specs.Single.{isSingle, readsFirst, readsSecond, SingleFits};
 use crate::row;
 use effects::Range;
 use effects::ranges;
@@ -178,22 +178,52 @@ pub fn field(w: u64, form: u64) -> usize
     ((w >> (16 + 16 * form)) % 65536) as usize
 }
 
-// Takes out what a plain instruction writes, of its word and its opcode's row.
-pub fn take_plain_write(row: &mut [u64], w: u64, r: u64)
-    requires { ⌜ PlainFits (length (now row)) w r ⌝ }
-    ensures { λ _. ⌜ ((T : Tables) (m : Metadata) → Put false (writing T (record { instruction = ofWord w; metadata = m })) (now (row .entry)) (now (row .exit))) ⌝ }
+// A load, a copy or an operator? It writes slot a, and of single slots it reads b and c at most.
+pub fn is_single(c: Class) -> bool
+    ensures { λ r. ⌜ r ≡ isSingle c ⌝ }
 {
-    row::put_if(row, field(w, 0), r / 16 % 16 > 0, false);
+    match c {
+        Class::LoadInt | Class::LoadConst | Class::Copy | Class::Unary | Class::Binary => true,
+        _ => false,
+    }
 }
 
-// What is live before a plain instruction, of what is live after it.
-pub fn plain_before(row: &mut [u64], w: u64, r: u64)
-    requires { ⌜ PlainFits (length (now row)) w r ⌝ }
+// Of these, does it read b?
+fn reads_first(c: Class) -> bool
+    ensures { λ r. ⌜ r ≡ readsFirst c ⌝ }
+{
+    match c {
+        Class::Copy | Class::Unary | Class::Binary => true,
+        _ => false,
+    }
+}
+
+// And c?
+fn reads_second(c: Class) -> bool
+    ensures { λ r. ⌜ r ≡ readsSecond c ⌝ }
+{
+    match c {
+        Class::Binary => true,
+        _ => false,
+    }
+}
+
+// Takes out the slot that it writes.
+pub fn take_single_write(row: &mut [u64], w: u64)
+    requires { ⌜ SingleFits (length (now row)) w ⌝ }
+    ensures { λ _. ⌜ ((T : Tables) (m : Metadata) → Put false (writing T (record { instruction = ofWord w; metadata = m })) (now (row .entry)) (now (row .exit))) ⌝ }
+{
+    row::put(row, field(w, 0), false);
+}
+
+// What is live before it, of what is live after it.
+pub fn single_before(row: &mut [u64], w: u64, c: Class)
+    requires { ⌜ SingleFits (length (now row)) w × (c ≡ class (ofWord w)) ⌝ }
     ensures { λ _. ⌜ ((T : Tables) (m : Metadata) → Before T (record { instruction = ofWord w; metadata = m }) (now (row .entry)) (now (row .exit))) ⌝ }
 {
-    take_plain_write(row, w, r);
-    row::put_if(row, field(w, r / 256 % 256), r % 16 > 0, true);
-    row::put_if(row, field(w, r / 65536), r % 16 > 1, true);
+    take_single_write(row, w);
+    row::put_if(row, field(w, 1), reads_first(c), true);
+    row::put_if(row, field(w, 2), reads_second(c), true);
 }
 
 // What is live before the instruction at place p, of what is live after it.

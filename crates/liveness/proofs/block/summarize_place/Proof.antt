@@ -1,10 +1,12 @@
 use mathlib.Core.Path.{refl, sym, _∙_}
+use Prim.Native.Nat.{ℕ}
 use lib.ListN.{getD}
 use borrow.Author.Tests.{eq-eqb, ne-eqb}
+use Rattle.instruction.specs.Instruction.{ofWord}
 use Rattle.effects.specs.Shape.{Tables, Cell, tablesOf}
 use Rattle.effects.specs.Cells.{cellOf}
 use Rattle.words.specs.Only.{only-none, lent-long, second-long}
-use Rattle.liveness.specs.Plain.{PlainFits, plain-fits}
+use Rattle.liveness.specs.Single.{SingleFits, single-fits}
 use Rattle.liveness.specs.Through.{not-placed, lent-placed}
 use borrow.Author.Needs.{needs}
 use Rattle.liveness.proofs.block.summarize_place.Statement.{statement}
@@ -16,28 +18,33 @@ returns c = (not-placed _ _ _ _ _ (ne-eqb _ _ (c .if1 .taken)), only-none _ _)
 abbrev tables : tie.Start → Tables
 tables s = tablesOf (s .args .functions .now) (s .args .externs .now) (s .args .cases .now)
 
-abbrev cell : tie.Start → Cell
-cell s = cellOf (s .args .metadata .now) (s .args .p) (getD (s .args .memory .now) (s .args .p) 0)
+abbrev word : tie.Start → ℕ
+word s = getD (s .args .memory .now) (s .args .p) 0
 
--- a plain instruction's slots are in the sets
-fits : (c : tie.Then2) → PlainFits (c .before .before .before .before .before .before .before .before .before .before .before .before .args .w) (getD (c .before .before .before .before .before .before .before .before .before .before .before .before .args .memory .now) (c .before .before .before .before .before .before .before .before .before .before .before .before .args .p) 0) (c .before .before .row .result)
+abbrev cell : tie.Start → Cell
+cell s = cellOf (s .args .metadata .now) (s .args .p) (word s)
+
+-- such an instruction's slots are in the sets
+fits : (c : tie.Then2) → SingleFits (c .before .before .before .before .before .before .before .before .before .before .before .before .args .w) (word (c .before .before .before .before .before .before .before .before .before .before .before .before))
+unfolding ofWord
 fits c =
     let s = c .before .before .before .before .before .before .before .before .before .before .before .before in
-    plain-fits _ _ _ (tables s) (cell s .metadata) (s .pre .6) (c .before .before .row .ensures) (sym (c .before .is-plain .ensures) ∙ c .if2 .taken) (s .pre .5)
+    single-fits _ _ (tables s) (cell s .metadata) (s .pre .6) (rw (← c .before .before .class-of .ensures) (sym (c .before .is-single .ensures) ∙ c .if2 .taken)) (s .pre .5)
 
-take-plain-write-requires : tie.Need-take-plain-write-requires
-take-plain-write-requires c κs = let s = c .before .before .before .before .before .before .before .before .before .before .before .before .before in rw (lent-long _ _ _ (s .pre .2)) (fits (c .before))
+take-single-write-requires : tie.Need-take-single-write-requires
+take-single-write-requires c κs = let s = c .before .before .before .before .before .before .before .before .before .before .before .before .before in rw (lent-long _ _ _ (s .pre .2)) (fits (c .before))
 
-plain-before-requires : tie.Need-plain-before-requires
-plain-before-requires c κs =
+single-before-requires : tie.Need-single-before-requires
+unfolding ofWord
+single-before-requires c κs =
     let s = c .before .before .before .before .before .before .before .before .before .before .before .before .before .before .before .before .before in
-    rw (second-long _ _ _ _ _ (s .pre .1) (s .pre .2) (c .before .before .before .take-plain-write .kept .0)) (fits (c .before .before .before .before .before))
+    rw (second-long _ _ _ _ _ (s .pre .1) (s .pre .2) (c .before .before .before .take-single-write .kept .0)) (fits (c .before .before .before .before .before), c .before .before .before .before .before .before .before .class-of .ensures)
 
 returns-2 : tie.Need-returns-2
 returns-2 c =
     let s = c .before .before .before .before .before .before .before .before .before .before .before .before .before .before .before .before .before .before .before .before in
-    let v = c .before .before .before .before .before .before .take-plain-write in
-    let u = c .before .before .plain-before in
+    let v = c .before .before .before .before .before .before .take-single-write in
+    let u = c .before .before .single-before in
     lent-placed (tables s) (cell s) _ (eq-eqb _ _ (c .before .before .before .before .before .before .before .before .before .before .before .before .if1 .left)) _ _ _ _ _ _ (s .pre .1) (s .pre .2) (v .kept .0) (u .kept .0) (v .ensures _ _) (u .ensures _ _) _ refl
 
 put-writes-requires : tie.Need-put-writes-requires
@@ -75,13 +82,13 @@ summarize-place-spec =
     (λ c. search needs)
     (λ c. search needs)
     (λ c. search needs)
-    take-plain-write-requires
+    take-single-write-requires
     (λ c. search needs)
     (λ c. search needs)
     (λ c. search needs)
     (λ c. search needs)
     (λ c. search needs)
-    plain-before-requires
+    single-before-requires
     (λ c. search needs)
     returns-2
     (λ c κs. search needs)

@@ -4,13 +4,14 @@ use Prim.Native.Nat.{_+_, _*_, _-_, _%_, _≤_}
 use native.Mathlib.Omega.{arith}
 use lib.ListN.{length, getD}
 use borrow.Author.Tests.{eq-eqb, ne-eqb}
+use Rattle.instruction.specs.Class.{classOf}
+use Rattle.instruction.specs.Instruction.{ofWord}
 use Rattle.unit.specs.Size.{metadataSize}
 use Rattle.effects.specs.Shape.{Tables, Cell, tablesOf}
 use Rattle.effects.specs.Cells.{cellOf}
-use Rattle.effects.specs.Plain.{isPlain}
 use Rattle.liveness.specs.Memory.{rowOf, row-inside}
 use Rattle.words.specs.Only.{only-none, lent-long}
-use Rattle.liveness.specs.Plain.{plain-fits}
+use Rattle.liveness.specs.Single.{isSingle, single-fits}
 use Rattle.liveness.specs.Unread.{deadBy}
 use Rattle.liveness.specs.Sweeping.{swept-off, lent-gone, lent-on}
 use borrow.Author.Needs.{needs}
@@ -29,30 +30,31 @@ returns c =
     let dead = deadBy (s .args .types .now) (rowOf (s .args .sets) (s .args .memory .now)) (cell s .instruction) in
     (swept-off (tables s) _ dead (cell s) (s .args .p) _ _ (ne-eqb _ _ (c .if1 .taken)), only-none _ _)
 
-plain : (c : tie.Then2) → isPlain (getD (c .before .before .before .before .before .before .before .before .before .before .before .before .before .before .args .memory .now) (c .before .before .before .before .before .before .before .before .before .before .before .before .before .before .args .p) 0 % 256) (c .before .before .row .result) ≡ true
-plain c = sym (c .before .is-plain .ensures) ∙ c .if2 .taken
+single : (c : tie.Then2) → isSingle (classOf (getD (c .before .before .before .before .before .before .before .before .before .before .before .before .before .before .args .memory .now) (c .before .before .before .before .before .before .before .before .before .before .before .before .before .before .args .p) 0 % 256)) ≡ true
+single c = rw (← c .before .before .class-of .ensures) (sym (c .before .is-single .ensures) ∙ c .if2 .taken)
 
-is-plain-dead-requires : tie.Need-is-plain-dead-requires
-is-plain-dead-requires c κs =
+is-single-dead-requires : tie.Need-is-single-dead-requires
+is-single-dead-requires c κs =
     let s = c .before .before .before .before .before .before .before .before .before .before .before .before .before .before .before .before in
     let part : s .args .sets .row + s .args .sets .width - s .args .sets .row ≡ s .args .sets .width = omega arith in
-    (rw (← c .before .before .before .before .row .ensures) (plain (c .before .before)), rw part (s .pre .4))
+    (single (c .before .before), rw part (s .pre .4))
 
 returns-2 : tie.Need-returns-2
 returns-2 c =
     let s = c .before .before .before .before .before .before .before .before .before .before .before .before .before .before .before .before .before .before in
-    lent-gone (tables s) (cell s) _ (eq-eqb _ _ (c .before .before .before .before .before .before .before .before .before .if1 .left)) (s .args .p) _ (s .args .types .now) _ _ _ _ (c .before .is-plain-dead .ensures) (c .if3 .taken)
+    lent-gone (tables s) (cell s) _ (eq-eqb _ _ (c .before .before .before .before .before .before .before .before .before .if1 .left)) (s .args .p) _ (s .args .types .now) _ _ _ _ (c .before .is-single-dead .ensures) (c .if3 .taken)
 
-plain-before-requires : tie.Need-plain-before-requires
-plain-before-requires c κs =
+single-before-requires : tie.Need-single-before-requires
+unfolding ofWord
+single-before-requires c κs =
     let s = c .before .before .before .before .before .before .before .before .before .before .before .before .before .before .before .before .before .before .before in
-    rw (lent-long _ _ _ (row-inside _ _ (s .pre .0))) (plain-fits _ _ _ (tables s) (cell s .metadata) (s .pre .6) (c .before .before .before .before .before .before .before .row .ensures) (plain (c .before .before .before .before .before)) (s .pre .5))
+    rw (lent-long _ _ _ (row-inside _ _ (s .pre .0))) (single-fits _ _ (tables s) (cell s .metadata) (s .pre .6) (single (c .before .before .before .before .before)) (s .pre .5), c .before .before .before .before .before .before .before .class-of .ensures)
 
 returns-3 : tie.Need-returns-3
 returns-3 c =
     let s = c .before .before .before .before .before .before .before .before .before .before .before .before .before .before .before .before .before .before .before .before .before .before in
-    let b = c .before .before .plain-before in
-    lent-on (tables s) (cell s) _ (eq-eqb _ _ (c .before .before .before .before .before .before .before .before .before .before .before .before .before .if1 .left)) (s .args .p) _ (s .args .types .now) _ _ _ _ (c .before .before .before .before .before .is-plain-dead .ensures) (c .before .before .before .before .if3 .left) (row-inside _ _ (s .pre .0)) _ (b .kept .0) (b .ensures (tables s) (cell s .metadata))
+    let b = c .before .before .single-before in
+    lent-on (tables s) (cell s) _ (eq-eqb _ _ (c .before .before .before .before .before .before .before .before .before .before .before .before .before .if1 .left)) (s .args .p) _ (s .args .types .now) _ _ _ _ (c .before .before .before .before .before .is-single-dead .ensures) (c .before .before .before .before .if3 .left) (row-inside _ _ (s .pre .0)) _ (b .kept .0) (b .ensures (tables s) (cell s .metadata))
 
 is-dead-requires : tie.Need-is-dead-requires
 is-dead-requires c κs =
@@ -95,7 +97,7 @@ sweep-place-spec =
     (λ c. search needs)
     (λ c. search needs)
     (λ c. search needs)
-    is-plain-dead-requires
+    is-single-dead-requires
     (λ c. search needs)
     (λ c. search needs)
     (λ c. search needs)
@@ -105,7 +107,7 @@ sweep-place-spec =
     (λ c. search needs)
     (λ c. search needs)
     (λ c. search needs)
-    plain-before-requires
+    single-before-requires
     (λ c. search needs)
     returns-3
     (λ c κs. search needs)

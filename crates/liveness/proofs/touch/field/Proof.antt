@@ -1,4 +1,4 @@
-use Rattle.liveness.specs.Plain.{field-slot}
+use Rattle.liveness.specs.Single.{field-slot}
 use borrow.Author.Needs.{needs}
 use Rattle.liveness.proofs.touch.field.Statement.{statement}
 use Rattle.liveness.proofs.touch.field.Tie as tie
