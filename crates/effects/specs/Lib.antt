@@ -9,4 +9,5 @@ pub mod Rows
 pub mod Ranges
 pub mod Operands
 pub mod Plain
+pub mod ByClass
 pub mod Sound

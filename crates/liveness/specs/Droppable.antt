@@ -26,7 +26,8 @@ use Rattle.effects.specs.Check.{operandRefusal}
 use Rattle.effects.specs.Cells.{cellOf, cellsBy, cells-long, cell-at}
 use Rattle.words.specs.Truth.{left-true, right-true}
 use Rattle.effects.specs.Operands.{cases-inside}
-use Rattle.effects.specs.Sound.{Sound, sound, isOutside, writesByClass, writes-by-class}
+use Rattle.effects.specs.ByClass.{isOutside, writesByClass, writes-by-class}
+use Rattle.effects.specs.Sound.{Sound, sound}
 use Rattle.flow.specs.Branch.{branchInside}
 use Rattle.flow.specs.Block.{blockOf, blockCount}
 use Rattle.flow.specs.Blocks.{blockStart, block-walk, block-below}

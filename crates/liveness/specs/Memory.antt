@@ -17,7 +17,7 @@ use Rattle.effects.specs.Shape.{Tables, Cell, cellAt}
 use Rattle.effects.specs.Cells.{cellOf, cellsBy, cell-at, cells-long}
 use Rattle.effects.specs.Effects.{rangeWithin}
 use Rattle.effects.specs.Form.{emptyRange}
-use Rattle.effects.specs.Sound.{writesByClass}
+use Rattle.effects.specs.ByClass.{writesByClass}
 use Rattle.flow.specs.Branch.{branchInside}
 use Rattle.liveness.specs.declared.Layout.{Layout}
 use Rattle.words.specs.Only.{At, Either, Only, only-both, only-more, mid-mid, same-mid, put-mid}

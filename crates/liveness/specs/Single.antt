@@ -18,7 +18,7 @@ use Rattle.effects.specs.Shape.{Tables, Cell}
 use Rattle.effects.specs.Effects.{rangeHas, rangeWithin}
 use Rattle.effects.specs.Form.{emptyRange}
 use Rattle.effects.specs.Plain.{slotOf}
-use Rattle.effects.specs.Sound.{isOutside, readsByClass, writesByClass}
+use Rattle.effects.specs.ByClass.{isOutside, readsByClass, writesByClass}
 use Rattle.unit.specs.declared.Metadata.{Metadata}
 use Rattle.liveness.specs.Sets.{Put, range, put-as, put-one, has-none, within-end}
 use Rattle.liveness.specs.Touched.{reading, writing, Fits, put-reads, put-writes, reads-in, writes-in}

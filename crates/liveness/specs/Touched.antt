@@ -21,7 +21,7 @@ use Rattle.effects.specs.Form.{emptyRange}
 use Rattle.words.specs.Truth.{left-true, right-true}
 use Rattle.effects.specs.Operands.{all-at}
 use Rattle.effects.specs.Ranges.{CasesInside}
-use Rattle.effects.specs.Sound.{isOutside, readsByClass, writesByClass, reads-by-class, writes-by-class}
+use Rattle.effects.specs.ByClass.{isOutside, readsByClass, writesByClass, reads-by-class, writes-by-class}
 use Rattle.liveness.specs.Sets.{Put, put-none, put-more, put-as, has-none}
 
 -- a slot is one of those of the ranges

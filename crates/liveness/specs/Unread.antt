@@ -21,7 +21,7 @@ use Rattle.effects.specs.declared.Range.{Range}
 use Rattle.effects.specs.Shape.{Sections, Cell}
 use Rattle.effects.specs.Effects.{writes, rangeWithin, allOf}
 use Rattle.effects.specs.Form.{emptyRange}
-use Rattle.effects.specs.Sound.{isOutside, writesByClass, writes-by-class}
+use Rattle.effects.specs.ByClass.{isOutside, writesByClass, writes-by-class}
 use Rattle.values.specs.Number.{isScalar}
 use Rattle.liveness.specs.Live.{Row}
 use Rattle.liveness.specs.Dead.{unread, isDead}

@@ -6,7 +6,7 @@ ghost use lib.ListN.{length, getD};
 ghost use Rattle.instruction.specs.Class.{classOf, isPure};
 ghost use Rattle.instruction.specs.Instruction.{ofWord, class};
 ghost use Rattle.effects.specs.Form.{emptyRange};
-ghost use Rattle.effects.specs.Sound.{writesByClass};
+ghost use Rattle.effects.specs.ByClass.{writesByClass};
 ghost use Rattle.liveness.specs.Sets.{range};
 ghost use Rattle.liveness.specs.Unread.{freeSlot, freeRange, deadBy, Spans};
 ghost use Rattle.liveness.specs.Single.{isSingle};

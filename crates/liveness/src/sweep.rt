@@ -9,7 +9,7 @@ ghost use Rattle.unit.specs.Size.{metadataSize};
 ghost use Rattle.effects.specs.Shape.{tablesOf};
 ghost use Rattle.effects.specs.Cells.{cellOf, cellsBy};
 ghost use Rattle.effects.specs.Form.{emptyRange};
-ghost use Rattle.effects.specs.Sound.{writesByClass};
+ghost use Rattle.effects.specs.ByClass.{writesByClass};
 ghost use Rattle.pc_map.specs.Boundary.{isKept};
 ghost use Rattle.liveness.specs.Live.{Row, isLast};
 ghost use Rattle.liveness.specs.Dead.{sweepFrom};

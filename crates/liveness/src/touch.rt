@@ -12,7 +12,7 @@ ghost use Rattle.effects.specs.Effects.{allReads, writes};
 ghost use Rattle.effects.specs.Form.{emptyRange};
 ghost use Rattle.effects.specs.Plain.{slotOf};
 ghost use Rattle.effects.specs.Ranges.{CasesInside};
-ghost use Rattle.effects.specs.Sound.{isOutside, readsByClass, writesByClass};
+ghost use Rattle.effects.specs.ByClass.{isOutside, readsByClass, writesByClass};
 ghost use Rattle.liveness.specs.Sets.{Put};
 ghost use Rattle.liveness.specs.Touched.{Within, reading, writing, Fits, Before};
 ghost use Rattle.liveness.specs.Single.{isSingle, readsFirst, readsSecond, SingleFits};

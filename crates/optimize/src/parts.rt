@@ -25,10 +25,10 @@ use flow::block;
 use flow::branch;
 use flow::hint;
 use flow::reach;
+use numbering::walk;
 use pc_map::boundary;
 use pc_map::relocation;
 use pc_map::retained;
-use numbering::walk;
 
 // "unchanged: same code, all kept", refusal 10, or rewritten.
 fn conclude(

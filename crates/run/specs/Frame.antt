@@ -5,7 +5,6 @@ use mathlib.Core.Logic.{_⊎_, inl, inr}
 use mathlib.Core.Bool.{Bool, true, false, cond, not, _&&_, _||_, or-false, or-true, false≢true}
 use mathlib.Core.List.{List, [], _∷_, _++_, map, append-nil}
 use Prim.Native.Nat.{ℕ, zero, suc, _+_, _-_, _≤_, _<_}
-use native.Mathlib.Nat.{add-zero}
 use native.Mathlib.Decide.{ℕ-discrete}
 use native.Mathlib.Omega.{arith}
 use lib.Dec.{eqb, leb, ltb}
@@ -15,12 +14,13 @@ use Rattle.instruction.specs.declared.Class.{Class}
 use Rattle.instruction.specs.declared.Class.the-variants.{Hint, LoadInt, LoadConst, Copy, CopyN, Unary, Binary, Jump, JumpIf, JumpIfNot, ForLoop, Return, Panic, Outside, Invalid}
 use Rattle.instruction.specs.Instruction.{class}
 use Rattle.effects.specs.declared.Range.{Range}
-use Rattle.effects.specs.Shape.{Tables, Sections, Cell, rangeOf, value, applies}
+use Rattle.effects.specs.Shape.{Tables, Sections, Cell}
 use Rattle.effects.specs.Effects.{allReads, rangeHas, rangeWithin, allOf, anyOf}
+use Rattle.effects.specs.ByClass.{isOutside, readsByClass, writesByClass, reads-by-class}
 use Rattle.run.specs.Machine.{Words, World}
 use Rattle.run.specs.Removal.{Agree, SameAct, silent=, ask=, stop=, fail=}
 use Rattle.run.specs.Program.{actBy, event, givenRanges, slotsOf, slotsFrom}
-use Rattle.run.specs.Shapes.{readParts, writeParts, byFields, reads-by, given-by}
+use Rattle.run.specs.Gives.{given-by-class}
 use Rattle.words.specs.Truth.{left-true, right-true}
 
 pub data In (s : ℕ) : List ℕ → Type 0 where
@@ -56,41 +56,38 @@ module _ (S : Sections) (W : World) (x : Cell) (σ σ′ : Words) where
   T = S .tables
 
   -- the slots that a class names are among those read
-  reads-in : (k : Class) → class (x .instruction) ≡ k → byFields k ≡ true → (s : ℕ) → In s (slotsOf (map (rangeOf T x) (readParts k))) → In s (slotsOf (allReads T x))
-  reads-in k e f s i =
-      let g : byFields (class (x .instruction)) ≡ true = rw e f in
-      rw (reads-by T x g, e) i
+  reads-in : (k : Class) → class (x .instruction) ≡ k → isOutside k ≡ false → (s : ℕ) → In s (slotsOf (readsByClass k (x .instruction))) → In s (slotsOf (allReads T x))
+  reads-in k e f s i = rw (reads-by-class T x (rw e f), e) i
 
   pub frame : (k : Class) → class (x .instruction) ≡ k → Agree (λ s. In s (slotsOf (allReads T x))) σ σ′
       → SameAct (λ t. anyOf (rangeHas t) (givenRanges T x)) (actBy S W x k σ) (actBy S W x k σ′)
-  unfolding actBy event readParts writeParts byFields rangeOf value applies slotsOf slotsFrom
+  unfolding actBy event readsByClass writesByClass isOutside slotsOf slotsFrom
   frame Hint e ag = silent= (λ s t. refl)
   frame LoadInt e ag = silent= (λ s t. refl)
   frame LoadConst e ag = silent= (λ s t. refl)
   frame Copy e ag =
-      let b : σ′ (x .instruction .b) ≡ σ (x .instruction .b) = ag (x .instruction .b) (reads-in Copy e refl _ (rw add-zero here)) in
+      let b : σ′ (x .instruction .b) ≡ σ (x .instruction .b) = ag (x .instruction .b) (reads-in Copy e refl _ here) in
       silent= (λ s t. b)
   frame CopyN e ag =
       silent= λ s t.
-      let g : byFields (class (x .instruction)) ≡ true = rw e refl in
-      let given : anyOf (rangeHas s) (record { start = x .instruction .a + 0; count = x .instruction .c } ∷ []) ≡ true = rw (given-by T x g, e) at t in
-      let r = has-range (x .instruction .a + 0) (x .instruction .c) s given in
+      let given : anyOf (rangeHas s) (record { start = x .instruction .a; count = x .instruction .c } ∷ []) ≡ true = rw (given-by-class T x (rw e refl), e) at t in
+      let r = has-range (x .instruction .a) (x .instruction .c) s given in
       let at : ℕ = x .instruction .b + (s - x .instruction .a) in
-      let i : In at (slotsFrom (x .instruction .b + 0) (x .instruction .c)) = slots-in (x .instruction .b + 0) (x .instruction .c) at (omega arith) (omega arith) in
+      let i : In at (slotsFrom (x .instruction .b) (x .instruction .c)) = slots-in (x .instruction .b) (x .instruction .c) at (omega arith) (omega arith) in
       ag at (reads-in CopyN e refl at (rw append-nil i))
   frame Unary e ag =
-      let b : σ′ (x .instruction .b) ≡ σ (x .instruction .b) = ag (x .instruction .b) (reads-in Unary e refl _ (rw add-zero here)) in
+      let b : σ′ (x .instruction .b) ≡ σ (x .instruction .b) = ag (x .instruction .b) (reads-in Unary e refl _ here) in
       rw b (silent= (λ s t. refl))
   frame Binary e ag =
-      let b : σ′ (x .instruction .b) ≡ σ (x .instruction .b) = ag (x .instruction .b) (reads-in Binary e refl _ (rw add-zero here)) in
-      let c : σ′ (x .instruction .c) ≡ σ (x .instruction .c) = ag (x .instruction .c) (reads-in Binary e refl _ (there (rw add-zero here))) in
+      let b : σ′ (x .instruction .b) ≡ σ (x .instruction .b) = ag (x .instruction .b) (reads-in Binary e refl _ here) in
+      let c : σ′ (x .instruction .c) ≡ σ (x .instruction .c) = ag (x .instruction .c) (reads-in Binary e refl _ (there here)) in
       rw (b, c) (silent= (λ s t. refl))
   frame Jump e ag = silent= (λ s t. refl)
   frame JumpIf e ag =
-      let a : σ′ (x .instruction .a) ≡ σ (x .instruction .a) = ag (x .instruction .a) (reads-in JumpIf e refl _ (rw add-zero here)) in
+      let a : σ′ (x .instruction .a) ≡ σ (x .instruction .a) = ag (x .instruction .a) (reads-in JumpIf e refl _ here) in
       rw a (silent= (λ s t. refl))
   frame JumpIfNot e ag =
-      let a : σ′ (x .instruction .a) ≡ σ (x .instruction .a) = ag (x .instruction .a) (reads-in JumpIfNot e refl _ (rw add-zero here)) in
+      let a : σ′ (x .instruction .a) ≡ σ (x .instruction .a) = ag (x .instruction .a) (reads-in JumpIfNot e refl _ here) in
       rw a (silent= (λ s t. refl))
   frame ForLoop e ag = rw (map-agree (slotsOf (allReads T x)) σ σ′ ag) ask=
   frame Return e ag = rw (map-agree (slotsOf (allReads T x)) σ σ′ ag) stop=

@@ -7,7 +7,6 @@ use mathlib.Core.Bool.{Bool, true, false, cond, not, _&&_, _||_, or-false, false
 use mathlib.Core.List.{List, [], _∷_, map}
 use mathlib.Core.Option.{Option, none, some}
 use Prim.Native.Nat.{ℕ, suc, _+_, _*_, _-_, _/_, _%_, _^_, _<_, _≤_}
-use native.Mathlib.Nat.{add-zero}
 use native.Mathlib.Omega.{arith}
 use lib.Dec.{eqb, leb, ltb}
 use borrow.Author.Tests.{eqb-true, eqb-false, eq-eqb, le-leb, lt-ltb, ltb-true, leb-true}
@@ -23,9 +22,10 @@ use Rattle.unit.specs.declared.Constant.{Constant}
 use Rattle.unit.specs.declared.Constant.the-variants.{Nil, Bool as BoolConstant, Int, Float as FloatConstant, String, Missing}
 use Rattle.unit.specs.Entry.{constantAt}
 use Rattle.effects.specs.declared.Range.{Range}
-use Rattle.effects.specs.Shape.{Tables, Sections, Cell, rangeOf, value, applies}
+use Rattle.effects.specs.Shape.{Tables, Sections, Cell}
 use Rattle.effects.specs.Effects.{allReads, rangeHas, anyOf}
 use Rattle.effects.specs.Check.{operandRefusal}
+use Rattle.effects.specs.ByClass.{isOutside, readsByClass, writesByClass, reads-by-class}
 use Rattle.flow.specs.Branch.{targetBy}
 use Rattle.values.specs.declared.Atom.{Atom}
 use Rattle.values.specs.declared.Atom.the-variants.{Integer, Float, Definition}
@@ -35,7 +35,7 @@ use Rattle.values.specs.Number.{setA, setB, setBC, constantAtom}
 use Rattle.values.specs.Named.{Named}
 use Rattle.run.specs.Machine.{Words, Event, World, State, at, put, goto, perform, silent, ask, stop, byReturn}
 use Rattle.run.specs.Program.{Function, hasMeaning, classIn, nodeBy, actBy, givenRanges, event, constantWord, unaryWord, binaryWord, slotsOf, slotsFrom}
-use Rattle.run.specs.Shapes.{readParts, writeParts, byFields, reads-by, given-by}
+use Rattle.run.specs.Gives.{given-by-class}
 use Rattle.run.specs.Operands.{named-of, named-refusal, oneByOne}
 use Rattle.run.specs.Valuation.{Valuation, wordOf, expressionWord, wordOfExpression, Valid}
 
@@ -117,11 +117,11 @@ rewrite x i = record { instruction = i; metadata = x .metadata }
 
 -- one slot
 abbrev pub oneSlot : ℕ → ℕ → Bool
-oneSlot a t = anyOf (rangeHas t) (record { start = a + 0; count = 1 } ∷ [])
+oneSlot a t = anyOf (rangeHas t) (record { start = a; count = 1 } ∷ [])
 
 pub one-slot : (a t : ℕ) → oneSlot a t ≡ eqb a t
 unfolding anyOf rangeHas
-one-slot a t = rw (or-false, add-zero) (go (eqb a t) refl)
+one-slot a t = rw or-false (go (eqb a t) refl)
   where
     none-other : (u v : Bool) → leb a t ≡ u → ltb t (a + 1) ≡ v → (a ≡ t → ⊥) → (u && v) ≡ false
     none-other true true d e n = let l = leb-true a t d in let m = ltb-true t (a + 1) e in absurd (n (omega arith))
@@ -194,15 +194,15 @@ module _ (F : Function) (W : World) (p : ℕ) (σ : Words) (R : List Event) wher
   gave Outside x = 0
   gave Invalid x = 0
 
-  given-one : (k : Class) (x : Cell) → class (x .instruction) ≡ k → isSingle k ≡ true → givenRanges T x ≡ record { start = x .instruction .a + 0; count = 1 } ∷ []
-  unfolding isSingle writeParts byFields rangeOf value applies
+  given-one : (k : Class) (x : Cell) → class (x .instruction) ≡ k → isSingle k ≡ true → givenRanges T x ≡ record { start = x .instruction .a; count = 1 } ∷ []
+  unfolding isSingle writesByClass isOutside
   given-one Hint x e s = absurd (false≢true s)
-  given-one LoadInt x e s = given-by T x (rw e refl) ∙ rw e
-  given-one LoadConst x e s = given-by T x (rw e refl) ∙ rw e
-  given-one Copy x e s = given-by T x (rw e refl) ∙ rw e
+  given-one LoadInt x e s = given-by-class T x (rw e refl) ∙ rw e
+  given-one LoadConst x e s = given-by-class T x (rw e refl) ∙ rw e
+  given-one Copy x e s = given-by-class T x (rw e refl) ∙ rw e
   given-one CopyN x e s = absurd (false≢true s)
-  given-one Unary x e s = given-by T x (rw e refl) ∙ rw e
-  given-one Binary x e s = given-by T x (rw e refl) ∙ rw e
+  given-one Unary x e s = given-by-class T x (rw e refl) ∙ rw e
+  given-one Binary x e s = given-by-class T x (rw e refl) ∙ rw e
   given-one Jump x e s = absurd (false≢true s)
   given-one JumpIf x e s = absurd (false≢true s)
   given-one JumpIfNot x e s = absurd (false≢true s)
@@ -217,7 +217,7 @@ module _ (F : Function) (W : World) (p : ℕ) (σ : Words) (R : List Event) wher
   do-single k x e s m = rw (meant x m, e, given-one k x e s) (go k s)
     where
       go : (k : Class) → isSingle k ≡ true
-          → perform W (record { act = actBy S W x k; gives = λ t. anyOf (rangeHas t) (record { start = x .instruction .a + 0; count = 1 } ∷ []); target = targetBy k p (x .instruction) }) p σ R (actBy S W x k σ)
+          → perform W (record { act = actBy S W x k; gives = λ t. anyOf (rangeHas t) (record { start = x .instruction .a; count = 1 } ∷ []); target = targetBy k p (x .instruction) }) p σ R (actBy S W x k σ)
           ≡ Sets (x .instruction .a) (gave k x)
       go Hint s = absurd (false≢true s)
       go LoadInt s = refl
@@ -264,11 +264,11 @@ module _ (F : Function) (W : World) (p : ℕ) (σ : Words) (R : List Event) wher
     jumpIfNot : Quiet JumpIfNot
 
   given-none : (k : Class) (x : Cell) → class (x .instruction) ≡ k → Quiet k → givenRanges T x ≡ []
-  unfolding writeParts byFields
-  given-none k x e hint = given-by T x (rw e refl) ∙ rw e
-  given-none k x e jump = given-by T x (rw e refl) ∙ rw e
-  given-none k x e jumpIf = given-by T x (rw e refl) ∙ rw e
-  given-none k x e jumpIfNot = given-by T x (rw e refl) ∙ rw e
+  unfolding writesByClass isOutside
+  given-none k x e hint = given-by-class T x (rw e refl) ∙ rw e
+  given-none k x e jump = given-by-class T x (rw e refl) ∙ rw e
+  given-none k x e jumpIf = given-by-class T x (rw e refl) ∙ rw e
+  given-none k x e jumpIfNot = given-by-class T x (rw e refl) ∙ rw e
 
   do-quiet : (k : Class) (x : Cell) → class (x .instruction) ≡ k → Quiet k → Meant x → doAt x ≡ Moves (jumps k x) (targetBy k p (x .instruction))
   unfolding doAt nodeBy perform actBy goto jumps
@@ -284,8 +284,8 @@ module _ (F : Function) (W : World) (p : ℕ) (σ : Words) (R : List Event) wher
 
   -- a Return of one slot records its word
   words-one : (x : Cell) → class (x .instruction) ≡ Return → x .instruction .b ≡ 1 → map σ (slotsOf (allReads T x)) ≡ σ (x .instruction .a) ∷ []
-  unfolding byFields readParts rangeOf value applies slotsOf slotsFrom
-  words-one x e b = rw (reads-by T x (rw e refl), e, b, add-zero)
+  unfolding isOutside readsByClass slotsOf slotsFrom
+  words-one x e b = rw (reads-by-class T x (rw e refl), e, b)
 
   do-return : (x : Cell) → class (x .instruction) ≡ Return → Meant x → doAt x ≡ perform W (nodeBy F Return W p x) p σ R (stop (event S W x 0 (x .instruction .c) σ) byReturn)
   unfolding doAt actBy

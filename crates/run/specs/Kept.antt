@@ -20,6 +20,7 @@ use Rattle.effects.specs.Shape.{Tables, Sections, Cell, cellAt}
 use Rattle.effects.specs.Sound.{sound}
 use Rattle.effects.specs.Effects.{allReads, writes, rangeHas, allOf, anyOf}
 use Rattle.effects.specs.Check.{operandRefusal}
+use Rattle.effects.specs.ByClass.{isOutside, writesByClass}
 use Rattle.flow.specs.Branch.{falls, branches, target}
 use Rattle.flow.specs.Block.{blockCount}
 use Rattle.flow.specs.Loop.{reachedPlaces, anchors}
@@ -37,7 +38,7 @@ use Rattle.answer.specs.Pass.{usefulPlaces, keptPlaces}
 use Rattle.run.specs.Machine.{SameRuns}
 use Rattle.run.specs.Program.{Function, givenRanges, slotsOf, programOf}
 use Rattle.run.specs.Returned.{resultFunction}
-use Rattle.run.specs.Shapes.{byFields, writeParts, given-by, writes-by}
+use Rattle.run.specs.Gives.{given-writes, given-by-class}
 use Rattle.words.specs.Truth.{left-true, right-true}
 use Rattle.run.specs.Step.{Succ, next, branch}
 use Rattle.run.specs.Frame.{In, slots-any, slots-within, any-left}
@@ -94,23 +95,23 @@ pure-passes Panic e = e
 pure-passes Outside e = e
 pure-passes Invalid e = e
 
-pure-fields : (k : Class) → isPure k ≡ true → byFields k ≡ true
-unfolding isPure byFields
-pure-fields Hint e = refl
-pure-fields LoadInt e = refl
-pure-fields LoadConst e = refl
-pure-fields Copy e = refl
-pure-fields CopyN e = refl
-pure-fields Unary e = refl
-pure-fields Binary e = refl
-pure-fields Jump e = refl
-pure-fields JumpIf e = refl
-pure-fields JumpIfNot e = refl
-pure-fields ForLoop e = refl
-pure-fields Return e = refl
-pure-fields Panic e = refl
-pure-fields Outside e = e
-pure-fields Invalid e = e
+pure-inside : (k : Class) → isPure k ≡ true → isOutside k ≡ false
+unfolding isPure isOutside
+pure-inside Hint e = refl
+pure-inside LoadInt e = refl
+pure-inside LoadConst e = refl
+pure-inside Copy e = refl
+pure-inside CopyN e = refl
+pure-inside Unary e = refl
+pure-inside Binary e = refl
+pure-inside Jump e = refl
+pure-inside JumpIf e = refl
+pure-inside JumpIfNot e = refl
+pure-inside ForLoop e = refl
+pure-inside Return e = refl
+pure-inside Panic e = refl
+pure-inside Outside e = sym e
+pure-inside Invalid e = sym e
 
 dead-pure : (S : Sections) (x : Cell) (a : Row) → isDead S x a ≡ true → isPure (class (x .instruction)) ≡ true
 unfolding isDead
@@ -235,10 +236,8 @@ module _ (G : Function) (leaders : List ℕ) (N : Removing G leaders) where
         go false e = e
 
     jump-gives : (p s : ℕ) → class (cell p .instruction) ≡ Jump → anyOf (rangeHas s) (givenRanges T (cell p)) ≡ false
-    unfolding byFields writeParts anyOf
-    jump-gives p s k =
-        let f : byFields (class (cell p .instruction)) ≡ true = rw k refl in
-        rw (given-by T (cell p) f, k)
+    unfolding isOutside writesByClass anyOf
+    jump-gives p s k = rw (given-by-class T (cell p) (rw k refl), k)
 
     -- a place that is gone passes on what is live
     gone-live : (p : ℕ) → p < n → remains p ≡ false → passes (class (cell p .instruction)) ≡ true → (s : ℕ) → Live (suc p) s → Live p s
@@ -248,10 +247,10 @@ module _ (G : Function) (leaders : List ℕ) (N : Removing G leaders) where
     dead-gives : (p : ℕ) → p < n → dead S leaders useful code rows p ≡ true → (s : ℕ) → Live (suc p) s → anyOf (rangeHas s) (givenRanges T (cell p)) ≡ false
     dead-gives p h d s v =
         let pure : isPure (class (cell p .instruction)) ≡ true = dead-pure S (cell p) (after S leaders useful code rows p) d in
-        let f : byFields (class (cell p .instruction)) ≡ true = pure-fields (class (cell p .instruction)) pure in
+        let f : isOutside (class (cell p .instruction)) ≡ false = pure-inside (class (cell p .instruction)) pure in
         let k : passes (class (cell p .instruction)) ≡ true = pure-passes (class (cell p .instruction)) pure in
         let a : bit (after S leaders useful code rows p) s ≡ true = out S leaders useful code rows A p (suc p) s (v .0) h (next (passing-falls (class (cell p .instruction)) k)) (v .1) in
-        ap (anyOf (rangeHas s)) (given-by T (cell p) f ∙ sym (writes-by T (cell p) f)) ∙ go (anyOf (rangeHas s) (writes T (cell p))) refl a
+        ap (anyOf (rangeHas s)) (given-writes T (cell p) f) ∙ go (anyOf (rangeHas s) (writes T (cell p))) refl a
       where
         go : (t : Bool) → anyOf (rangeHas s) (writes T (cell p)) ≡ t → bit (after S leaders useful code rows p) s ≡ true → anyOf (rangeHas s) (writes T (cell p)) ≡ false
         go true e a = absurd (true≢false (sym a ∙ dead-unread S (cell p) (after S leaders useful code rows p) s d e))

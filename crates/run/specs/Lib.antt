@@ -5,7 +5,7 @@ pub mod Returned
 pub mod Simulation
 pub mod LockStep
 pub mod Removal
-pub mod Shapes
+pub mod Gives
 pub mod Operands
 pub mod Valuation
 pub mod Justified

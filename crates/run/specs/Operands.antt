@@ -2,7 +2,7 @@
 -- Assumes nothing.
 use mathlib.Core.Path.{_≡_, refl, sym, ap, _∙_}
 use mathlib.Core.Bool.{Bool, true, false, _&&_, _||_, false≢true}
-use mathlib.Core.List.{List, [], _∷_, _++_, map}
+use mathlib.Core.List.{List, [], _∷_, _++_}
 use Prim.Native.Nat.{ℕ, _+_, _<_, _≤_}
 use native.Mathlib.Omega.{arith}
 use lib.Dec.{eqb, leb}
@@ -13,13 +13,13 @@ use Rattle.instruction.specs.declared.Class.{Class}
 use Rattle.instruction.specs.declared.Class.the-variants.{Hint, LoadInt, LoadConst, Copy, CopyN, Unary, Binary, Jump, JumpIf, JumpIfNot, ForLoop, Return, Panic, Outside, Invalid}
 use Rattle.instruction.specs.Instruction.{class}
 use Rattle.effects.specs.declared.Range.{Range}
-use Rattle.effects.specs.Shape.{Tables, Cell, rangeOf, value, applies}
+use Rattle.effects.specs.Shape.{Tables, Cell}
 use Rattle.effects.specs.Effects.{writes, allReads, demandsMet, rangeFits, rangeWithin, allOf}
 use Rattle.effects.specs.Check.{operandRefusal, effectsSound}
 use Rattle.effects.specs.Operands.{all-append}
+use Rattle.effects.specs.ByClass.{isOutside, readsByClass, writesByClass, inside-valid, reads-by-class, writes-by-class, demands-by-class}
 use Rattle.effects.specs.Sound.{sound}
 use Rattle.values.specs.Named.{Named}
-use Rattle.run.specs.Shapes.{readParts, writeParts, byFields, valid-opcode, reads-by, writes-by, demands-by}
 
 -- every range lies within the frame
 refusal-within : (s : ℕ) (T : Tables) (x : Cell) → operandRefusal s T x ≡ 0 → allOf (rangeWithin s) (allReads T x ++ writes T x) ≡ true
@@ -27,12 +27,12 @@ refusal-within s T x e =
     let d = sound s T x e in
     all-append (rangeWithin s) (allReads T x) (writes T x) ∙ rw (d .reads-within, d .writes-within)
 
-pub refusal-none : (s : ℕ) (T : Tables) (x : Cell) → byFields (class (x .instruction)) ≡ true → allOf rangeFits (allReads T x ++ writes T x) ≡ true
+pub refusal-none : (s : ℕ) (T : Tables) (x : Cell) → isOutside (class (x .instruction)) ≡ false → allOf rangeFits (allReads T x ++ writes T x) ≡ true
     → allOf (rangeWithin s) (allReads T x ++ writes T x) ≡ true → operandRefusal s T x ≡ 0
 unfolding operandRefusal effectsSound
 refusal-none s T x f fit within =
-    let h = valid-opcode (x .instruction .op) f in
-    rw (le-ltb op.maxValid (x .instruction .op) (omega arith), demands-by T x f, fit, within)
+    let h = inside-valid (x .instruction .op) f in
+    rw (le-ltb op.maxValid (x .instruction .op) (omega arith), demands-by-class T x f, fit, within)
 
 -- the classes that name their slots one by one; Return where it returns one slot
 unfoldable pub oneByOne : Class → Bool
@@ -53,19 +53,19 @@ oneByOne Outside = false
 oneByOne Invalid = false
 
 abbrev one : ℕ → Range
-one a = record { start = a + 0; count = 1 }
+one a = record { start = a; count = 1 }
 
 one-within : (s a : ℕ) → rangeWithin s (one a) ≡ true → a < s
 unfolding rangeWithin
-one-within s a e = let h : a + 0 + 1 ≤ s = leb-true (a + 0 + 1) s e in omega arith
+one-within s a e = let h : a + 1 ≤ s = leb-true (a + 1) s e in omega arith
 
 within-one : (s a : ℕ) → a < s → rangeWithin s (one a) ≡ true
 unfolding rangeWithin
-within-one s a h = le-leb (a + 0 + 1) s (omega arith)
+within-one s a h = le-leb (a + 1) s (omega arith)
 
 fits-one : (s a : ℕ) → s ≤ 65535 → a < s → rangeFits (one a) ≡ true
 unfolding rangeFits
-fits-one s a l h = rw (le-leb (a + 0) 65535 (omega arith), le-leb (a + 0 + 1) 65536 (omega arith))
+fits-one s a l h = rw (le-leb a 65535 (omega arith), le-leb (a + 1) 65536 (omega arith))
 
 two-within : (s a b : ℕ) → allOf (rangeWithin s) (one a ∷ one b ∷ []) ≡ true → (a < s) × (b < s)
 unfolding allOf
@@ -81,68 +81,68 @@ three-within s a b c e =
     (one-within s a (left-true (rangeWithin s (one a)) rest e), w .0, w .1)
 
 module _ (s : ℕ) (T : Tables) (x : Cell) where
-  -- by the class's parts
-  within-parts : (k : Class) → class (x .instruction) ≡ k → byFields k ≡ true → operandRefusal s T x ≡ 0
-      → allOf (rangeWithin s) (map (rangeOf T x) (readParts k) ++ map (rangeOf T x) (writeParts k)) ≡ true
-  within-parts k e f z =
-      let g : byFields (class (x .instruction)) ≡ true = rw e f in
+  -- by the class's ranges
+  within-ranges : (k : Class) → class (x .instruction) ≡ k → isOutside k ≡ false → operandRefusal s T x ≡ 0
+      → allOf (rangeWithin s) (readsByClass k (x .instruction) ++ writesByClass k (x .instruction)) ≡ true
+  within-ranges k e f z =
+      let g : isOutside (class (x .instruction)) ≡ false = rw e f in
       let w = refusal-within s T x z in
-      rw (reads-by T x g, writes-by T x g, e) at w
+      rw (reads-by-class T x g, writes-by-class T x g, e) at w
 
   pub named-of : (k : Class) → class (x .instruction) ≡ k → operandRefusal s T x ≡ 0 → Named k s (x .instruction)
-  unfolding Named readParts writeParts byFields allOf rangeOf value applies
+  unfolding Named readsByClass writesByClass isOutside allOf
   named-of Hint e z = tt
-  named-of LoadInt e z = one-within s _ (left-true _ _ (within-parts LoadInt e refl z))
-  named-of LoadConst e z = one-within s _ (left-true _ _ (within-parts LoadConst e refl z))
-  named-of Copy e z = two-within s (x .instruction .b) (x .instruction .a) (within-parts Copy e refl z)
+  named-of LoadInt e z = one-within s _ (left-true _ _ (within-ranges LoadInt e refl z))
+  named-of LoadConst e z = one-within s _ (left-true _ _ (within-ranges LoadConst e refl z))
+  named-of Copy e z = two-within s (x .instruction .b) (x .instruction .a) (within-ranges Copy e refl z)
   named-of CopyN e z = tt
-  named-of Unary e z = two-within s (x .instruction .b) (x .instruction .a) (within-parts Unary e refl z)
-  named-of Binary e z = three-within s (x .instruction .b) (x .instruction .c) (x .instruction .a) (within-parts Binary e refl z)
+  named-of Unary e z = two-within s (x .instruction .b) (x .instruction .a) (within-ranges Unary e refl z)
+  named-of Binary e z = three-within s (x .instruction .b) (x .instruction .c) (x .instruction .a) (within-ranges Binary e refl z)
   named-of Jump e z = tt
-  named-of JumpIf e z = one-within s _ (left-true _ _ (within-parts JumpIf e refl z))
-  named-of JumpIfNot e z = one-within s _ (left-true _ _ (within-parts JumpIfNot e refl z))
+  named-of JumpIf e z = one-within s _ (left-true _ _ (within-ranges JumpIf e refl z))
+  named-of JumpIfNot e z = one-within s _ (left-true _ _ (within-ranges JumpIfNot e refl z))
   named-of ForLoop e z = tt
   named-of Return e z = λ b.
-      let w : rangeWithin s (record { start = x .instruction .a + 0; count = x .instruction .b }) ≡ true = left-true _ _ (within-parts Return e refl z) in
+      let w : rangeWithin s (record { start = x .instruction .a; count = x .instruction .b }) ≡ true = left-true _ _ (within-ranges Return e refl z) in
       one-within s _ (rw b at w)
   named-of Panic e z = tt
   named-of Outside e z = tt
   named-of Invalid e z = tt
 
-  from-parts : (k : Class) → class (x .instruction) ≡ k → byFields k ≡ true
-      → allOf rangeFits (map (rangeOf T x) (readParts k) ++ map (rangeOf T x) (writeParts k)) ≡ true
-      → allOf (rangeWithin s) (map (rangeOf T x) (readParts k) ++ map (rangeOf T x) (writeParts k)) ≡ true
+  from-ranges : (k : Class) → class (x .instruction) ≡ k → isOutside k ≡ false
+      → allOf rangeFits (readsByClass k (x .instruction) ++ writesByClass k (x .instruction)) ≡ true
+      → allOf (rangeWithin s) (readsByClass k (x .instruction) ++ writesByClass k (x .instruction)) ≡ true
       → operandRefusal s T x ≡ 0
-  from-parts k e f fit within =
-      let g : byFields (class (x .instruction)) ≡ true = rw e f in
-      refusal-none s T x g (rw (reads-by T x g, writes-by T x g, e) fit) (rw (reads-by T x g, writes-by T x g, e) within)
+  from-ranges k e f fit within =
+      let g : isOutside (class (x .instruction)) ≡ false = rw e f in
+      refusal-none s T x g (rw (reads-by-class T x g, writes-by-class T x g, e) fit) (rw (reads-by-class T x g, writes-by-class T x g, e) within)
 
   -- an instruction whose class names its slots one by one is not refused where they are below s
   pub named-refusal : (k : Class) → class (x .instruction) ≡ k → oneByOne k ≡ true → s ≤ 65535 → (k ≡ Return → x .instruction .b ≡ 1) → Named k s (x .instruction)
       → operandRefusal s T x ≡ 0
-  unfolding Named readParts writeParts byFields allOf rangeOf value applies oneByOne
-  named-refusal Hint e o l r n = from-parts Hint e refl refl refl
-  named-refusal LoadInt e o l r n = from-parts LoadInt e refl (rw (fits-one s (x .instruction .a) l n)) (rw (within-one s (x .instruction .a) n))
-  named-refusal LoadConst e o l r n = from-parts LoadConst e refl (rw (fits-one s (x .instruction .a) l n)) (rw (within-one s (x .instruction .a) n))
+  unfolding Named readsByClass writesByClass isOutside allOf oneByOne
+  named-refusal Hint e o l r n = from-ranges Hint e refl refl refl
+  named-refusal LoadInt e o l r n = from-ranges LoadInt e refl (rw (fits-one s (x .instruction .a) l n)) (rw (within-one s (x .instruction .a) n))
+  named-refusal LoadConst e o l r n = from-ranges LoadConst e refl (rw (fits-one s (x .instruction .a) l n)) (rw (within-one s (x .instruction .a) n))
   named-refusal Copy e o l r n =
-      from-parts Copy e refl
+      from-ranges Copy e refl
       (rw (fits-one s (x .instruction .b) l (n .0), fits-one s (x .instruction .a) l (n .1)))
       (rw (within-one s (x .instruction .b) (n .0), within-one s (x .instruction .a) (n .1)))
   named-refusal CopyN e o l r n = absurd (false≢true o)
   named-refusal Unary e o l r n =
-      from-parts Unary e refl
+      from-ranges Unary e refl
       (rw (fits-one s (x .instruction .b) l (n .0), fits-one s (x .instruction .a) l (n .1)))
       (rw (within-one s (x .instruction .b) (n .0), within-one s (x .instruction .a) (n .1)))
   named-refusal Binary e o l r n =
-      from-parts Binary e refl
+      from-ranges Binary e refl
       (rw (fits-one s (x .instruction .b) l (n .0), fits-one s (x .instruction .c) l (n .1), fits-one s (x .instruction .a) l (n .2)))
       (rw (within-one s (x .instruction .b) (n .0), within-one s (x .instruction .c) (n .1), within-one s (x .instruction .a) (n .2)))
-  named-refusal Jump e o l r n = from-parts Jump e refl refl refl
-  named-refusal JumpIf e o l r n = from-parts JumpIf e refl (rw (fits-one s (x .instruction .a) l n)) (rw (within-one s (x .instruction .a) n))
-  named-refusal JumpIfNot e o l r n = from-parts JumpIfNot e refl (rw (fits-one s (x .instruction .a) l n)) (rw (within-one s (x .instruction .a) n))
+  named-refusal Jump e o l r n = from-ranges Jump e refl refl refl
+  named-refusal JumpIf e o l r n = from-ranges JumpIf e refl (rw (fits-one s (x .instruction .a) l n)) (rw (within-one s (x .instruction .a) n))
+  named-refusal JumpIfNot e o l r n = from-ranges JumpIfNot e refl (rw (fits-one s (x .instruction .a) l n)) (rw (within-one s (x .instruction .a) n))
   named-refusal ForLoop e o l r n = absurd (false≢true o)
   named-refusal Return e o l r n =
-      from-parts Return e refl
+      from-ranges Return e refl
       (rw (r refl, fits-one s (x .instruction .a) l (n (r refl))))
       (rw (r refl, within-one s (x .instruction .a) (n (r refl))))
   named-refusal Panic e o l r n = absurd (false≢true o)

@@ -23,6 +23,7 @@ use Rattle.unit.specs.Size.{maxInstructions}
 use Rattle.effects.specs.Shape.{Tables, Sections, Cell, cellAt, noCell}
 use Rattle.effects.specs.Effects.{allReads, writes, rangeHas, anyOf}
 use Rattle.effects.specs.Check.{operandRefusal}
+use Rattle.effects.specs.ByClass.{isOutside, writesByClass}
 use Rattle.flow.specs.Branch.{falls, branches, targetBy, target}
 use Rattle.flow.specs.Block.{blockCount}
 use Rattle.flow.specs.Loop.{reachedPlaces, anchors, isPlainHint}
@@ -39,7 +40,7 @@ use Rattle.answer.specs.Jump.{jumpRounds}
 use Rattle.answer.specs.Pass.{usefulPlaces, keptPlaces}
 use Rattle.run.specs.Program.{Function, givenRanges, slotsOf}
 use Rattle.run.specs.Frame.{In}
-use Rattle.run.specs.Shapes.{byFields, writeParts, given-by}
+use Rattle.run.specs.Gives.{given-by-class}
 use Rattle.words.specs.Truth.{left-true}
 use Rattle.run.specs.Step.{Succ, next, branch}
 use Rattle.run.specs.Relocated.{relocated-op}
@@ -120,10 +121,8 @@ module _ (G : Function) (leaders : List ℕ) (N : Removing G leaders) where
 
   -- a hint gives no slot a word
   pub hint-gives : (p s : ℕ) → class (cell p .instruction) ≡ Hint → anyOf (rangeHas s) (givenRanges T (cell p)) ≡ false
-  unfolding byFields writeParts anyOf
-  hint-gives p s k =
-      let f : byFields (class (cell p .instruction)) ≡ true = rw k refl in
-      rw (given-by T (cell p) f, k)
+  unfolding isOutside writesByClass anyOf
+  hint-gives p s k = rw (given-by-class T (cell p) (rw k refl), k)
 
   -- ---- where control goes
 

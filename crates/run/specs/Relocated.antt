@@ -2,7 +2,7 @@
 -- Assumes nothing.
 use mathlib.Core.Path.{_≡_, refl, sym, ap, _∙_}
 use mathlib.Core.Bool.{Bool, true, false, cond}
-use mathlib.Core.List.{List, [], _∷_, _++_, map}
+use mathlib.Core.List.{List, [], _∷_, _++_}
 use Prim.Native.Nat.{ℕ}
 use lib.Dec.{eqb}
 use Rattle.instruction.specs.declared.Instruction.{Instruction}
@@ -11,14 +11,15 @@ use Rattle.instruction.specs.declared.Class.the-variants.{Hint, LoadInt, LoadCo
 use Rattle.instruction.specs.Instruction.{class}
 use Rattle.unit.specs.declared.Metadata.{Metadata}
 use Rattle.effects.specs.declared.Range.{Range}
-use Rattle.effects.specs.Shape.{Tables, Sections, Cell, rangeOf, value, applies}
+use Rattle.effects.specs.Shape.{Tables, Sections, Cell}
 use Rattle.effects.specs.Effects.{allReads, writes, demandsMet}
 use Rattle.effects.specs.Check.{operandRefusal, effectsSound}
+use Rattle.effects.specs.ByClass.{isOutside, readsByClass, writesByClass, reads-by-class, writes-by-class, demands-by-class}
 use Rattle.flow.specs.Loop.{isLoopHint}
 use Rattle.pc_map.specs.Relocate.{movedJump, movedForLoop, movedHint, relocateBy}
 use Rattle.run.specs.Machine.{Words, World}
 use Rattle.run.specs.Program.{actBy, event, givenRanges, recordedMetadata}
-use Rattle.run.specs.Shapes.{readParts, writeParts, byFields, reads-by, writes-by, demands-by, given-by}
+use Rattle.run.specs.Gives.{given-writes}
 
 -- by a test
 pub pick : {A : Type 0} (P : A → Type 0) (b : Bool) {y z : A} → P y → P z → P (cond b y z)
@@ -70,35 +71,34 @@ module _ (keep : List ℕ) (p : ℕ) (x : Cell) where
 
   module _ (T : Tables) where
     -- the ranges named by fields that stay
-    reads-parts : (k : Class) → class (x .instruction) ≡ k → byFields k ≡ true → map (rangeOf T (relocateBy keep k p x)) (readParts k) ≡ map (rangeOf T x) (readParts k)
+    same-reads : (k : Class) → class (x .instruction) ≡ k → isOutside k ≡ false → readsByClass k (relocateBy keep k p x .instruction) ≡ readsByClass k (x .instruction)
         → allReads T (relocateBy keep k p x) ≡ allReads T x
-    reads-parts k e f q =
-        let g : byFields (class (relocateBy keep k p x .instruction)) ≡ true = rw (same-class k e) f in
-        let h : byFields (class (x .instruction)) ≡ true = rw e f in
-        reads-by T (relocateBy keep k p x) g ∙ rw (same-class k e, q) (sym (reads-by T x h ∙ rw e))
+    same-reads k e f q =
+        let g : isOutside (class (relocateBy keep k p x .instruction)) ≡ false = rw (same-class k e) f in
+        let h : isOutside (class (x .instruction)) ≡ false = rw e f in
+        reads-by-class T (relocateBy keep k p x) g ∙ rw (same-class k e, q) (sym (reads-by-class T x h ∙ rw e))
 
-    writes-parts : (k : Class) → class (x .instruction) ≡ k → byFields k ≡ true → map (rangeOf T (relocateBy keep k p x)) (writeParts k) ≡ map (rangeOf T x) (writeParts k)
+    same-writes : (k : Class) → class (x .instruction) ≡ k → isOutside k ≡ false → writesByClass k (relocateBy keep k p x .instruction) ≡ writesByClass k (x .instruction)
         → (writes T (relocateBy keep k p x) ≡ writes T x) × (givenRanges T (relocateBy keep k p x) ≡ givenRanges T x)
-    writes-parts k e f q =
-        let g : byFields (class (relocateBy keep k p x .instruction)) ≡ true = rw (same-class k e) f in
-        let h : byFields (class (x .instruction)) ≡ true = rw e f in (
-          writes-by T (relocateBy keep k p x) g ∙ rw (same-class k e, q) (sym (writes-by T x h ∙ rw e)),
-          given-by T (relocateBy keep k p x) g ∙ rw (same-class k e, q) (sym (given-by T x h ∙ rw e)),
-        )
+    same-writes k e f q =
+        let g : isOutside (class (relocateBy keep k p x .instruction)) ≡ false = rw (same-class k e) f in
+        let h : isOutside (class (x .instruction)) ≡ false = rw e f in
+        let w : writes T (relocateBy keep k p x) ≡ writes T x = writes-by-class T (relocateBy keep k p x) g ∙ rw (same-class k e, q) (sym (writes-by-class T x h ∙ rw e)) in
+        (w, given-writes T (relocateBy keep k p x) g ∙ w ∙ sym (given-writes T x h))
 
     pub relocated-reads : (k : Class) → class (x .instruction) ≡ k → allReads T (relocateBy keep k p x) ≡ allReads T x
-    unfolding relocateBy movedJump movedForLoop readParts byFields rangeOf value applies
-    relocated-reads Hint e = reads-parts Hint e refl refl
+    unfolding relocateBy movedJump movedForLoop readsByClass isOutside
+    relocated-reads Hint e = same-reads Hint e refl refl
     relocated-reads LoadInt e = refl
     relocated-reads LoadConst e = refl
     relocated-reads Copy e = refl
     relocated-reads CopyN e = refl
     relocated-reads Unary e = refl
     relocated-reads Binary e = refl
-    relocated-reads Jump e = reads-parts Jump e refl refl
-    relocated-reads JumpIf e = reads-parts JumpIf e refl refl
-    relocated-reads JumpIfNot e = reads-parts JumpIfNot e refl refl
-    relocated-reads ForLoop e = reads-parts ForLoop e refl refl
+    relocated-reads Jump e = same-reads Jump e refl refl
+    relocated-reads JumpIf e = same-reads JumpIf e refl refl
+    relocated-reads JumpIfNot e = same-reads JumpIfNot e refl refl
+    relocated-reads ForLoop e = same-reads ForLoop e refl refl
     relocated-reads Return e = refl
     relocated-reads Panic e = refl
     relocated-reads Outside e = refl
@@ -106,42 +106,42 @@ module _ (keep : List ℕ) (p : ℕ) (x : Cell) where
 
     pub relocated-writes : (k : Class) → class (x .instruction) ≡ k
         → (writes T (relocateBy keep k p x) ≡ writes T x) × (givenRanges T (relocateBy keep k p x) ≡ givenRanges T x)
-    unfolding relocateBy movedJump movedForLoop writeParts byFields rangeOf value applies
-    relocated-writes Hint e = writes-parts Hint e refl refl
+    unfolding relocateBy movedJump movedForLoop writesByClass isOutside
+    relocated-writes Hint e = same-writes Hint e refl refl
     relocated-writes LoadInt e = (refl, refl)
     relocated-writes LoadConst e = (refl, refl)
     relocated-writes Copy e = (refl, refl)
     relocated-writes CopyN e = (refl, refl)
     relocated-writes Unary e = (refl, refl)
     relocated-writes Binary e = (refl, refl)
-    relocated-writes Jump e = writes-parts Jump e refl refl
-    relocated-writes JumpIf e = writes-parts JumpIf e refl refl
-    relocated-writes JumpIfNot e = writes-parts JumpIfNot e refl refl
-    relocated-writes ForLoop e = writes-parts ForLoop e refl refl
+    relocated-writes Jump e = same-writes Jump e refl refl
+    relocated-writes JumpIf e = same-writes JumpIf e refl refl
+    relocated-writes JumpIfNot e = same-writes JumpIfNot e refl refl
+    relocated-writes ForLoop e = same-writes ForLoop e refl refl
     relocated-writes Return e = (refl, refl)
     relocated-writes Panic e = (refl, refl)
     relocated-writes Outside e = (refl, refl)
     relocated-writes Invalid e = (refl, refl)
 
-    demands-moved : (k : Class) → class (x .instruction) ≡ k → byFields k ≡ true → demandsMet T (relocateBy keep k p x) ≡ demandsMet T x
-    demands-moved k e f =
-        let g : byFields (class (relocateBy keep k p x .instruction)) ≡ true = rw (same-class k e) f in
-        let h : byFields (class (x .instruction)) ≡ true = rw e f in
-        demands-by T (relocateBy keep k p x) g ∙ sym (demands-by T x h)
+    same-demands : (k : Class) → class (x .instruction) ≡ k → isOutside k ≡ false → demandsMet T (relocateBy keep k p x) ≡ demandsMet T x
+    same-demands k e f =
+        let g : isOutside (class (relocateBy keep k p x .instruction)) ≡ false = rw (same-class k e) f in
+        let h : isOutside (class (x .instruction)) ≡ false = rw e f in
+        demands-by-class T (relocateBy keep k p x) g ∙ sym (demands-by-class T x h)
 
     relocated-demands : (k : Class) → class (x .instruction) ≡ k → demandsMet T (relocateBy keep k p x) ≡ demandsMet T x
-    unfolding relocateBy byFields
-    relocated-demands Hint e = demands-moved Hint e refl
+    unfolding relocateBy isOutside
+    relocated-demands Hint e = same-demands Hint e refl
     relocated-demands LoadInt e = refl
     relocated-demands LoadConst e = refl
     relocated-demands Copy e = refl
     relocated-demands CopyN e = refl
     relocated-demands Unary e = refl
     relocated-demands Binary e = refl
-    relocated-demands Jump e = demands-moved Jump e refl
-    relocated-demands JumpIf e = demands-moved JumpIf e refl
-    relocated-demands JumpIfNot e = demands-moved JumpIfNot e refl
-    relocated-demands ForLoop e = demands-moved ForLoop e refl
+    relocated-demands Jump e = same-demands Jump e refl
+    relocated-demands JumpIf e = same-demands JumpIf e refl
+    relocated-demands JumpIfNot e = same-demands JumpIfNot e refl
+    relocated-demands ForLoop e = same-demands ForLoop e refl
     relocated-demands Return e = refl
     relocated-demands Panic e = refl
     relocated-demands Outside e = refl

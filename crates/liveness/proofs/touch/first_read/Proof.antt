@@ -5,7 +5,7 @@ use Rattle.instruction.specs.Class.{namedClass}
 use Rattle.effects.specs.Form.{emptyRange}
 use Rattle.flow.proofs.Classes.{by-tags}
 use Rattle.liveness.specs.Sets.{range}
-use Rattle.effects.specs.Sound.{readsByClass}
+use Rattle.effects.specs.ByClass.{readsByClass}
 use borrow.Author.Needs.{needs}
 use Rattle.liveness.proofs.touch.first_read.Statement.{statement}
 use Rattle.liveness.proofs.touch.first_read.Tie as tie

@@ -4,7 +4,7 @@ use mathlib.Core.List.{[], _∷_}
 use borrow.Author.Tests.{not-true}
 use Rattle.instruction.specs.Class.{namedClass}
 use Rattle.flow.proofs.Classes.{by-test}
-use Rattle.effects.specs.Sound.{isOutside}
+use Rattle.effects.specs.ByClass.{isOutside}
 use borrow.Author.Needs.{needs}
 use Rattle.liveness.proofs.touch.is_outside.Statement.{statement}
 use Rattle.liveness.proofs.touch.is_outside.Tie as tie

@@ -4,7 +4,7 @@ use Prim.Native.Nat.{_*_}
 use lib.ListN.{length}
 use Rattle.unit.specs.Entry.{metadataAt}
 use Rattle.effects.specs.Shape.{Tables, Cell, tablesOf}
-use Rattle.effects.specs.Sound.{isOutside}
+use Rattle.effects.specs.ByClass.{isOutside}
 use Rattle.liveness.specs.Touched.{put-writes, writes-in}
 use borrow.Author.Needs.{needs}
 use Rattle.liveness.proofs.touch.put_writes.Statement.{statement}

@@ -5,7 +5,7 @@ use Rattle.instruction.specs.Class.{namedClass}
 use Rattle.effects.specs.Form.{emptyRange}
 use Rattle.flow.proofs.Classes.{by-tags}
 use Rattle.liveness.specs.Sets.{range}
-use Rattle.effects.specs.Sound.{writesByClass}
+use Rattle.effects.specs.ByClass.{writesByClass}
 use borrow.Author.Needs.{needs}
 use Rattle.liveness.proofs.touch.write.Statement.{statement}
 use Rattle.liveness.proofs.touch.write.Tie as tie
