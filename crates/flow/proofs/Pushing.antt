@@ -7,6 +7,7 @@ use Prim.Native.Nat.{ℕ, _+_}
 use native.Mathlib.Numerals.{add-one}
 use lib.Dec.{eqb, ltb, leb}
 use borrow.Author.Tests.{not-true}
+use Rattle.instruction.specs.Opcode.{maxValid}
 use Rattle.instruction.specs.declared.Instruction.{Instruction}
 use Rattle.instruction.specs.declared.Class.{Class}
 use Rattle.instruction.specs.Instruction.{class, ofWord, imm32Unsigned}
@@ -25,7 +26,7 @@ module _ (n sp p : ℕ) (i : Instruction) (st : List ℕ) where
   push-near t x a b e f one g h two = push-then n sp st (rw (f, e, add-one p) at one) (rw (g, e, h) at two)
 
   -- the block goes on: no branch
-  pub push-next : (e : Bool) {st₁ : List ℕ} {r₁ : ℕ} → e ≡ endsBlock (class i) → not e ≡ true → Pushed n sp (cond (leb (i .op) 135) ((p + 1) ∷ []) []) st st₁ r₁
+  pub push-next : (e : Bool) {st₁ : List ℕ} {r₁ : ℕ} → e ≡ endsBlock (class i) → not e ≡ true → Pushed n sp (cond (leb (i .op) maxValid) ((p + 1) ∷ []) []) st st₁ r₁
       → Pushed n sp (nearSuccessors p i) st st₁ r₁
   push-next e f g one =
       let ends : endsBlock (class i) ≡ false = sym f ∙ not-true e g in

@@ -49,7 +49,7 @@ one-free types row r e = rw (e, add-zero (r .start)) (go (freeSlot types row (r 
     go false = refl
 
 -- a pure instruction writes one range
-pure-inside : (k : Class) → isPure k ≡ true → isOutside k ≡ false
+pub pure-inside : (k : Class) → isPure k ≡ true → isOutside k ≡ false
 unfolding isPure isOutside
 pure-inside Hint e = refl
 pure-inside LoadInt e = refl

@@ -16,7 +16,7 @@ use Rattle.instruction.specs.Opcode as op
 use Rattle.instruction.specs.declared.Instruction.{Instruction}
 use Rattle.instruction.specs.declared.Class.{Class}
 use Rattle.instruction.specs.declared.Class.the-variants.{Hint, LoadInt, LoadConst, Copy, CopyN, Unary, Binary, Jump, JumpIf, JumpIfNot, ForLoop, Return, Panic, Outside, Invalid}
-use Rattle.instruction.specs.Class.{classOf, single}
+use Rattle.instruction.specs.Class.{classOf, single, numberOf}
 use Rattle.instruction.specs.Instruction.{imm32, plain, withImm32, class}
 use Rattle.unit.specs.declared.Constant.{Constant}
 use Rattle.unit.specs.declared.Constant.the-variants.{Nil, Bool as BoolConstant, Int, Float as FloatConstant, String, Missing}
@@ -33,29 +33,12 @@ use Rattle.values.specs.Fold.{foldWord, foldingUnary, foldingBinary, fitsImm32}
 use Rattle.values.specs.Table.{Values, Expression, valueOf, expressionIn}
 use Rattle.values.specs.Number.{setA, setB, setBC, constantAtom}
 use Rattle.values.specs.Named.{Named}
+use Rattle.liveness.specs.Single.{isSingle}
 use Rattle.run.specs.Machine.{Words, Event, World, State, at, put, goto, perform, silent, ask, stop, byReturn}
 use Rattle.run.specs.Program.{Function, hasMeaning, classIn, nodeBy, actBy, givenRanges, event, constantWord, unaryWord, binaryWord, slotsOf, slotsFrom}
 use Rattle.run.specs.Gives.{given-by-class}
 use Rattle.run.specs.Operands.{named-of, named-refusal, oneByOne}
 use Rattle.run.specs.Valuation.{Valuation, wordOf, expressionWord, wordOfExpression, Valid}
-
--- a class of instructions that give one slot one word
-unfoldable pub isSingle : Class → Bool
-isSingle Hint = false
-isSingle LoadInt = true
-isSingle LoadConst = true
-isSingle Copy = true
-isSingle CopyN = false
-isSingle Unary = true
-isSingle Binary = true
-isSingle Jump = false
-isSingle JumpIf = false
-isSingle JumpIfNot = false
-isSingle ForLoop = false
-isSingle Return = false
-isSingle Panic = false
-isSingle Outside = false
-isSingle Invalid = false
 
 isReturn : Class → Bool
 isReturn Hint = false
@@ -195,7 +178,7 @@ module _ (F : Function) (W : World) (p : ℕ) (σ : Words) (R : List Event) wher
   gave Invalid x = 0
 
   given-one : (k : Class) (x : Cell) → class (x .instruction) ≡ k → isSingle k ≡ true → givenRanges T x ≡ record { start = x .instruction .a; count = 1 } ∷ []
-  unfolding isSingle writesByClass isOutside
+  unfolding numberOf writesByClass isOutside
   given-one Hint x e s = absurd (false≢true s)
   given-one LoadInt x e s = given-by-class T x (rw e refl) ∙ rw e
   given-one LoadConst x e s = given-by-class T x (rw e refl) ∙ rw e
@@ -213,7 +196,7 @@ module _ (F : Function) (W : World) (p : ℕ) (σ : Words) (R : List Event) wher
   given-one Invalid x e s = absurd (false≢true s)
 
   pub do-single : (k : Class) (x : Cell) → class (x .instruction) ≡ k → isSingle k ≡ true → Meant x → doAt x ≡ Sets (x .instruction .a) (gave k x)
-  unfolding doAt nodeBy isSingle perform actBy goto gave
+  unfolding doAt nodeBy numberOf perform actBy goto gave
   do-single k x e s m = rw (meant x m, e, given-one k x e s) (go k s)
     where
       go : (k : Class) → isSingle k ≡ true
@@ -297,7 +280,7 @@ module _ (F : Function) (W : World) (p : ℕ) (σ : Words) (R : List Event) wher
 
   -- a single instruction's destination is one of the function's slots
   pub single-slot : (k : Class) (x : Cell) → class (x .instruction) ≡ k → isSingle k ≡ true → Meant x → x .instruction .a < S .locals
-  unfolding isSingle Named
+  unfolding numberOf Named
   single-slot Hint x e s m = absurd (false≢true s)
   single-slot LoadInt x e s m = named LoadInt x e m
   single-slot LoadConst x e s m = named LoadConst x e m
@@ -421,7 +404,7 @@ module _ (F : Function) (W : World) (p : ℕ) (σ : Words) (R : List Event) wher
 
       -- An instruction that is justified does the same.
       pub justified-same : (j : Instruction) → Justified S t i j → Meant (rewrite x j) → doAt (rewrite x j) ≡ doAt x
-      unfolding isSingle gave jumps targetBy classOf single wordOf
+      unfolding numberOf gave jumps targetBy classOf single wordOf
       justified-same j stays n = refl
       justified-same j (operand (inl e) v l) n = both-single Copy Copy (rewrite x j) e refl e refl refl n (same-word v)
       justified-same j (operand (inr e) v l) n = both-single Unary Unary (rewrite x j) e refl e refl refl n (rw (same-word v))

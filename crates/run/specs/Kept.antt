@@ -20,7 +20,7 @@ use Rattle.effects.specs.Shape.{Tables, Sections, Cell, cellAt}
 use Rattle.effects.specs.Sound.{sound}
 use Rattle.effects.specs.Effects.{allReads, writes, rangeHas, allOf, anyOf}
 use Rattle.effects.specs.Check.{operandRefusal}
-use Rattle.effects.specs.ByClass.{isOutside, writesByClass}
+use Rattle.effects.specs.ByClass.{isOutside}
 use Rattle.flow.specs.Branch.{falls, branches, target}
 use Rattle.flow.specs.Block.{blockCount}
 use Rattle.flow.specs.Loop.{reachedPlaces, anchors}
@@ -33,12 +33,13 @@ use Rattle.liveness.specs.Live.{Row, noRow, solveIn, liveRows, maxLivenessWork}
 use Rattle.liveness.specs.Dead.{unread, isDead, sweepFrom, withoutDead, deadStores}
 use Rattle.liveness.specs.Sweep.{sweep-flags, sweep-long}
 use Rattle.liveness.specs.Rows.{bit, Wide, start-wide}
+use Rattle.liveness.specs.Unread.{pure-inside}
 use Rattle.answer.specs.Jump.{jumpRounds}
 use Rattle.answer.specs.Pass.{usefulPlaces, keptPlaces}
 use Rattle.run.specs.Machine.{SameRuns}
 use Rattle.run.specs.Program.{Function, givenRanges, slotsOf, programOf}
 use Rattle.run.specs.Returned.{resultFunction}
-use Rattle.run.specs.Gives.{given-writes, given-by-class}
+use Rattle.run.specs.Gives.{given-writes, jump-gives}
 use Rattle.words.specs.Truth.{left-true, right-true}
 use Rattle.run.specs.Step.{Succ, next, branch}
 use Rattle.run.specs.Frame.{In, slots-any, slots-within, any-left}
@@ -94,24 +95,6 @@ pure-passes Return e = e
 pure-passes Panic e = e
 pure-passes Outside e = e
 pure-passes Invalid e = e
-
-pure-inside : (k : Class) → isPure k ≡ true → isOutside k ≡ false
-unfolding isPure isOutside
-pure-inside Hint e = refl
-pure-inside LoadInt e = refl
-pure-inside LoadConst e = refl
-pure-inside Copy e = refl
-pure-inside CopyN e = refl
-pure-inside Unary e = refl
-pure-inside Binary e = refl
-pure-inside Jump e = refl
-pure-inside JumpIf e = refl
-pure-inside JumpIfNot e = refl
-pure-inside ForLoop e = refl
-pure-inside Return e = refl
-pure-inside Panic e = refl
-pure-inside Outside e = sym e
-pure-inside Invalid e = sym e
 
 dead-pure : (S : Sections) (x : Cell) (a : Row) → isDead S x a ≡ true → isPure (class (x .instruction)) ≡ true
 unfolding isDead
@@ -235,10 +218,6 @@ module _ (G : Function) (leaders : List ℕ) (N : Removing G leaders) where
         go true e = absurd (true≢false (sym (any-left (rangeHas s) (writes T (cell p)) _ e) ∙ w))
         go false e = e
 
-    jump-gives : (p s : ℕ) → class (cell p .instruction) ≡ Jump → anyOf (rangeHas s) (givenRanges T (cell p)) ≡ false
-    unfolding isOutside writesByClass anyOf
-    jump-gives p s k = rw (given-by-class T (cell p) (rw k refl), k)
-
     -- a place that is gone passes on what is live
     gone-live : (p : ℕ) → p < n → remains p ≡ false → passes (class (cell p .instruction)) ≡ true → (s : ℕ) → Live (suc p) s → Live p s
     gone-live p h e k s v =
@@ -261,7 +240,7 @@ module _ (G : Function) (leaders : List ℕ) (N : Removing G leaders) where
     drops-live p h r e = go (isKept keep p) refl
       where
         jumped : (s : ℕ) → class (cell p .instruction) ≡ Jump → Live (target p (cell p .instruction)) s → Live p s
-        jumped s c v = let b : branches (class (cell p .instruction)) ≡ true = rw c refl in passes-on p h _ (branch b) s v (jump-gives p s c)
+        jumped s c v = let b : branches (class (cell p .instruction)) ≡ true = rw c refl in passes-on p h _ (branch b) s v (jump-gives T (cell p) c s)
 
         gone : remains p ≡ false → (t : Bool) → isKept useful p ≡ t → Dropped G final Reach Live p
         gone g true k =

@@ -25,11 +25,13 @@ use Rattle.values.specs.Fold.{foldWord, foldingUnary, foldingBinary, fitsImm32}
 use Rattle.values.specs.Table.{sameAtom, Values, Expression, Represented, empty, atStart, valueIn, valueOf, slotIn, expressionIn, usable, recordedSlot, orItself, representative, store, learn}
 use Rattle.values.specs.Number.{Numbered, setA, setB, setBC, constantAtom, foldUnary, foldBinary, loadOrStay, isScalar, stored, copyOrStay, byExpression, byValue, numberUnary, numberBinary, numberCopy, numberConstant, numberRead, decided, numberJump, numberBy, cleared, number}
 use Rattle.values.specs.Named.{Named}
+use Rattle.instruction.specs.Class.{numberOf}
+use Rattle.liveness.specs.Single.{isSingle}
 use Rattle.run.specs.Machine.{Words, Event, World, put}
 use Rattle.run.specs.Program.{Function}
 use Rattle.run.specs.Small.{sign-small, fold-small}
 use Rattle.run.specs.Valuation.{Valuation, wordOf, wordOfExpression, Below, integer, float, initially, before, BelowBoth, below-suc, same-atom, Static, static-empty, static-suc, static-hold, static-record, static-learn, Valid, hold, recorded, valid-hold, valid-record, valid-learn, define, word-new}
-use Rattle.run.specs.Justified.{isSingle, unaryExpression, binaryExpression, Stores, loads, constant, copies, foldsOne, foldsTwo, equalsOne, equalsTwo, Justified, stays, operand, operands, tested, returned, loaded, copied, takenIf, takenIfNot, passedIf, passedIfNot, oneSlot, one-slot, doAt, Sets, Meant, gave, do-single, stores-word, word-one, word-two, named, single-slot}
+use Rattle.run.specs.Justified.{unaryExpression, binaryExpression, Stores, loads, constant, copies, foldsOne, foldsTwo, equalsOne, equalsTwo, Justified, stays, operand, operands, tested, returned, loaded, copied, takenIf, takenIfNot, passedIf, passedIfNot, oneSlot, one-slot, doAt, Sets, Meant, gave, do-single, stores-word, word-one, word-two, named, single-slot}
 
 -- ---- the recorded slot
 
@@ -245,7 +247,7 @@ module _ (F : Function) (W : World) (p : ℕ) (σ : Words) (R : List Event) wher
     fold-two e (Definition q′ s) w v q = let z : _≡_ {A = ℕ} 0 1 = cc in absurd (omega arith)
 
     unary-sound : class i ≡ Unary → Sound (numberUnary S p i t)
-    unfolding numberUnary isSingle Named
+    unfolding numberUnary numberOf Named
     unary-sound c =
         let r : Represented = representative (S .types) t (i .b) in
         let st : Stands t (i .b) r = stands (S .types) t (i .b) in
@@ -267,7 +269,7 @@ module _ (F : Function) (W : World) (p : ℕ) (σ : Words) (R : List Event) wher
         (rw (← f .3) (foldsOne c (f .2) k), rw (← f .3) (fold-small (i .op) (i .flags) (f .0) 0 y)))
 
     binary-sound : class i ≡ Binary → Sound (numberBinary S p i t)
-    unfolding numberBinary isSingle Named
+    unfolding numberBinary numberOf Named
     binary-sound c =
         let l : Represented = representative (S .types) t (i .b) in
         let r : Represented = representative (S .types) (l .table) (i .c) in
@@ -297,7 +299,7 @@ module _ (F : Function) (W : World) (p : ℕ) (σ : Words) (R : List Event) wher
         (rw (← f .5) (foldsTwo c (f .4) j k), rw (← f .5) (fold-small (i .op) (i .flags) (f .0) (f .1) y)))
 
     copies-sound : class i ≡ Copy → Sound (numberCopy S i t)
-    unfolding numberCopy stored isSingle Named
+    unfolding numberCopy stored numberOf Named
     copies-sound c =
         let r : Represented = representative (S .types) t (i .b) in
         let st : Stands t (i .b) r = stands (S .types) t (i .b) in
@@ -310,7 +312,7 @@ module _ (F : Function) (W : World) (p : ℕ) (σ : Words) (R : List Event) wher
         }
 
     load-int-sound : class i ≡ LoadInt → Fields i → Sound (stored S i t (Integer (imm32 i)))
-    unfolding stored isSingle
+    unfolding stored numberOf
     load-int-sound c f =
         let k : i .b + 65536 * i .c < 2 ^ 32 = omega arith in
         record {
@@ -321,7 +323,7 @@ module _ (F : Function) (W : World) (p : ℕ) (σ : Words) (R : List Event) wher
 
     constant-sound : class i ≡ LoadConst → ((v : Atom) → constantAtom (constantAt (S .constants) (i .b)) ≡ some v → Below p v)
         → Sound (numberConstant S i t (constantAtom (constantAt (S .constants) (i .b))))
-    unfolding isSingle
+    unfolding numberOf
     constant-sound c small = go (constantAtom (constantAt (S .constants) (i .b))) refl
       where
         go : (o : Option Atom) → constantAtom (constantAt (S .constants) (i .b)) ≡ o → Sound (numberConstant S i t o)

@@ -17,7 +17,6 @@ use Rattle.instruction.specs.Instruction.{class}
 use Rattle.effects.specs.Shape.{Tables, Sections, Cell, cellAt}
 use Rattle.effects.specs.Effects.{allReads, rangeHas, anyOf}
 use Rattle.effects.specs.Check.{operandRefusal}
-use Rattle.effects.specs.ByClass.{isOutside, writesByClass}
 use Rattle.flow.specs.Branch.{falls, branches, targetBy, target}
 use Rattle.flow.specs.Flags.{Flags}
 use Rattle.pc_map.specs.Boundary.{isKept, boundary}
@@ -28,7 +27,7 @@ use Rattle.run.specs.Machine.{Words, Event, World, Act, silent, Node, Pr
 use Rattle.run.specs.Removal.{Agree, SameAct, Goes, Kept, Gone, Removal, removal}
 use Rattle.run.specs.Program.{Function, hasMeaning, classIn, nodeBy, actBy, givenRanges, slotsOf, programOf}
 use Rattle.run.specs.Returned.{resultFunction}
-use Rattle.run.specs.Gives.{given-by-class}
+use Rattle.run.specs.Gives.{jump-gives}
 use Rattle.run.specs.Step.{Succ, next, branch, goes-succ}
 use Rattle.run.specs.Frame.{In, frame}
 use Rattle.run.specs.Retained.{kept-at, kept-long, kept-inside}
@@ -174,11 +173,6 @@ module _ (F : Function) (keep : List ℕ) (reach : ℕ → Type 0) (live : ℕ �
       passing Outside x σ e = absurd (false≢true e)
       passing Invalid x σ e = absurd (false≢true e)
 
-      -- a jump gives no slot a word
-      jump-gives : (p s : ℕ) → classAt p ≡ Jump → gives p s ≡ false
-      unfolding isOutside writesByClass anyOf
-      jump-gives p s k = rw (given-by-class T (cell p) (rw k refl), k)
-
       jumping : (x : Cell) (σ : Words) (k : Class) → k ≡ Jump → (w : Words) × (actBy (F .sections) W x k σ ≡ silent w true)
       unfolding actBy
       jumping x σ k e = rw e (_, refl)
@@ -201,7 +195,7 @@ module _ (F : Function) (keep : List ℕ) (reach : ℕ → Type 0) (live : ℕ �
         stays = rw (class-given p h, k) b;
         reach+ = rw (class-given p h) (A .onward p h r _ (branch (rw k refl)));
         live+ = rw (class-given p h, k) l+;
-        unread = λ s m. jump-gives p s k;
+        unread = λ s m. jump-gives T (cell p) k s;
       }
 
       sound : Removal reach live (boundary keep) (programOf F W) (programOf F′ W)
