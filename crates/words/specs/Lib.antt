@@ -1,5 +1,6 @@
 pub mod Regions
 pub mod Only
+pub mod Zeros
 pub mod Inside
 pub mod Le
 pub mod Bytes
