@@ -16,7 +16,7 @@ use unit::{Answer, Section, Unit};
 const LENGTHS: [usize; 5] = [20, 200, 2_000, 9_700, 65_536];
 
 /// A sample runs so many instructions at least, so that the clock counts for little.
-const SAMPLE: usize = 20_000;
+const SAMPLE: usize = 262_144;
 
 /// Samples are taken for so long, between the least and the most of them.
 const PATIENCE: Duration = Duration::from_millis(600);
