@@ -28,7 +28,8 @@ use Rattle.run.specs.Checked.{Well}
 use Rattle.run.specs.Given.{instruction-fields, constants-below}
 use Rattle.run.specs.Program.{Function}
 use Rattle.run.specs.Returned.{resultFunction}
-use Rattle.optimize.specs.Parts.{Given, Room, sectionsIn, cellsIn, cells-in}
+use Rattle.removal.specs.Kept.{sectionsIn}
+use Rattle.optimize.specs.Parts.{Given, Room, cellsIn, cells-in}
 use Rattle.clean.specs.Reading.{AllFit, placeSize, codeIn, metadataIn, placesIn, retainedIn, retainedAt, noRetained, metadata-in, places-in, metadata-back, retained-back}
 use Rattle.clean.specs.Fitting.{AllSound, Again, optimized-again, placed-long, placed-fits}
 use Rattle.clean.specs.Placing.{composed}

@@ -30,8 +30,8 @@ use Rattle.pc_map.specs.Listed.{keptList}
 use Rattle.answer.specs.Pass.{Outcome, refused, checked, removal}
 use Rattle.values.specs.Named.{Named}
 use Rattle.run.specs.Operands.{named-of}
-use Rattle.optimize.specs.Parts.{Given, Room, Checked, wordsIn, words-long, wordsOf, sectionsIn, cellsIn, numberedCode, reachedMarks, retainedPlaces, afterLoops}
-use Rattle.optimize.specs.Kept.{keepAt, listAt, Retainable, Retains}
+use Rattle.optimize.specs.Parts.{Given, Room, Checked, wordsIn, words-long, wordsOf, cellsIn, numberedCode, reachedMarks, retainedPlaces, afterLoops}
+use Rattle.removal.specs.Kept.{sectionsIn, keepAt, listAt, Retainable, Retains}
 use Rattle.optimize.specs.Numbered.{given-long, numbered-size, cells-back, numbered-operands, numbered-inside}
 use Rattle.optimize.specs.Steps.{Renumbered, Marks, Reached, Numberable, Finished}
 

@@ -1,14 +1,8 @@
 pub mod Parts
-pub mod Jumping
-pub mod Kept
 pub mod Whole
 pub mod Steps
 pub mod Listing
 pub mod Numbered
 pub mod Chain
 pub mod Concluded
-pub mod Retained
-pub mod Retaining
-pub mod Cleared
 pub mod Loading
-pub mod Rounding

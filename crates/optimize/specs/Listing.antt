@@ -13,8 +13,8 @@ use Rattle.flow.specs.Flags.{Flags, sum-most}
 use Rattle.words.specs.Only.{mid-mid, back-within}
 use Rattle.pc_map.specs.Boundary.{boundary}
 use Rattle.pc_map.specs.Listed.{keptList}
-use Rattle.optimize.specs.Jumping.{mapOf}
-use Rattle.optimize.specs.Kept.{keepAt, listAt, Retains}
+use Rattle.removal.specs.Jumping.{mapOf}
+use Rattle.removal.specs.Kept.{keepAt, listAt, Retains}
 
 module _ {n : ℕ} {metadata types constants functions externs cases work32 work64 work32′ work64′ : List ℕ} (d : Retains n metadata types constants functions externs cases work32 work64 work32′ work64′)
     (few : n ≤ maxInstructions) (room : work32Room n ≤ length work32′) where

@@ -1,4 +1,4 @@
--- The loops of `load`, `is_same` and `drop_hints`.
+-- The loops of `load` and `is_same`.
 -- Assumes nothing.
 use mathlib.Core.Path.{_≡_, refl, sym, ap, _∙_}
 use mathlib.Core.Bool.{Bool, true, false, _&&_, false≢true}
@@ -7,16 +7,12 @@ use Prim.Native.Nat.{ℕ, _+_, _≤_, _<_}
 use native.Mathlib.Omega.{arith}
 use lib.Dec.{eqb}
 use lib.ListN.{length, getD, take, set, length-set}
-use lib.Seq.{set-getD, take-length}
+use lib.Seq.{set-getD}
 use borrow.Author.Tests.{eqb-true, eq-eqb}
 use Rattle.words.specs.Lists.{tabulate, getD-tabulate}
 use Rattle.words.specs.Tabulate.{tabulated-turn, tabulated-end}
-use Rattle.instruction.specs.Instruction.{instructionAt, toWord, ofWord}
-use Rattle.effects.specs.Cells.{cellsBy}
-use Rattle.flow.specs.Loop.{isPlainHint}
-use Rattle.answer.specs.Pass.{usefulPlaces}
+use Rattle.instruction.specs.Instruction.{instructionAt, toWord}
 use Rattle.optimize.specs.Parts.{wordsIn, sameWords}
-use Rattle.optimize.specs.Cleared.{Cleared, cleared-cells}
 
 -- the first p words are the code's
 pub record Loaded (code words : List ℕ) (p : ℕ) : Type 0 where
@@ -72,15 +68,3 @@ module _ (code words : List ℕ) where
       go true e =
           absurd (n (sym (getD-tabulate (length words) (λ q. toWord (instructionAt code q)) p 0 h) ∙ ap (λ (l : List ℕ). getD l p 0) (same-sound (wordsIn (length words) code) words e)))
       go false e = refl
-
--- ---- `drop_hints`
-abbrev pub hintAt : List ℕ → ℕ → Bool
-hintAt words p = isPlainHint (ofWord (getD words p 0))
-
-pub hints-dropped : (words keep₀ keep metadata : List ℕ) → length keep₀ ≡ length words → Cleared (hintAt words) keep₀ keep (length words) → keep ≡ usefulPlaces keep₀ (cellsBy words metadata)
-unfolding usefulPlaces
-hints-dropped words keep₀ keep metadata e c =
-    let whole : (l : List ℕ) → length l ≡ length words → take (length words) l ≡ l = λ l f. rw (← f) (take-length l) in
-    sym (whole keep (c .long ∙ e))
-    ∙ cleared-cells (hintAt words) keep₀ words metadata (λ p x. isPlainHint (x .instruction)) (λ p h. refl) keep (omega arith) c
-    ∙ ap (λ (l : List ℕ). usefulPlaces l (cellsBy words metadata)) (whole keep₀ e)

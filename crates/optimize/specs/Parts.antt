@@ -17,7 +17,7 @@ use Rattle.unit.specs.Size.{instructionSize, metadataSize, caseSize, resultSize
 use Rattle.effects.specs.declared.Check.{Check}
 use Rattle.effects.specs.declared.Check.the-variants.{Passed}
 use Rattle.effects.specs.Check.{operandCheck}
-use Rattle.effects.specs.Shape.{Sections, Cell, cellAt, noCell, tablesOf}
+use Rattle.effects.specs.Shape.{Sections, Cell, cellAt, noCell}
 use Rattle.effects.specs.Cells.{cellOf, cellsBy, cells-long, cell-at}
 use Rattle.flow.specs.Branch.{branchCheck}
 use Rattle.flow.specs.Block.{leaders}
@@ -64,10 +64,6 @@ sameWords [] [] = true
 sameWords [] (y ∷ ys) = false
 sameWords (x ∷ xs) [] = false
 sameWords (x ∷ xs) (y ∷ ys) = eqb x y && sameWords xs ys
-
--- the sections that stay; "number of types is not s" was refused
-abbrev pub sectionsIn : List ℕ → List ℕ → List ℕ → List ℕ → List ℕ → Sections
-sectionsIn types constants functions externs cases = record { locals = length types; types = types; constants = constants; tables = tablesOf functions externs cases }
 
 -- the function's cells
 abbrev pub cellsIn : ℕ → List ℕ → List ℕ → List Cell

@@ -29,7 +29,7 @@ use Rattle.pc_map.specs.Listed.{keptList, Listed}
 use Rattle.optimize.specs.Parts.{numberedCode, reachedMarks, wordsOf}
 use Rattle.answer.specs.Pass.{removal}
 use Rattle.optimize.specs.Parts.{cellsIn}
-use Rattle.optimize.specs.Kept.{keepAt, listAt}
+use Rattle.removal.specs.Kept.{keepAt, listAt}
 
 -- the code is numbered
 pub record Renumbered (S : Sections) (cells : List Cell) (n : ℕ) (work32 work64 : List ℕ) : Type 0 where

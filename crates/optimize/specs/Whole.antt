@@ -17,7 +17,8 @@ use Rattle.effects.specs.Shape.{Sections, Cell}
 use Rattle.answer.specs.Pass.{isWorkedOn}
 use Rattle.words.specs.Truth.{left-true, right-true}
 use Rattle.run.specs.Passed.{worked-size}
-use Rattle.optimize.specs.Parts.{Given, Room, sectionsIn, cellsIn, cells-in}
+use Rattle.removal.specs.Kept.{sectionsIn}
+use Rattle.optimize.specs.Parts.{Given, Room, cellsIn, cells-in}
 use Rattle.unit.specs.Layout.{headerOf, codeOf, metadataOf, typesOf, constantsOf, functionsOf, externsOf, casesOf, isUnit}
 use Rattle.unit.specs.Refusal.{notUnit, shortBuffer, metadataCount, typeCount}
 use Rattle.answer.specs.Pass.{Outcome, unchanged, refused, optimized}

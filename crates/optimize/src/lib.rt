@@ -1,9 +1,7 @@
 // One pass over a function: `optimize_function`.
 mod code;
-mod jump;
 pub mod parts;
 pub mod pass;
-mod retain;
 
 // What a pass answers: unchanged, refused with number and place, or rewritten to so many instructions.
 pub enum Answer {

@@ -12,13 +12,12 @@ ghost use Rattle.effects.specs.Cells.{cellsBy};
 ghost use Rattle.flow.specs.BranchLaws.{BranchesInside};
 ghost use Rattle.pc_map.specs.Listed.{Listed};
 ghost use Rattle.answer.specs.Pass.{optimized, removal};
-ghost use Rattle.optimize.specs.Parts.{Tells, wordsIn, sectionsIn, cellsIn, Given, Room, Checked, afterOperands, afterBranches, afterLoops};
+ghost use Rattle.removal.specs.Kept.{sectionsIn, keepAt};
+ghost use Rattle.optimize.specs.Parts.{Tells, wordsIn, cellsIn, Given, Room, Checked, afterOperands, afterBranches, afterLoops};
 ghost use Rattle.numbering.specs.Walk.{sectionsOf};
-ghost use Rattle.optimize.specs.Kept.{keepAt};
 ghost use Rattle.optimize.specs.Steps.{Finished, Marks, Reached, Renumbered, Numberable};
 use crate::Answer;
 use crate::code;
-use crate::retain;
 use effects::Check;
 use effects::operands;
 use flow::block;
@@ -29,6 +28,7 @@ use numbering::walk;
 use pc_map::boundary;
 use pc_map::relocation;
 use pc_map::retained;
+use removal::retain;
 
 // "unchanged: same code, all kept", refusal 10, or rewritten.
 fn conclude(

@@ -2,7 +2,8 @@ use mathlib.Core.Path.{refl, _∙_}
 use Prim.Native.Nat.{_-_}
 use native.Mathlib.Omega.{arith}
 use Rattle.answer.specs.Pass.{refused}
-use Rattle.optimize.specs.Parts.{tells-refused, tells-same, sectionsIn}
+use Rattle.removal.specs.Kept.{sectionsIn}
+use Rattle.optimize.specs.Parts.{tells-refused, tells-same}
 use Rattle.optimize.specs.Chain.{checked-refused, checked-passed, same-room, reached-marks, reached-answer}
 use borrow.Author.Needs.{needs}
 use Rattle.optimize.proofs.parts.after_branches.Statement.{statement}

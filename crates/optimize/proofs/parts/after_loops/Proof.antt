@@ -4,7 +4,8 @@ use Prim.Native.Nat.{ℕ, _≤_}
 use native.Mathlib.Omega.{arith}
 use lib.ListN.{length}
 use Rattle.unit.specs.Size.{work32Room}
-use Rattle.optimize.specs.Parts.{tells-same, sectionsIn}
+use Rattle.removal.specs.Kept.{sectionsIn}
+use Rattle.optimize.specs.Parts.{tells-same}
 use Rattle.optimize.specs.Chain.{marks-retainable, kept-finished, kept-answer}
 use Rattle.optimize.specs.Listing.{list-asks, list-retains}
 use borrow.Author.Needs.{needs}

@@ -4,7 +4,8 @@ use native.Mathlib.Omega.{arith}
 use lib.ListN.{length}
 use Rattle.effects.specs.Shape.{tablesOf}
 use Rattle.answer.specs.Pass.{refused}
-use Rattle.optimize.specs.Parts.{tells-refused, tells-same, sectionsIn}
+use Rattle.removal.specs.Kept.{sectionsIn}
+use Rattle.optimize.specs.Parts.{tells-refused, tells-same}
 use Rattle.optimize.specs.Chain.{checked-refused, checked-passed, same-room, loaded-numberable, loaded-branches, loaded-renumbered}
 use borrow.Author.Needs.{needs}
 use Rattle.optimize.proofs.parts.after_operands.Statement.{statement}

@@ -2,7 +2,8 @@ use mathlib.Core.Path.{refl, sym, _∙_}
 use Prim.Native.Nat.{_-_}
 use native.Mathlib.Omega.{arith}
 use Rattle.answer.specs.Pass.{refused}
-use Rattle.optimize.specs.Parts.{tells-refused, tells-same, sectionsIn, optimized-steps}
+use Rattle.removal.specs.Kept.{sectionsIn}
+use Rattle.optimize.specs.Parts.{tells-refused, tells-same, optimized-steps}
 use Rattle.optimize.specs.Chain.{checked-refused, checked-passed, same-room, load-part, load-front, load-long, operands-asks, operands-answer}
 use borrow.Author.Needs.{needs}
 use Rattle.optimize.proofs.parts.optimize.Statement.{statement}

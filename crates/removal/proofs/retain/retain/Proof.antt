@@ -1,9 +1,9 @@
 use Prim.Native.Nat.{_-_}
 use native.Mathlib.Omega.{arith}
-use Rattle.optimize.specs.Retaining.{hints-retainable, jumps-asks, jumps-retained}
+use Rattle.removal.specs.Retaining.{hints-retainable, jumps-asks, jumps-retained}
 use borrow.Author.Needs.{needs}
-use Rattle.optimize.proofs.retain.retain.Statement.{statement}
-use Rattle.optimize.proofs.retain.retain.Tie as tie
+use Rattle.removal.proofs.retain.retain.Statement.{statement}
+use Rattle.removal.proofs.retain.retain.Tie as tie
 
 mul-at : tie.Need-mul-at
 mul-at c = search needs

@@ -1,10 +1,10 @@
 use Prim.Native.Nat.{_-_}
 use native.Mathlib.Omega.{arith}
 use lib.ListN.{length}
-use Rattle.optimize.specs.Retained.{hints-useful}
+use Rattle.removal.specs.Retained.{hints-useful}
 use borrow.Author.Needs.{needs}
-use Rattle.optimize.proofs.retain.drop_hints.Statement.{statement}
-use Rattle.optimize.proofs.retain.drop_hints.Tie as tie
+use Rattle.removal.proofs.retain.drop_hints.Statement.{statement}
+use Rattle.removal.proofs.retain.drop_hints.Tie as tie
 
 mul-mark-anchors : tie.Need-mul-mark-anchors
 mul-mark-anchors c = search needs

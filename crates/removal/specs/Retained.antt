@@ -25,9 +25,8 @@ use Rattle.liveness.specs.Droppable.{Droppable}
 use Rattle.liveness.specs.Sweep.{dead-long}
 use Rattle.run.specs.Optimized.{useful-long}
 use Rattle.answer.specs.Pass.{keptPlaces, usefulPlaces}
-use Rattle.optimize.specs.Jumping.{Rounds, endsIn, mapOf}
-use Rattle.optimize.specs.Parts.{sectionsIn}
-use Rattle.optimize.specs.Kept.{keepAt, endsAt, Useful, Stored, Retainable, Retains}
+use Rattle.removal.specs.Jumping.{Rounds, endsIn, mapOf}
+use Rattle.removal.specs.Kept.{sectionsIn, keepAt, endsAt, Useful, Stored, Retainable, Retains}
 
 mark-long : (l qs : List ℕ) → length (markAll l qs) ≡ length l
 unfolding markAll

@@ -27,8 +27,8 @@ use Rattle.flow.specs.Flags.{Flags}
 use Rattle.pc_map.specs.Boundary.{boundary}
 use Rattle.answer.specs.Jump.{isIdle, dropIdle, jumpRounds}
 use Rattle.run.specs.Jumps.{round-long, round-flags}
-use Rattle.optimize.specs.Jumping.{Rounds, endsIn, mapOf, idleIn}
-use Rattle.optimize.specs.Cleared.{Cleared, cleared-cells, cleared-only}
+use Rattle.removal.specs.Jumping.{Rounds, endsIn, mapOf, idleIn}
+use Rattle.removal.specs.Cleared.{Cleared, cleared-cells, cleared-only}
 
 -- ---- the test of a jump
 

@@ -1,7 +1,7 @@
-use Rattle.optimize.specs.Rounding.{round-asks, round-does}
+use Rattle.removal.specs.Rounding.{round-asks, round-does}
 use borrow.Author.Needs.{needs}
-use Rattle.optimize.proofs.jump.round.Statement.{statement}
-use Rattle.optimize.proofs.jump.round.Tie as tie
+use Rattle.removal.proofs.jump.round.Statement.{statement}
+use Rattle.removal.proofs.jump.round.Tie as tie
 
 drop-idle-requires : tie.Need-drop-idle-requires
 drop-idle-requires c κs = round-asks _ _ _ (c .before .before .before .before .before .before .before .pre .0) (c .before .before .before .boundaries .ensures .0)

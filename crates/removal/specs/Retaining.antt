@@ -34,9 +34,8 @@ use Rattle.run.specs.Optimized.{useful-flags, useful-long}
 use Rattle.liveness.specs.Live.{Row, liveAfter, liveRows}
 use Rattle.answer.specs.Jump.{jumpRounds}
 use Rattle.answer.specs.Pass.{keptPlaces, usefulPlaces}
-use Rattle.optimize.specs.Jumping.{Rounds, endsIn, mapOf}
-use Rattle.optimize.specs.Parts.{sectionsIn}
-use Rattle.optimize.specs.Kept.{keepAt, endsAt, Useful, Stored, Retainable, Retains}
+use Rattle.removal.specs.Jumping.{Rounds, endsIn, mapOf}
+use Rattle.removal.specs.Kept.{sectionsIn, keepAt, endsAt, Useful, Stored, Retainable, Retains}
 
 module _ (n k : ℕ) (metadata types functions externs cases work32 work64 hinted : List ℕ) (e : k ≡ n)
     (d : Retainable (tablesOf functions externs cases) n (midOf 0 n work64) metadata types (midOf 0 n work32) (midOf (keepAt n) n work32) (length work32) (length work64))

@@ -1,11 +1,11 @@
 use Prim.Native.Nat.{_+_, _<_}
 use native.Mathlib.Omega.{arith}
 use lib.ListN.{length}
-use Rattle.optimize.specs.Jumping.{no-jump, not-kept, loop-end, all-three}
-use Rattle.optimize.specs.Rounding.{jump-inside}
+use Rattle.removal.specs.Jumping.{no-jump, not-kept, loop-end, all-three}
+use Rattle.removal.specs.Rounding.{jump-inside}
 use borrow.Author.Needs.{needs}
-use Rattle.optimize.proofs.jump.is_idle.Statement.{statement}
-use Rattle.optimize.proofs.jump.is_idle.Tie as tie
+use Rattle.removal.proofs.jump.is_idle.Statement.{statement}
+use Rattle.removal.proofs.jump.is_idle.Tie as tie
 
 returns : tie.Need-returns
 returns c = let s = c .before .before .before .before .before .before in no-jump _ (s .args .work .now) _ _ _ (c .before .before .from-word .ensures) (c .if1 .taken)

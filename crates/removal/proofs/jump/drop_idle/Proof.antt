@@ -4,11 +4,11 @@ use mathlib.Core.Bool.{false, true≢false}
 use Prim.Native.Nat.{_-_, _≤_}
 use native.Mathlib.Omega.{arith}
 use lib.ListN.{length}
-use Rattle.optimize.specs.Cleared.{Cleared, cleared-none, cleared-on, cleared-off}
-use Rattle.optimize.specs.Rounding.{idleAt, idle-left, idle-dropped}
+use Rattle.removal.specs.Cleared.{Cleared, cleared-none, cleared-on, cleared-off}
+use Rattle.removal.specs.Rounding.{idleAt, idle-left, idle-dropped}
 use borrow.Author.Needs.{needs}
-use Rattle.optimize.proofs.jump.drop_idle.Statement.{statement}
-use Rattle.optimize.proofs.jump.drop_idle.Tie as tie
+use Rattle.removal.proofs.jump.drop_idle.Statement.{statement}
+use Rattle.removal.proofs.jump.drop_idle.Tie as tie
 
 abbrev Inv-loop : tie.InvT-loop
 Inv-loop words work₀ n dropped₀ p₀ work dropped p = (p ≤ length words) × Cleared (idleAt words work₀) work₀ work p × (dropped ≡ false → work ≡ work₀)

@@ -8,9 +8,9 @@ ghost use lib.ListN.{length};
 ghost use borrow.Rule.Slice.PartMut.{midOf};
 ghost use Rattle.unit.specs.Size.{metadataSize, maxInstructions};
 ghost use Rattle.effects.specs.Shape.{tablesOf};
-ghost use Rattle.optimize.specs.Kept.{Retainable, Retains, Useful, Stored, keepAt};
-use crate::code;
+ghost use Rattle.removal.specs.Kept.{Retainable, Retains, Useful, Stored, keepAt};
 use crate::jump;
+use crate::plain;
 use flow::block;
 use flow::hint;
 use liveness::stores;
@@ -22,7 +22,7 @@ fn drop_hints(words: &[u64], metadata: &[u8], work: &mut [u32])
 {
     let n = words.len();
     hint::mark_anchors(words, metadata, work, 2 * n + 1);
-    code::drop_hints(words, &mut work[0..n]);
+    plain::drop_hints(words, &mut work[0..n]);
 }
 
 // The blocks, then dead stores are not kept.

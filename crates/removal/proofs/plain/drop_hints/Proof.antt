@@ -4,11 +4,11 @@ use Prim.Native.Nat.{_-_, _≤_}
 use native.Mathlib.Omega.{arith}
 use lib.ListN.{length}
 use Rattle.flow.specs.Loop.{isPlainHint}
-use Rattle.optimize.specs.Cleared.{Cleared, cleared-none, cleared-on, cleared-off}
-use Rattle.optimize.specs.Loading.{hintAt, hints-dropped}
+use Rattle.removal.specs.Cleared.{Cleared, cleared-none, cleared-on, cleared-off}
+use Rattle.removal.specs.Plain.{hintAt, hints-dropped}
 use borrow.Author.Needs.{needs}
-use Rattle.optimize.proofs.code.drop_hints.Statement.{statement}
-use Rattle.optimize.proofs.code.drop_hints.Tie as tie
+use Rattle.removal.proofs.plain.drop_hints.Statement.{statement}
+use Rattle.removal.proofs.plain.drop_hints.Tie as tie
 
 abbrev Inv-loop : tie.InvT-loop
 Inv-loop words keep₀ p₀ keep p = (p ≤ length words) × Cleared (hintAt words) keep₀ keep p

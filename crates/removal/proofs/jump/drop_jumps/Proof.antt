@@ -1,10 +1,10 @@
 use mathlib.Core.Path.{_∙_}
 use native.Mathlib.Omega.{arith}
 use borrow.Author.Tests.{not-true}
-use Rattle.optimize.specs.Rounding.{Rounding, rounding-begin, rounding-asks, rounding-turn, rounding-last, rounding-end}
+use Rattle.removal.specs.Rounding.{Rounding, rounding-begin, rounding-asks, rounding-turn, rounding-last, rounding-end}
 use borrow.Author.Needs.{needs}
-use Rattle.optimize.proofs.jump.drop_jumps.Statement.{statement}
-use Rattle.optimize.proofs.jump.drop_jumps.Tie as tie
+use Rattle.removal.proofs.jump.drop_jumps.Statement.{statement}
+use Rattle.removal.proofs.jump.drop_jumps.Tie as tie
 
 abbrev Inv-loop : tie.InvT-loop
 Inv-loop words work₀ k₀ work k = Rounding words work₀ work k

@@ -9,7 +9,7 @@ use borrow.Rule.Slice.PartMut.{midOf}
 use Rattle.unit.specs.Entry.{metadataAt, goodMetadata}
 use Rattle.unit.specs.Size.{metadataSize, caseSize, work32Room, work64Room, maxInstructions, maxLocalSlots}
 use Rattle.effects.specs.Check.{operandRefusal}
-use Rattle.effects.specs.Shape.{Tables, Cell}
+use Rattle.effects.specs.Shape.{Sections, Tables, Cell, tablesOf}
 use Rattle.effects.specs.Cells.{cellOf, cellsBy}
 use Rattle.flow.specs.BranchLaws.{BranchesInside}
 use Rattle.flow.specs.Flags.{Flags}
@@ -17,8 +17,11 @@ use Rattle.flow.specs.Marks.{Marked}
 use Rattle.flow.specs.Loop.{anchors}
 use Rattle.liveness.specs.Dead.{deadStores}
 use Rattle.answer.specs.Pass.{keptPlaces, usefulPlaces}
-use Rattle.optimize.specs.Parts.{sectionsIn}
-use Rattle.optimize.specs.Jumping.{mapOf, endsIn}
+use Rattle.removal.specs.Jumping.{mapOf, endsIn}
+
+-- the sections that stay; "number of types is not s" was refused
+abbrev pub sectionsIn : List ℕ → List ℕ → List ℕ → List ℕ → List ℕ → Sections
+sectionsIn types constants functions externs cases = record { locals = length types; types = types; constants = constants; tables = tablesOf functions externs cases }
 
 -- where the kept places stand in the 32-bit work, and the loop ends counted from there
 abbrev pub keepAt : ℕ → ℕ

@@ -10,7 +10,7 @@ ghost use Rattle.instruction.specs.Instruction.{ofWord};
 ghost use Rattle.effects.specs.Cells.{cellsBy};
 ghost use Rattle.flow.specs.Flags.{Flags};
 ghost use Rattle.answer.specs.Jump.{dropIdle, jumpRounds};
-ghost use Rattle.optimize.specs.Jumping.{Rounds, idleIn, endsIn, mapOf};
+ghost use Rattle.removal.specs.Jumping.{Rounds, idleIn, endsIn, mapOf};
 use flow::branch;
 use instruction::Instruction;
 use pc_map::boundary;

@@ -5,10 +5,10 @@ use lib.ListN.{length}
 use borrow.Rule.Slice.PartMut.{midOf}
 use Rattle.words.specs.Regions.{mid-long}
 use Rattle.effects.specs.Shape.{tablesOf}
-use Rattle.optimize.specs.Retained.{blocks-asks, stores-asks, stores-leave}
+use Rattle.removal.specs.Retained.{blocks-asks, stores-asks, stores-leave}
 use borrow.Author.Needs.{needs}
-use Rattle.optimize.proofs.retain.drop_stores.Statement.{statement}
-use Rattle.optimize.proofs.retain.drop_stores.Tie as tie
+use Rattle.removal.proofs.retain.drop_stores.Statement.{statement}
+use Rattle.removal.proofs.retain.drop_stores.Tie as tie
 
 mul-at : tie.Need-mul-at
 mul-at c = search needs

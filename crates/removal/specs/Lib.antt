@@ -1,0 +1,7 @@
+pub mod Jumping
+pub mod Kept
+pub mod Retained
+pub mod Retaining
+pub mod Cleared
+pub mod Plain
+pub mod Rounding

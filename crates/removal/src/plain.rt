@@ -1,0 +1,30 @@
+// Plain hints are dropped.
+ghost use mathlib.Core.Path.{_≡_};
+ghost use mathlib.Core.List.{List};
+ghost use Prim.Native.Nat.{ℕ};
+ghost use lib.ListN.{length};
+ghost use Rattle.effects.specs.Cells.{cellsBy};
+ghost use Rattle.flow.specs.Loop.{isPlainHint};
+ghost use Rattle.answer.specs.Pass.{usefulPlaces};
+use instruction::Instruction;
+
+// "Hint with flags 0"
+fn is_plain_hint(i: Instruction) -> bool
+    ensures { λ r. ⌜ r ≡ isPlainHint i ⌝ }
+{
+    (i.op == 0) & (i.flags == 0)
+}
+
+// It is not kept.
+pub fn drop_hints(words: &[u64], keep: &mut [u32])
+    requires { ⌜ length (now keep) ≡ length (now words) ⌝ }
+    ensures { λ _. ⌜ ((metadata : List ℕ) → now (keep .exit) ≡ usefulPlaces (now (keep .entry)) (cellsBy (now (words .entry)) metadata)) ⌝ }
+{
+    let mut p: usize = 0;
+    while p < words.len() {
+        if is_plain_hint(Instruction::from_word(words[p])) {
+            keep[p] = 0;
+        }
+        p += 1;
+    }
+}
