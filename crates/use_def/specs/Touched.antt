@@ -59,7 +59,7 @@ before T x l l₁ l₂ p q t = q t ∙ rw (p t) (go (reading T x t) (writing T x
     go false false true = refl
     go false false false = refl
 
-pub within-at : (s : ℕ) (l : List Range) → Within s l → (k : ℕ) → k < length l → rangeWithin s (getD l k emptyRange) ≡ true
+within-at : (s : ℕ) (l : List Range) → Within s l → (k : ℕ) → k < length l → rangeWithin s (getD l k emptyRange) ≡ true
 within-at s l e k h = all-at (rangeWithin s) l e k h
 
 -- past the end is the empty range
@@ -79,26 +79,43 @@ touches-more [] k h t = absurd (omega arith)
 touches-more (r ∷ l) zero h t = or-false (rangeHas t r)
 touches-more (r ∷ l) (suc k) h t = rw (touches-more l k (omega arith) t) (sym (or-assoc (rangeHas t r) (touches (take k l) t) (rangeHas t (getD l k emptyRange))))
 
--- ---- a loop over ranges
+-- ---- a loop over n ranges, in a set that has a bit for each of their slots
 
-pub record Ranging (b : Bool) (rs : List Range) (l₀ l : List ℕ) (k : ℕ) : Type 0 where
+pub record Ranging (b : Bool) (rs : List Range) (n : ℕ) (l₀ l : List ℕ) (k : ℕ) : Type 0 where
+  pub all : n ≡ length rs
+  pub few : length l₀ ≤ 1024
+  pub fit : Within (64 * length l₀) rs
   pub long : length l ≡ length l₀
   pub put : Put b (touches (take k rs)) l₀ l
 
-pub ranging-begin : (b : Bool) (rs : List Range) (l : List ℕ) → Ranging b rs l l 0
+pub ranging-begin : {b : Bool} {rs : List Range} {n : ℕ} {l : List ℕ} → n ≡ length rs → length l ≤ 1024 → Within (64 * length l) rs → Ranging b rs n l l 0
 unfolding anyOf
-ranging-begin b rs l = record { long = refl; put = λ t. refl }
+ranging-begin a f w = record { all = a; few = f; fit = w; long = refl; put = λ t. refl }
 
-pub ranging-turn : (b : Bool) (rs : List Range) (l₀ l l′ : List ℕ) (k : ℕ) (r : Range) → Ranging b rs l₀ l k → k < length rs → r ≡ getD rs k emptyRange
-    → length l′ ≡ length l → Put b (λ t. rangeHas t r) l l′ → Ranging b rs l₀ l′ (k + 1)
-ranging-turn b rs l₀ l l′ k r g h a e q =
-    record { long = e ∙ g .long; put = put-more b (touches (take k rs)) (λ t. rangeHas t r) (touches (take (k + 1) rs)) l₀ l l′ (g .put) q more }
-  where
-    more : (t : ℕ) → touches (take (k + 1) rs) t ≡ (touches (take k rs) t || rangeHas t r)
-    more t = rw (add-one k, a) (touches-more rs k h t)
+module _ {b : Bool} {rs : List Range} {n : ℕ} {l₀ l : List ℕ} {k : ℕ} (g : Ranging b rs n l₀ l k) where
+  pub ranging-next : k < n → k < length rs
+  ranging-next h = omega (arith, g .all)
 
-pub ranging-end : (b : Bool) (rs : List Range) (l₀ l : List ℕ) (k : ℕ) → Ranging b rs l₀ l k → length rs ≤ k → Put b (touches rs) l₀ l
-ranging-end b rs l₀ l k g h = put-as b (touches (take k rs)) (touches rs) l₀ l (g .put) (λ t. ap (λ (l : List Range). touches l t) (sym (take-all k rs h)))
+  pub ranging-fits : (r : Range) → k < n → r ≡ getD rs k emptyRange → (length l ≤ 1024) × (rangeWithin (64 * length l) r ≡ true)
+  ranging-fits r h a = (rw (g .long) (g .few), rw (g .long, a) (within-at (64 * length l₀) rs (g .fit) k (ranging-next h)))
+
+  pub ranging-turn : (r : Range) (l′ : List ℕ) → k < n → r ≡ getD rs k emptyRange → length l′ ≡ length l → Put b (λ t. rangeHas t r) l l′
+      → Ranging b rs n l₀ l′ (k + 1)
+  ranging-turn r l′ h a e q = record {
+    all = g .all;
+    few = g .few;
+    fit = g .fit;
+    long = e ∙ g .long;
+    put = put-more b (touches (take k rs)) (λ t. rangeHas t r) (touches (take (k + 1) rs)) l₀ l l′ (g .put) q more;
+  }
+    where
+      more : (t : ℕ) → touches (take (k + 1) rs) t ≡ (touches (take k rs) t || rangeHas t r)
+      more t = rw (add-one k, a) (touches-more rs k (ranging-next h) t)
+
+  pub ranging-end : n ≤ k → Put b (touches rs) l₀ l
+  ranging-end h =
+      let e : length rs ≤ k = omega (arith, g .all) in
+      put-as b (touches (take k rs)) (touches rs) l₀ l (g .put) (λ t. ap (λ (l : List Range). touches l t) (sym (take-all k rs e)))
 
 -- ---- ranges by class: at most two are read, and one is written
 
