@@ -33,7 +33,7 @@ use Rattle.flow.specs.Block.{blockOf, blockCount}
 use Rattle.flow.specs.Blocks.{blockStart, block-walk, block-below}
 use Rattle.flow.specs.Marks.{Marked}
 use Rattle.flow.specs.Flags.{Flags, sum-whole, sum-most, sum-first}
-use Rattle.liveness.specs.Touched.{Within, Fits, within-any}
+use Rattle.use_def.specs.Touched.{Within, Fits, within-any}
 use Rattle.liveness.specs.Shown.{row-before}
 use Rattle.liveness.specs.Visit.{Rising}
 

@@ -1,8 +1,5 @@
 pub mod Live
 pub mod Dead
-pub mod Sets
-pub mod Touched
-pub mod Wordwise
 pub mod Through
 pub mod Rows
 pub mod Shown
@@ -13,7 +10,6 @@ pub mod Memory
 pub mod Rounding
 pub mod Solving
 pub mod Unread
-pub mod Single
 pub mod Sweeping
 pub mod Sweep
 pub mod Droppable

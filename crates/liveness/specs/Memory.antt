@@ -19,14 +19,14 @@ use Rattle.effects.specs.Effects.{rangeWithin}
 use Rattle.effects.specs.Form.{emptyRange}
 use Rattle.effects.specs.ByClass.{writesByClass}
 use Rattle.flow.specs.Branch.{branchInside}
+use Rattle.use_def.specs.Touched.{Fits}
+use Rattle.use_def.specs.Wordwise.{Moved}
 use Rattle.liveness.specs.declared.Layout.{Layout}
 use Rattle.words.specs.Only.{At, Either, Only, only-both, only-more, mid-mid, same-mid, put-mid}
 use Rattle.liveness.specs.Out.{OutOf}
 use Rattle.liveness.specs.Shown.{rowAt, row-before}
 use Rattle.liveness.specs.Through.{Summary}
-use Rattle.liveness.specs.Touched.{Fits}
 use Rattle.liveness.specs.Visit.{Rising, Summed, Visited, summed-turn}
-use Rattle.liveness.specs.Wordwise.{Moved}
 
 -- a word and a cell of the code, which comes first
 pub code-word : (m : List ℕ) (n p : ℕ) → p < n → getD (midOf 0 n m) p 0 ≡ getD m p 0

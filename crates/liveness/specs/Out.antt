@@ -19,10 +19,10 @@ use Rattle.flow.specs.Block.{blockOf, blockCount}
 use Rattle.flow.specs.Blocks.{block-below}
 use Rattle.flow.specs.Marks.{Marked}
 use Rattle.flow.specs.Flags.{Flags}
+use Rattle.use_def.specs.Wordwise.{none-in}
 use Rattle.liveness.specs.Live.{Row, edges, joined, noRow}
 use Rattle.liveness.specs.Rows.{union-bit, no-bit}
 use Rattle.liveness.specs.Shown.{rowAt, Holds, Shown, row-before}
-use Rattle.liveness.specs.Wordwise.{none-in}
 
 -- a slot is live at the start of the block of place q
 abbrev pub startBit : ℕ → List ℕ → List ℕ → ℕ → ℕ → Bool

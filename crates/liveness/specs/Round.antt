@@ -23,8 +23,8 @@ use Rattle.flow.specs.Blocks.{blockStart, Walk, block-walk, starting, start-end
 use Rattle.flow.specs.Marks.{Marked}
 use Rattle.flow.specs.Flags.{Flags}
 use Rattle.pc_map.specs.Boundary.{isKept}
+use Rattle.use_def.specs.Touched.{reading, writing, touches, Within}
 use Rattle.liveness.specs.Live.{Row, liveBefore, edges, isLast, joined, liveAfter, noRow, Walked, roundFrom}
-use Rattle.liveness.specs.Touched.{reading, writing, touches, Within}
 use Rattle.liveness.specs.Through.{liveBit, through, Summary}
 use Rattle.liveness.specs.Rows.{Wide, before-bit, before-long, joined-long, round-wide, after-long}
 use Rattle.liveness.specs.Shown.{Holds, member-past, bit-past}

@@ -19,8 +19,8 @@ use Rattle.flow.specs.Block.{blockOf, blockCount}
 use Rattle.flow.specs.Blocks.{blockStart, Walk, block-walk, start-end, start-first}
 use Rattle.flow.specs.Marks.{Marked}
 use Rattle.flow.specs.Flags.{Flags}
+use Rattle.use_def.specs.Touched.{Within}
 use Rattle.liveness.specs.Live.{Row, noRow, roundFrom, sameRow, sameRows}
-use Rattle.liveness.specs.Touched.{Within}
 use Rattle.liveness.specs.Rows.{Wide}
 use Rattle.liveness.specs.Shown.{rowAt, Holds, Shown, shown-set, row-before, row-same, row-other}
 use Rattle.liveness.specs.Round.{walk, walk-end, walk-wide, block-rows, block-holds}

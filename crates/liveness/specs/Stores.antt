@@ -16,9 +16,9 @@ use Rattle.unit.specs.Size.{setWords, maxSetWords}
 use Rattle.effects.specs.Shape.{Tables, Sections, Cell, cellAt}
 use Rattle.effects.specs.Cells.{cellsBy, cells-long, cell-at}
 use Rattle.flow.specs.Branch.{branchInside}
+use Rattle.use_def.specs.Wordwise.{none-in}
 use Rattle.liveness.specs.Live.{Row, noRow, solveIn, maxLivenessWork, liveRows}
 use Rattle.liveness.specs.Dead.{sweepFrom, withoutDead, deadStores}
-use Rattle.liveness.specs.Wordwise.{none-in}
 use Rattle.liveness.specs.Rows.{no-bit, start-wide}
 use Rattle.liveness.specs.Shown.{rowAt, Shown, row-before}
 use Rattle.liveness.specs.Visit.{Summed}

@@ -21,15 +21,16 @@ use Rattle.flow.specs.Block.{blockOf, blockCount}
 use Rattle.flow.specs.Marks.{Marked}
 use Rattle.flow.specs.Flags.{Flags, flag}
 use Rattle.pc_map.specs.Boundary.{isKept}
+use Rattle.use_def.specs.Touched.{Within, Before}
+use Rattle.use_def.specs.Free.{deadBy}
 use Rattle.liveness.specs.Live.{Row, liveBefore, edges, isLast, joined, liveAfter, liveRows, noRow}
 use Rattle.liveness.specs.Dead.{isDead, sweptAt, sweepFrom, withoutDead, deadStores}
 use Rattle.liveness.specs.Dead as dead
-use Rattle.liveness.specs.Touched.{Within, Before}
 use Rattle.liveness.specs.Rows.{Wide, before-bit, before-long, after-long}
 use Rattle.liveness.specs.Shown.{Holds, Shown, bit-past}
 use Rattle.liveness.specs.Round.{not-touched}
 use Rattle.liveness.specs.Out.{out-holds}
-use Rattle.liveness.specs.Unread.{deadBy, dead-by}
+use Rattle.liveness.specs.Unread.{dead-by}
 use Rattle.liveness.specs.Sweeping.{Entered, Swept}
 
 -- a row before an instruction, of one after it that a set holds

@@ -9,10 +9,10 @@ use lib.ListN.{length, set}
 use borrow.Rule.Slice.PartMut.{midOf, putMid}
 use Rattle.instruction.specs.declared.Instruction.{Instruction}
 use Rattle.effects.specs.Shape.{Tables, Cell}
-use Rattle.liveness.specs.Touched.{Before}
+use Rattle.use_def.specs.Touched.{Before}
 use Rattle.words.specs.Only.{At, Only, only-none, lent}
+use Rattle.use_def.specs.Free.{deadBy}
 use Rattle.liveness.specs.Out.{OutOf}
-use Rattle.liveness.specs.Unread.{deadBy}
 
 -- at a block's last place the row becomes what is live at its end, and else it stays
 pub record Entered (last : Bool) (w : ℕ) (live blocks : List ℕ) (n p : ℕ) (i : Instruction) (row row′ : List ℕ) : Type 0 where

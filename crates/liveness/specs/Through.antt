@@ -13,9 +13,9 @@ use Rattle.effects.specs.Shape.{Tables, Cell, cellAt}
 use Rattle.effects.specs.Cells.{cellOf}
 use Rattle.pc_map.specs.Boundary.{isKept}
 use Rattle.words.specs.Only.{At, Either, Only, both-lent}
-use Rattle.liveness.specs.Sets.{Put}
-use Rattle.liveness.specs.Touched.{reading, writing, Fits, Before}
-use Rattle.liveness.specs.Wordwise.{none-in, all-in}
+use Rattle.use_def.specs.Sets.{Put}
+use Rattle.use_def.specs.Touched.{reading, writing, Fits, Before}
+use Rattle.use_def.specs.Wordwise.{none-in, all-in}
 
 -- is the slot live before an instruction, if it is so after it?
 abbrev pub liveBit : Tables → Bool → Cell → ℕ → Bool → Bool

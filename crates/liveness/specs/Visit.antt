@@ -11,10 +11,10 @@ use borrow.Rule.Slice.PartMut.{putMid}
 use Rattle.words.specs.Bits.{member}
 use Rattle.instruction.specs.declared.Instruction.{Instruction}
 use Rattle.effects.specs.Shape.{Tables, Cell}
+use Rattle.use_def.specs.Wordwise.{Moved}
 use Rattle.liveness.specs.Through.{Summary}
 use Rattle.liveness.specs.Shown.{rowAt, row-before, row-same, row-other}
 use Rattle.liveness.specs.Out.{OutOf}
-use Rattle.liveness.specs.Wordwise.{Moved}
 
 -- the sets of the first k blocks; block b is of the places from starts[b] to starts[b + 1]
 pub record Summed (T : Tables) (keep : List ℕ) (cells : List Cell) (w : ℕ) (starts uses preserved : List ℕ) (k : ℕ) : Type 0 where

@@ -13,10 +13,10 @@ use Rattle.words.specs.Regions.{mid-long, get-mid, mid-put, put-long}
 use Rattle.unit.specs.Size.{setWords, maxSetWords, work64Room, metadataSize}
 use Rattle.effects.specs.Shape.{Tables, Sections, Cell}
 use Rattle.effects.specs.Cells.{cellOf, cellsBy}
+use Rattle.use_def.specs.Touched.{Fits}
 use Rattle.liveness.specs.declared.Layout.{Layout}
 use Rattle.liveness.specs.Live.{Row, noRow, maxLivenessWork}
 use Rattle.liveness.specs.Dead.{sweepFrom, deadStores}
-use Rattle.liveness.specs.Touched.{Fits}
 use Rattle.liveness.specs.Visit.{Rising, Summed}
 use Rattle.liveness.specs.Memory.{Laid, laidOut, laid-out, codeOf, usesOf, preservedOf, liveOf, leadersOf, blocksOf, flagsAt, flagsOf, Coded, Ready, Sweepable}
 use Rattle.liveness.specs.Rounding.{Around}

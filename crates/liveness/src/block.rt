@@ -7,16 +7,16 @@ ghost use Rattle.unit.specs.Size.{metadataSize};
 ghost use Rattle.effects.specs.Shape.{tablesOf};
 ghost use Rattle.effects.specs.Cells.{cellOf, cellsBy};
 ghost use Rattle.pc_map.specs.Boundary.{isKept};
+ghost use Rattle.use_def.specs.Touched.{Fits};
 ghost use Rattle.liveness.specs.Memory.{Laid, codeOf, usesOf, preservedOf, liveOf};
 ghost use Rattle.words.specs.Only.{At, Either, Only};
-ghost use Rattle.liveness.specs.Touched.{Fits};
 ghost use Rattle.liveness.specs.Through.{Placed, Summary};
 ghost use Rattle.liveness.specs.Visit.{Rising, Summed};
 use crate::Layout;
-use crate::row;
-use crate::touch;
 use instruction::Instruction;
 use instruction::opcode;
+use use_def::row;
+use use_def::touch;
 
 // A place more, before those that the two sets of w words are of. Most instructions name single slots, and their word tells all.
 fn summarize_place(

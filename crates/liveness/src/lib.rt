@@ -1,12 +1,9 @@
 // Live slots, and stores that nothing reads.
 mod block;
-mod dead;
 mod out;
 mod round;
-mod row;
 pub mod stores;
 mod sweep;
-mod touch;
 
 // Where sets of slots lie in one buffer of words: behind the code's words one set, and then, for each of the blocks, the set that
 // it uses, the set that it preserves, and the set that is live at its start.

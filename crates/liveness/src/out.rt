@@ -8,9 +8,9 @@ ghost use Rattle.liveness.specs.Memory.{Laid, Coded, rowOf, liveOf};
 ghost use Rattle.words.specs.Only.{At, Only};
 ghost use Rattle.liveness.specs.Out.{JoinedIf, OutOf};
 use crate::Layout;
-use crate::row;
 use flow::branch;
 use instruction::Instruction;
+use use_def::row;
 
 // Joins the row of the block of place q, if it is to be joined.
 fn join_if(memory: &mut [u64], blocks: &[u32], sets: Layout, when: bool, q: u64)

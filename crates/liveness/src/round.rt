@@ -14,7 +14,7 @@ ghost use Rattle.liveness.specs.Solving.{Solved};
 ghost use Rattle.liveness.specs.Visit.{Visited};
 use crate::Layout;
 use crate::out;
-use crate::row;
+use use_def::row;
 
 // Makes the row of block b anew, of the rows as they are. The answer is whether it is another one now.
 fn visit_block(memory: &mut [u64], sets: Layout, blocks: &[u32], starts: &[u32], b: usize) -> bool

@@ -11,20 +11,20 @@ ghost use Rattle.effects.specs.Cells.{cellOf, cellsBy};
 ghost use Rattle.effects.specs.Form.{emptyRange};
 ghost use Rattle.effects.specs.ByClass.{writesByClass};
 ghost use Rattle.pc_map.specs.Boundary.{isKept};
+ghost use Rattle.use_def.specs.Touched.{Fits};
+ghost use Rattle.use_def.specs.Free.{Spans, deadBy};
 ghost use Rattle.liveness.specs.Live.{Row, isLast};
 ghost use Rattle.liveness.specs.Dead.{sweepFrom};
 ghost use Rattle.liveness.specs.Memory.{Laid, Coded, Sweepable, codeOf, rowOf, liveOf, leadersOf, blocksOf, flagsAt, flagsOf};
 ghost use Rattle.words.specs.Only.{At, Only};
-ghost use Rattle.liveness.specs.Touched.{Fits};
-ghost use Rattle.liveness.specs.Unread.{Spans, deadBy};
 ghost use Rattle.liveness.specs.Sweeping.{Entered, Swept};
 ghost use Rattle.liveness.specs.Sweep.{Grounds, sections};
 use crate::Layout;
-use crate::dead;
 use crate::out;
-use crate::touch;
 use instruction::Instruction;
 use instruction::opcode;
+use use_def::dead;
+use use_def::touch;
 
 // Is p the last place of its block?
 fn is_last(leaders: &[u32], p: usize) -> bool

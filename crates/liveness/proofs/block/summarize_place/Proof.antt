@@ -6,7 +6,7 @@ use Rattle.instruction.specs.Instruction.{ofWord}
 use Rattle.effects.specs.Shape.{Tables, Cell, tablesOf}
 use Rattle.effects.specs.Cells.{cellOf}
 use Rattle.words.specs.Only.{only-none, lent-long, second-long}
-use Rattle.liveness.specs.Single.{SingleFits, single-fits}
+use Rattle.use_def.specs.Single.{SingleFits, single-fits}
 use Rattle.liveness.specs.Through.{not-placed, lent-placed}
 use borrow.Author.Needs.{needs}
 use Rattle.liveness.proofs.block.summarize_place.Statement.{statement}

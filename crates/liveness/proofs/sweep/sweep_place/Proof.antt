@@ -9,10 +9,10 @@ use Rattle.instruction.specs.Instruction.{ofWord}
 use Rattle.unit.specs.Size.{metadataSize}
 use Rattle.effects.specs.Shape.{Tables, Cell, tablesOf}
 use Rattle.effects.specs.Cells.{cellOf}
+use Rattle.use_def.specs.Single.{isSingle, single-fits}
+use Rattle.use_def.specs.Free.{deadBy}
 use Rattle.liveness.specs.Memory.{rowOf, row-inside}
 use Rattle.words.specs.Only.{only-none, lent-long}
-use Rattle.liveness.specs.Single.{isSingle, single-fits}
-use Rattle.liveness.specs.Unread.{deadBy}
 use Rattle.liveness.specs.Sweeping.{swept-off, lent-gone, lent-on}
 use borrow.Author.Needs.{needs}
 use Rattle.liveness.proofs.sweep.sweep_place.Statement.{statement}

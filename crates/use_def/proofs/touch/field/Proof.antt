@@ -1,0 +1,10 @@
+use Rattle.use_def.specs.Single.{field-slot}
+use borrow.Author.Needs.{needs}
+use Rattle.use_def.proofs.touch.field.Statement.{statement}
+use Rattle.use_def.proofs.touch.field.Tie as tie
+
+returns : tie.Need-returns
+returns c = field-slot _ _ (c .pre)
+
+pub field-spec : {M : Type 1} → statement M
+field-spec = tie.close (tie.spec (λ c. search needs) (λ c. search needs) (λ c. search needs) returns)

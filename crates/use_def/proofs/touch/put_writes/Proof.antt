@@ -1,0 +1,52 @@
+use mathlib.Core.Path.{_≡_, sym, _∙_}
+use mathlib.Core.Bool.{false}
+use Prim.Native.Nat.{_*_}
+use lib.ListN.{length}
+use Rattle.unit.specs.Entry.{metadataAt}
+use Rattle.effects.specs.Shape.{Tables, Cell, tablesOf}
+use Rattle.effects.specs.ByClass.{isOutside}
+use Rattle.use_def.specs.Touched.{put-writes, writes-in}
+use borrow.Author.Needs.{needs}
+use Rattle.use_def.proofs.touch.put_writes.Statement.{statement}
+use Rattle.use_def.proofs.touch.put_writes.Tie as tie
+
+put-each-write-requires : tie.Need-put-each-write-requires
+put-each-write-requires c κs =
+    let f = c .before .before .before .before .before .before .before .before .before .before .pre .1 in
+    rw (c .before .metadata .ensures) (f .few, f .cases, f .writes-fit)
+
+returns : tie.Need-returns
+returns c = rw (← c .before .before .before .before .metadata .ensures) (c .before .before .put-each-write .ensures)
+
+put-range-requires : tie.Need-put-range-requires
+put-range-requires c κs =
+    let s = c .before .before .before .before .before .before .before .before .before .before in
+    let T : Tables = tablesOf (s .args .functions .now) (s .args .externs .now) (s .args .cases .now) in
+    let x : Cell = record { instruction = s .args .i; metadata = metadataAt (s .args .metadata .now) (s .args .p) } in
+    let k = c .before .before .before .before .class in
+    let inside : isOutside (k .result) ≡ false = sym (c .before .before .before .is-outside .ensures) ∙ c .before .before .if1 .left in
+    (s .pre .1 .few, writes-in T x (k .result) (k .ensures) inside (64 * length (s .args .row .now)) 0 _ (s .pre .1 .writes-fit) (c .write .ensures))
+
+returns-2 : tie.Need-returns-2
+returns-2 c =
+    let s = c .before .before .before .before .before .before .before .before .before .before .before .before .before in
+    let T : Tables = tablesOf (s .args .functions .now) (s .args .externs .now) (s .args .cases .now) in
+    let x : Cell = record { instruction = s .args .i; metadata = metadataAt (s .args .metadata .now) (s .args .p) } in
+    let k = c .before .before .before .before .before .before .before .class in
+    let inside : isOutside (k .result) ≡ false = sym (c .before .before .before .before .before .before .is-outside .ensures) ∙ c .before .before .before .before .before .if1 .left in
+    put-writes T x (k .result) (k .ensures) inside _ _ _ _ (c .before .before .before .write .ensures) (c .before .before .put-range .ensures)
+
+pub put-writes-spec : {M : Type 1} → statement M
+put-writes-spec =
+    tie.close
+    (tie.spec
+    (λ c κs. search needs)
+    (λ c κs. search needs)
+    (λ c κs. search needs)
+    put-each-write-requires
+    (λ c. search needs)
+    returns
+    (λ c κs. search needs)
+    put-range-requires
+    (λ c. search needs)
+    returns-2)

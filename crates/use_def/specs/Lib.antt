@@ -1,0 +1,5 @@
+pub mod Sets
+pub mod Touched
+pub mod Wordwise
+pub mod Free
+pub mod Single

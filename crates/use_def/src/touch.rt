@@ -1,0 +1,244 @@
+// What an instruction reads and writes, as sets of slots.
+ghost use mathlib.Core.Path.{_≡_};
+ghost use mathlib.Core.Bool.{true, false};
+ghost use Prim.Native.Nat.{_+_, _*_, _≤_, _<_};
+ghost use lib.ListN.{length, getD};
+ghost use Rattle.instruction.specs.Instruction.{ofWord, class};
+ghost use Rattle.unit.specs.declared.Metadata.{Metadata};
+ghost use Rattle.unit.specs.Entry.{metadataAt};
+ghost use Rattle.unit.specs.Size.{metadataSize};
+ghost use Rattle.effects.specs.Shape.{Tables, tablesOf};
+ghost use Rattle.effects.specs.Effects.{allReads, writes};
+ghost use Rattle.effects.specs.Form.{emptyRange};
+ghost use Rattle.effects.specs.Plain.{slotOf};
+ghost use Rattle.effects.specs.Ranges.{CasesInside};
+ghost use Rattle.effects.specs.ByClass.{isOutside, readsByClass, writesByClass};
+ghost use Rattle.use_def.specs.Sets.{Put};
+ghost use Rattle.use_def.specs.Touched.{Within, reading, writing, Fits, Before};
+ghost use Rattle.use_def.specs.Single.{isSingle, readsFirst, readsSecond, SingleFits};
+use crate::row;
+use effects::Range;
+use effects::ranges;
+use instruction::Class;
+use instruction::Instruction;
+use unit::Metadata;
+use unit::entry;
+
+fn slots(start: u16, count: u16) -> Range
+    ensures { λ r. ⌜ r ≡ record { start = start; count = count } ⌝ }
+{
+    Range {
+        start: start as usize,
+        count: count as usize,
+    }
+}
+
+// Are its ranges not known by the class alone?
+fn is_outside(c: Class) -> bool
+    ensures { λ r. ⌜ r ≡ isOutside c ⌝ }
+{
+    match c {
+        Class::Outside | Class::Invalid => true,
+        _ => false,
+    }
+}
+
+// The first range that an instruction of that class reads.
+fn first_read(c: Class, i: Instruction) -> Range
+    ensures { λ r. ⌜ r ≡ getD (readsByClass c i) 0 emptyRange ⌝ }
+{
+    match c {
+        Class::Copy | Class::Unary | Class::Binary => slots(i.b, 1),
+        Class::CopyN => slots(i.b, i.c),
+        Class::JumpIf | Class::JumpIfNot | Class::ForLoop => slots(i.a, 1),
+        Class::Return => slots(i.a, i.b),
+        Class::Panic => slots(i.a, 2),
+        _ => slots(0, 0),
+    }
+}
+
+fn second_read(c: Class, i: Instruction) -> Range
+    ensures { λ r. ⌜ r ≡ getD (readsByClass c i) 1 emptyRange ⌝ }
+{
+    match c {
+        Class::Binary => slots(i.c, 1),
+        Class::ForLoop => slots(i.b, 1),
+        _ => slots(0, 0),
+    }
+}
+
+// The range that it writes.
+pub fn write(c: Class, i: Instruction) -> Range
+    ensures { λ r. ⌜ r ≡ getD (writesByClass c i) 0 emptyRange ⌝ }
+{
+    match c {
+        Class::LoadInt
+        | Class::LoadConst
+        | Class::Copy
+        | Class::Unary
+        | Class::Binary
+        | Class::ForLoop => slots(i.a, 1),
+        Class::CopyN => slots(i.a, i.c),
+        _ => slots(0, 0),
+    }
+}
+
+// Range by range, for every opcode.
+fn put_each_read(
+    row: &mut [u64],
+    i: Instruction,
+    m: Metadata,
+    functions: &[u8],
+    externs: &[u8],
+    cases: &[u8],
+)
+    requires { ⌜ (length (now row) ≤ 1024) × CasesInside (now cases) (record { instruction = i; metadata = m }) × Within (64 * length (now row)) (allReads (tablesOf (now functions) (now externs) (now cases)) (record { instruction = i; metadata = m })) ⌝ }
+    ensures { λ _. ⌜ Put true (reading (tablesOf (now (functions .entry)) (now (externs .entry)) (now (cases .entry))) (record { instruction = i; metadata = m })) (now (row .entry)) (now (row .exit)) ⌝ }
+{
+    let n = ranges::read_count(i, m);
+    let mut k: usize = 0;
+    while k < n {
+        let r = ranges::read_range(k, i, m, functions, externs, cases);
+        row::put_range(row, r, true);
+        k += 1;
+    }
+}
+
+fn put_each_write(
+    row: &mut [u64],
+    on: bool,
+    i: Instruction,
+    m: Metadata,
+    functions: &[u8],
+    externs: &[u8],
+    cases: &[u8],
+)
+    requires { ⌜ (length (now row) ≤ 1024) × CasesInside (now cases) (record { instruction = i; metadata = m }) × Within (64 * length (now row)) (writes (tablesOf (now functions) (now externs) (now cases)) (record { instruction = i; metadata = m })) ⌝ }
+    ensures { λ _. ⌜ Put on (writing (tablesOf (now (functions .entry)) (now (externs .entry)) (now (cases .entry))) (record { instruction = i; metadata = m })) (now (row .entry)) (now (row .exit)) ⌝ }
+{
+    let n = ranges::write_count(i, m);
+    let mut k: usize = 0;
+    while k < n {
+        let r = ranges::write_range(k, i, m, functions, externs, cases);
+        row::put_range(row, r, on);
+        k += 1;
+    }
+}
+
+// By class, or by its metadata where the class does not tell.
+pub fn put_reads(
+    row: &mut [u64],
+    i: Instruction,
+    metadata: &[u8],
+    p: usize,
+    functions: &[u8],
+    externs: &[u8],
+    cases: &[u8],
+)
+    requires { ⌜ (metadataSize * p + metadataSize ≤ length (now metadata)) × Fits (length (now row)) (tablesOf (now functions) (now externs) (now cases)) (record { instruction = i; metadata = metadataAt (now metadata) p }) ⌝ }
+    ensures { λ _. ⌜ Put true (reading (tablesOf (now (functions .entry)) (now (externs .entry)) (now (cases .entry))) (record { instruction = i; metadata = metadataAt (now (metadata .entry)) p })) (now (row .entry)) (now (row .exit)) ⌝ }
+{
+    let c = i.class();
+    if is_outside(c) {
+        let m = entry::metadata(metadata, p);
+        put_each_read(row, i, m, functions, externs, cases);
+        return;
+    }
+    row::put_range(row, first_read(c, i), true);
+    row::put_range(row, second_read(c, i), true);
+}
+
+pub fn put_writes(
+    row: &mut [u64],
+    on: bool,
+    i: Instruction,
+    metadata: &[u8],
+    p: usize,
+    functions: &[u8],
+    externs: &[u8],
+    cases: &[u8],
+)
+    requires { ⌜ (metadataSize * p + metadataSize ≤ length (now metadata)) × Fits (length (now row)) (tablesOf (now functions) (now externs) (now cases)) (record { instruction = i; metadata = metadataAt (now metadata) p }) ⌝ }
+    ensures { λ _. ⌜ Put on (writing (tablesOf (now (functions .entry)) (now (externs .entry)) (now (cases .entry))) (record { instruction = i; metadata = metadataAt (now (metadata .entry)) p })) (now (row .entry)) (now (row .exit)) ⌝ }
+{
+    let c = i.class();
+    if is_outside(c) {
+        let m = entry::metadata(metadata, p);
+        put_each_write(row, on, i, m, functions, externs, cases);
+        return;
+    }
+    row::put_range(row, write(c, i), on);
+}
+
+// One of the fields a, b and c of an instruction's word.
+pub fn field(w: u64, form: u64) -> usize
+    requires { ⌜ form < 3 ⌝ }
+    ensures { λ r. ⌜ r ≡ slotOf form (ofWord w) ⌝ }
+{
+    ((w >> (16 + 16 * form)) % 65536) as usize
+}
+
+// A load, a copy or an operator? It writes slot a, and of single slots it reads b and c at most.
+pub fn is_single(c: Class) -> bool
+    ensures { λ r. ⌜ r ≡ isSingle c ⌝ }
+{
+    match c {
+        Class::LoadInt | Class::LoadConst | Class::Copy | Class::Unary | Class::Binary => true,
+        _ => false,
+    }
+}
+
+// Of these, does it read b?
+fn reads_first(c: Class) -> bool
+    ensures { λ r. ⌜ r ≡ readsFirst c ⌝ }
+{
+    match c {
+        Class::Copy | Class::Unary | Class::Binary => true,
+        _ => false,
+    }
+}
+
+// And c?
+fn reads_second(c: Class) -> bool
+    ensures { λ r. ⌜ r ≡ readsSecond c ⌝ }
+{
+    match c {
+        Class::Binary => true,
+        _ => false,
+    }
+}
+
+// Takes out the slot that it writes.
+pub fn take_single_write(row: &mut [u64], w: u64)
+    requires { ⌜ SingleFits (length (now row)) w ⌝ }
+    ensures { λ _. ⌜ ((T : Tables) (m : Metadata) → Put false (writing T (record { instruction = ofWord w; metadata = m })) (now (row .entry)) (now (row .exit))) ⌝ }
+{
+    row::put(row, field(w, 0), false);
+}
+
+// What is live before it, of what is live after it.
+pub fn single_before(row: &mut [u64], w: u64, c: Class)
+    requires { ⌜ SingleFits (length (now row)) w × (c ≡ class (ofWord w)) ⌝ }
+    ensures { λ _. ⌜ ((T : Tables) (m : Metadata) → Before T (record { instruction = ofWord w; metadata = m }) (now (row .entry)) (now (row .exit))) ⌝ }
+{
+    take_single_write(row, w);
+    row::put_if(row, field(w, 1), reads_first(c), true);
+    row::put_if(row, field(w, 2), reads_second(c), true);
+}
+
+// What is live before the instruction at place p, of what is live after it.
+pub fn live_before(
+    row: &mut [u64],
+    i: Instruction,
+    metadata: &[u8],
+    p: usize,
+    functions: &[u8],
+    externs: &[u8],
+    cases: &[u8],
+)
+    requires { ⌜ (metadataSize * p + metadataSize ≤ length (now metadata)) × Fits (length (now row)) (tablesOf (now functions) (now externs) (now cases)) (record { instruction = i; metadata = metadataAt (now metadata) p }) ⌝ }
+    ensures { λ _. ⌜ Before (tablesOf (now (functions .entry)) (now (externs .entry)) (now (cases .entry))) (record { instruction = i; metadata = metadataAt (now (metadata .entry)) p }) (now (row .entry)) (now (row .exit)) ⌝ }
+{
+    put_writes(row, false, i, metadata, p, functions, externs, cases);
+    put_reads(row, i, metadata, p, functions, externs, cases);
+}
