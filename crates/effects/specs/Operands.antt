@@ -1,7 +1,7 @@
 -- An instruction's refusal by the tests of its ranges.
 -- Assumes nothing.
 use mathlib.Core.Path.{_≡_, refl, sym, ap, _∙_}
-use mathlib.Core.Bool.{Bool, true, false, cond, _&&_, _||_, and-false}
+use mathlib.Core.Bool.{Bool, true, false, not, cond, _&&_, _||_, and-false}
 use mathlib.Core.List.{List, [], _∷_, _++_}
 use Prim.Native.Nat.{ℕ, zero, suc, _+_, _/_, _≤_, _<_}
 use native.Mathlib.Numerals.{add-one}
@@ -9,7 +9,7 @@ use native.Mathlib.Omega.{arith}
 use lib.Dec.{eqb, leb}
 use lib.ListN.{length, getD, drop}
 use lib.Seq.{drop-cons, drop-length}
-use borrow.Author.Tests.{leb-true, lt-ltb, le-ltb, le-leb, lt-leb, eq-eqb, ne-eqb}
+use borrow.Author.Tests.{not-true, not-false, leb-true, lt-ltb, le-ltb, le-leb, lt-leb, eq-eqb, ne-eqb}
 use Rattle.words.specs.Truth.{left-true, right-true}
 use Rattle.instruction.specs.Opcode as op
 use Rattle.unit.specs.Size.{caseSize}
@@ -31,20 +31,32 @@ slots = 65536
 unfoldable pub rangeHolds : ℕ → Range → Bool
 rangeHolds limit r = rangeFits r && rangeWithin limit r
 
--- ---- a loop over ranges
+-- ---- a loop that tests the n ranges of a list, at its k-th turn: what is left of the list decides
 
-module _ (f : Range → Bool) (l : List Range) (k : ℕ) where
-  pub all-on : k < length l → f (getD l k emptyRange) ≡ true → allOf f (drop (k + 1) l) ≡ allOf f (drop k l)
-  unfolding allOf
-  all-on h e = rw (drop-cons l k emptyRange h, add-one k, e)
+pub record Testing (f : Range → Bool) (l : List Range) (n k : ℕ) : Type 0 where
+  pub long : n ≡ length l
+  pub within : k ≤ n
+  pub decides : allOf f (drop k l) ≡ allOf f l
 
-  pub all-here : k < length l → f (getD l k emptyRange) ≡ false → allOf f (drop k l) ≡ false
+module _ {f : Range → Bool} {l : List Range} {n k : ℕ} (t : Testing f l n k) where
+  pub all-hold : n ≤ k → true ≡ allOf f l
   unfolding allOf
-  all-here h e = rw (drop-cons l k emptyRange h, e)
+  all-hold h =
+      let end : k ≡ length l = omega arith in
+      rw (end, drop-length l) at (t .decides)
 
-  pub all-none : k ≡ length l → allOf f (drop k l) ≡ true
-  unfolding allOf
-  all-none e = rw (e, drop-length l)
+  module _ (h : k < n) {r : Bool} (e : r ≡ f (getD l k emptyRange)) where
+    split : (f (getD l k emptyRange) && allOf f (drop (k + 1) l)) ≡ allOf f l
+    unfolding allOf
+    split =
+        let inside : k < length l = omega arith in
+        rw (add-one k) (rw (drop-cons l k emptyRange inside) at (t .decides))
+
+    pub one-fails : not r ≡ true → false ≡ allOf f l
+    one-fails z = rw (← e, not-true r z) at split
+
+    pub next-range : not r ≡ false → Testing f l n (k + 1)
+    next-range z = record { long = t .long; within = omega arith; decides = rw (← e, not-false r z) at split }
 
 pub all-append : (f : Range → Bool) (xs ys : List Range) → allOf f (xs ++ ys) ≡ (allOf f xs && allOf f ys)
 unfolding allOf
