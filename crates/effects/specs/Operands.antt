@@ -1,16 +1,15 @@
 -- An instruction's refusal by the tests of its ranges.
 -- Assumes nothing.
 use mathlib.Core.Path.{_≡_, refl, sym, ap, _∙_}
-use mathlib.Core.Bool.{Bool, true, false, not, cond, _&&_, _||_, and-false}
+use mathlib.Core.Bool.{Bool, true, false, cond, _&&_, _||_, and-false}
 use mathlib.Core.List.{List, [], _∷_, _++_}
 use Prim.Native.Nat.{ℕ, zero, suc, _+_, _/_, _≤_, _<_}
-use native.Mathlib.Numerals.{add-one}
 use native.Mathlib.Omega.{arith}
 use lib.Dec.{eqb, leb}
-use lib.ListN.{length, getD, drop}
-use lib.Seq.{drop-cons, drop-length}
-use borrow.Author.Tests.{not-true, not-false, leb-true, lt-ltb, le-ltb, le-leb, lt-leb, eq-eqb, ne-eqb}
-use Rattle.words.specs.Truth.{left-true, right-true}
+use lib.ListN.{length, getD}
+use borrow.Author.Tests.{leb-true, lt-ltb, le-ltb, le-leb, lt-leb, eq-eqb, ne-eqb}
+use Rattle.words.specs.Lists.{every, every-at, every-all}
+use Rattle.words.specs.Truth.{left-true, right-true, same-bool}
 use Rattle.instruction.specs.Opcode as op
 use Rattle.unit.specs.Size.{caseSize}
 use Rattle.unit.specs.Entry.{goodMetadata, kindSelectExecLayout, kindLoopEnd}
@@ -31,32 +30,7 @@ slots = 65536
 unfoldable pub rangeHolds : ℕ → Range → Bool
 rangeHolds limit r = rangeFits r && rangeWithin limit r
 
--- ---- a loop that tests the n ranges of a list, at its k-th turn: what is left of the list decides
-
-pub record Testing (f : Range → Bool) (l : List Range) (n k : ℕ) : Type 0 where
-  pub long : n ≡ length l
-  pub within : k ≤ n
-  pub decides : allOf f (drop k l) ≡ allOf f l
-
-module _ {f : Range → Bool} {l : List Range} {n k : ℕ} (t : Testing f l n k) where
-  pub all-hold : n ≤ k → true ≡ allOf f l
-  unfolding allOf
-  all-hold h =
-      let end : k ≡ length l = omega arith in
-      rw (end, drop-length l) at (t .decides)
-
-  module _ (h : k < n) {r : Bool} (e : r ≡ f (getD l k emptyRange)) where
-    split : (f (getD l k emptyRange) && allOf f (drop (k + 1) l)) ≡ allOf f l
-    unfolding allOf
-    split =
-        let inside : k < length l = omega arith in
-        rw (add-one k) (rw (drop-cons l k emptyRange inside) at (t .decides))
-
-    pub one-fails : not r ≡ true → false ≡ allOf f l
-    one-fails z = rw (← e, not-true r z) at split
-
-    pub next-range : not r ≡ false → Testing f l n (k + 1)
-    next-range z = record { long = t .long; within = omega arith; decides = rw (← e, not-false r z) at split }
+-- ---- all ranges of a list
 
 pub all-append : (f : Range → Bool) (xs ys : List Range) → allOf f (xs ++ ys) ≡ (allOf f xs && allOf f ys)
 unfolding allOf
@@ -88,6 +62,18 @@ unfolding allOf
 all-at f [] e k h = absurd (omega arith)
 all-at f (r ∷ rs) e zero h = left-true (f r) (allOf f rs) e
 all-at f (r ∷ rs) e (suc k) h = all-at f rs (right-true (f r) (allOf f rs) e) k (omega arith)
+
+pub all-of : (f : Range → Bool) (l : List Range) → ((k : ℕ) → k < length l → f (getD l k emptyRange) ≡ true) → allOf f l ≡ true
+unfolding allOf
+all-of f [] h = refl
+all-of f (r ∷ rs) h = rw (h 0 (omega arith)) (all-of f rs (λ k g. h (suc k) (omega arith)))
+
+-- one by one, by their numbers below n
+pub every-range : (f : Range → Bool) (l : List Range) (n : ℕ) → n ≡ length l → every n (λ k. f (getD l k emptyRange)) ≡ allOf f l
+every-range f l n e =
+    rw e
+    (same-bool (every (length l) (λ k. f (getD l k emptyRange))) (allOf f l) (λ h. all-of f l (every-at (length l) (λ k. f (getD l k emptyRange)) h))
+    (λ h. every-all (length l) (λ k. f (getD l k emptyRange)) (all-at f l h)))
 
 -- ---- one range
 
