@@ -4,13 +4,12 @@ use mathlib.Core.Path.{_≡_, refl, sym, ap, _∙_}
 use mathlib.Core.Bool.{Bool, true, false, cond, _&&_, _||_, and-false}
 use mathlib.Core.List.{List, [], _∷_, _++_}
 use Prim.Native.Nat.{ℕ, zero, suc, _+_, _/_, _≤_, _<_}
-use native.Mathlib.Numerals.{add-one}
 use native.Mathlib.Omega.{arith}
 use lib.Dec.{eqb, leb}
-use lib.ListN.{length, getD, drop}
-use lib.Seq.{drop-cons, drop-length}
+use lib.ListN.{length, getD}
 use borrow.Author.Tests.{leb-true, lt-ltb, le-ltb, le-leb, lt-leb, eq-eqb, ne-eqb}
-use Rattle.words.specs.Truth.{left-true, right-true}
+use Rattle.words.specs.Lists.{every, every-at, every-all}
+use Rattle.words.specs.Truth.{left-true, right-true, same-bool}
 use Rattle.instruction.specs.Opcode as op
 use Rattle.unit.specs.Size.{caseSize}
 use Rattle.unit.specs.Entry.{goodMetadata, kindSelectExecLayout, kindLoopEnd}
@@ -31,20 +30,7 @@ slots = 65536
 unfoldable pub rangeHolds : ℕ → Range → Bool
 rangeHolds limit r = rangeFits r && rangeWithin limit r
 
--- ---- a loop over ranges
-
-module _ (f : Range → Bool) (l : List Range) (k : ℕ) where
-  pub all-on : k < length l → f (getD l k emptyRange) ≡ true → allOf f (drop (k + 1) l) ≡ allOf f (drop k l)
-  unfolding allOf
-  all-on h e = rw (drop-cons l k emptyRange h, add-one k, e)
-
-  pub all-here : k < length l → f (getD l k emptyRange) ≡ false → allOf f (drop k l) ≡ false
-  unfolding allOf
-  all-here h e = rw (drop-cons l k emptyRange h, e)
-
-  pub all-none : k ≡ length l → allOf f (drop k l) ≡ true
-  unfolding allOf
-  all-none e = rw (e, drop-length l)
+-- ---- all ranges of a list
 
 pub all-append : (f : Range → Bool) (xs ys : List Range) → allOf f (xs ++ ys) ≡ (allOf f xs && allOf f ys)
 unfolding allOf
@@ -76,6 +62,18 @@ unfolding allOf
 all-at f [] e k h = absurd (omega arith)
 all-at f (r ∷ rs) e zero h = left-true (f r) (allOf f rs) e
 all-at f (r ∷ rs) e (suc k) h = all-at f rs (right-true (f r) (allOf f rs) e) k (omega arith)
+
+pub all-of : (f : Range → Bool) (l : List Range) → ((k : ℕ) → k < length l → f (getD l k emptyRange) ≡ true) → allOf f l ≡ true
+unfolding allOf
+all-of f [] h = refl
+all-of f (r ∷ rs) h = rw (h 0 (omega arith)) (all-of f rs (λ k g. h (suc k) (omega arith)))
+
+-- one by one, by their numbers below n
+pub every-range : (f : Range → Bool) (l : List Range) (n : ℕ) → n ≡ length l → every n (λ k. f (getD l k emptyRange)) ≡ allOf f l
+every-range f l n e =
+    rw e
+    (same-bool (every (length l) (λ k. f (getD l k emptyRange))) (allOf f l) (λ h. all-of f l (every-at (length l) (λ k. f (getD l k emptyRange)) h))
+    (λ h. every-all (length l) (λ k. f (getD l k emptyRange)) (all-at f l h)))
 
 -- ---- one range
 

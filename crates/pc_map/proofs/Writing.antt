@@ -65,29 +65,37 @@ module _ (keep kept words metadata : List ℕ) (list : kept ≡ keptList keep) (
   pub listed-many : length (retainFrom keep 0 (cellsBy words metadata)) ≡ length kept
   listed-many = retain-many keep (cellsBy words metadata) as-many ∙ ap length (sym list)
 
--- the loops, over the cells in lent memory and the list of the kept places
-module _ {size : ℕ} {bytes : List Retained → List ℕ} (s : Section size bytes) (keep kept words metadata : List ℕ) (list : kept ≡ keptList keep) (same : length keep ≡ length words) (a : ℕ) (out : List ℕ) where
-  many : length (retainFrom keep 0 (cellsBy words metadata)) ≡ length kept
-  many = listed-many keep kept words metadata list same
+-- a loop over the list of the kept places, which writes a section from byte a on: it is written for the first q of them
+pub record WrittenTo (size : ℕ) (bytes : List Retained → List ℕ) (keep kept words metadata : List ℕ) (a : ℕ) (out out′ : List ℕ) (q : ℕ) : Type 0 where
+  pub list : kept ≡ keptList keep
+  pub same : length keep ≡ length words
+  pub written : Written size bytes (retainFrom keep 0 (cellsBy words metadata)) a out out′ q
 
-  pub section-begin : Written size bytes (retainFrom keep 0 (cellsBy words metadata)) a out out 0
-  section-begin = written-begin s (retainFrom keep 0 (cellsBy words metadata)) a out
+module _ {size : ℕ} {bytes : List Retained → List ℕ} (s : Section size bytes) {keep kept words metadata : List ℕ} {a : ℕ} {out : List ℕ} where
+  pub section-begin : kept ≡ keptList keep → length keep ≡ length words → WrittenTo size bytes keep kept words metadata a out out 0
+  section-begin list same = record { list = list; same = same; written = written-begin s (retainFrom keep 0 (cellsBy words metadata)) a out }
 
-  inside : (q : ℕ) → q < length kept → getD kept q 0 < length words
-  inside q h = rw list (kept-each (λ p. p < length words) keep (λ p g e. omega arith) q (rw list at h))
+  module _ {out₁ : List ℕ} {q : ℕ} (w : WrittenTo size bytes keep kept words metadata a out out₁ q) where
+    many : length (retainFrom keep 0 (cellsBy words metadata)) ≡ length kept
+    many = listed-many keep kept words metadata (w .list) (w .same)
 
-  pub section-turn : (out₁ out₂ : List ℕ) (q : ℕ) → Written size bytes (retainFrom keep 0 (cellsBy words metadata)) a out out₁ q → q < length kept → a + size * length kept ≤ length out
-      → out₂ ≡ putMid (a + size * q) size out₁ (bytes (retainedAt keep (getD kept q 0) (cellOf metadata (getD kept q 0) (getD words (getD kept q 0) 0)) ∷ []))
-      → Written size bytes (retainFrom keep 0 (cellsBy words metadata)) a out out₂ (q + 1)
-  section-turn out₁ out₂ q w h room e =
-      let cells = cellsBy words metadata in
-      let at : getD (retainFrom keep 0 cells) q (retainedAt keep 0 (cellAt cells 0)) ≡ retainedAt keep (getD kept q 0) (cellOf metadata (getD kept q 0) (getD words (getD kept q 0) 0)) =
-      retain-at keep cells (as-many keep kept words metadata list same) q ∙ rw (← list, cell-at words metadata (getD kept q 0) (inside q h)) in
-      written-turn s (retainFrom keep 0 cells) a out out₁ out₂ q (retainedAt keep 0 (cellAt cells 0)) w (rw many h) (rw many room) (rw at e)
+    pub section-turn : {out₂ : List ℕ} → q < length kept → a + size * length kept ≤ length out
+        → out₂ ≡ putMid (a + size * q) size out₁ (bytes (retainedAt keep (getD kept q 0) (cellOf metadata (getD kept q 0) (getD words (getD kept q 0) 0)) ∷ []))
+        → WrittenTo size bytes keep kept words metadata a out out₂ (q + 1)
+    section-turn {out₂} h room e =
+        let cells = cellsBy words metadata in
+        let same = w .same in
+        let inside : getD kept q 0 < length words = rw (w .list) (kept-each (λ p. p < length words) keep (λ p g e. omega arith) q (rw (w .list) at h)) in
+        let at : getD (retainFrom keep 0 cells) q (retainedAt keep 0 (cellAt cells 0)) ≡ retainedAt keep (getD kept q 0) (cellOf metadata (getD kept q 0) (getD words (getD kept q 0) 0)) =
+        retain-at keep cells (as-many keep kept words metadata (w .list) same) q ∙ rw (← w .list, cell-at words metadata (getD kept q 0) inside) in
+        record {
+          list = w .list;
+          same = same;
+          written = written-turn s (retainFrom keep 0 cells) a out out₁ out₂ q (retainedAt keep 0 (cellAt cells 0)) (w .written) (rw many h) (rw many room) (rw at e);
+        }
 
-  pub section-end : (out₁ : List ℕ) (q : ℕ) → Written size bytes (retainFrom keep 0 (cellsBy words metadata)) a out out₁ q → q ≡ length kept
-      → out₁ ≡ putMid a (size * length kept) out (bytes (retainFrom keep 0 (cellsBy words metadata)))
-  section-end out₁ q w e = written-end s (retainFrom keep 0 (cellsBy words metadata)) a out out₁ q w (e ∙ sym many) ∙ rw many
+    pub section-end : q ≡ length kept → out₁ ≡ putMid a (size * length kept) out (bytes (retainFrom keep 0 (cellsBy words metadata)))
+    section-end e = written-end s (retainFrom keep 0 (cellsBy words metadata)) a out out₁ q (w .written) (e ∙ sym many) ∙ rw many
 
 -- ---- the four parts of a result, one after another
 

@@ -8,7 +8,7 @@ use Prim.Native.Nat.{ℕ, zero, suc, _+_, _*_, _-_, _/_, _%_, _≤_, _<_}
 use native.Mathlib.Omega.{arith}
 use lib.Dec.{eqb, ltb}
 use borrow.Author.Tests.{eqb-true, eqb-false, eq-eqb, ne-eqb, ltb-true, ltb-false}
-use Rattle.words.specs.Truth.{both}
+use Rattle.words.specs.Truth.{both, same-bool}
 use Rattle.values.specs.Table.{Values, Expression, slotIn, expressionIn, sameAtom, sameExpression, learn}
 use Rattle.values.specs.Entries.{Key, key, keyAt, value, newest, sameKey, Added}
 use Rattle.values.specs.Chain.{same-key, key-same, newest-le, newest-key}
@@ -16,7 +16,7 @@ use Rattle.values.specs.Memory.{Memory, numberAt, markedAt, constantOf, 
 use Rattle.values.specs.declared.Atom.{Atom}
 use Rattle.values.specs.declared.Found.{Found}
 use Rattle.values.specs.declared.Found.the-variants.{At, Nothing}
-use Rattle.values.proofs.Atoms.{same-bool, same-atom, atom-start, atom-place, atom-zero, atom-constant, same-number, no-number}
+use Rattle.values.proofs.Atoms.{same-atom, atom-start, atom-place, atom-zero, atom-constant, same-number, no-number}
 use Rattle.values.proofs.Holding.{number-same, mark-same, grown, taught, small}
 
 module _ (n S : ℕ) (few : n ≤ 65536) where

@@ -60,11 +60,31 @@ module _ {n S : ℕ} {t : List ℕ} (g : Ready n S t) where
   some-code = g .order .constants .some
 
   -- nothing changes
-  pub unchanged : Kept n S 0 0 0 t t
+  pub unchanged : {c e : ℕ} → Kept n S 0 c e t t
   unchanged = record { ready = g; long = refl; epochs = omega arith; constants = omega arith; expressions = omega arith }
 
   pub same-self : Same n S t t
   same-self = record { numbers = λ s l. refl; constants = refl; table = refl }
+
+  -- a list of the same length whose memory is m′: it stays in order as m′ is
+  module _ {t′ : List ℕ} {m′ : Memory} (is : memoryOf n S t′ ≡ m′) (epoch : m′ .epoch ≡ memoryOf n S t .epoch) where
+    pub kept-as : {c e : ℕ} → length t′ ≡ length t → Ordered n S m′ → m′ .constants ≤ memoryOf n S t .constants + c → m′ .expressions ≤ memoryOf n S t .expressions + e → Kept n S 0 c e t t′
+    kept-as long order few-constants few-expressions =
+        record {
+          ready = record { long = rw long (g .long); order = rw is order };
+          long = long;
+          epochs = rw (ap (λ (x : Memory). x .epoch) is) (omega arith);
+          constants = rw (ap (λ (x : Memory). x .constants) is) few-constants;
+          expressions = rw (ap (λ (x : Memory). x .expressions) is) few-expressions;
+        }
+
+    pub same-as : m′ .constants ≡ memoryOf n S t .constants → m′ .constantTable ≡ memoryOf n S t .constantTable → ((s : ℕ) → s < S → getD t′ (3 + s) 0 ≡ getD t (3 + s) 0) → Same n S t t′
+    same-as constants table slots =
+        record {
+          numbers = λ s l. number-same m (memoryOf n S t′) s (ap (λ (x : Memory). x .epoch) is ∙ epoch) (slots s l);
+          constants = ap (λ (x : Memory). x .constants) is ∙ constants;
+          table = ap (λ (x : Memory). x .constantTable) is ∙ table;
+        }
 
   -- all is forgotten
   module _ (more : memoryOf n S t .epoch < 4294967295) where
@@ -162,29 +182,14 @@ module _ {n S : ℕ} {t : List ℕ} (g : Ready n S t) where
     there₁ : (e : ℕ) → (e ≡ d → ⊥) → getD t₁ (marksAt S + e) 0 ≡ getD t (marksAt S + e) 0
     there₁ e f = getD-set-other t (3 + S + d) (marksAt S + e) (65536 * getD t 0 0 + s) 0 (λ q. f (omega arith))
 
-    order₁ : Ordered n S (memoryOf n S t₁)
-    order₁ = rw memory₁ (mark-ordered n S few (g .order) d s low used (λ r. getD t₁ (3 + r) 0) (λ e. getD t₁ (marksAt S + e) 0) slots₁ here₁ there₁)
-
-    long₁ : length t₁ ≡ length t
-    long₁ = length-set t (3 + S + d) (65536 * getD t 0 0 + s)
-
     represent-itself : {f : Found} → f ≡ usableAt n S types (memoryOf n S t) d (getD types s 0) → f ≡ Nothing → Represents n S types t s d s (set t (3 + S + d) (65536 * getD t 0 0 + s))
     unfolding representative orItself slotFound
     represent-itself {f} e q =
         let found : usableAt n S types m d (getD types s 0) ≡ Nothing = sym e ∙ q in
         record {
-          kept = record {
-            ready = record { long = rw long₁ (g .long); order = order₁ };
-            long = long₁;
-            epochs = rw (ap (λ (x : Memory). x .epoch) memory₁) (omega arith);
-            constants = rw (ap (λ (x : Memory). x .constants) memory₁) (omega arith);
-            expressions = rw (ap (λ (x : Memory). x .expressions) memory₁) (omega arith);
-          };
-          same = record {
-            numbers = λ r l. number-same m (memoryOf n S t₁) r (ap (λ (x : Memory). x .epoch) memory₁) (slots₁ r l);
-            constants = ap (λ (x : Memory). x .constants) memory₁;
-            table = ap (λ (x : Memory). x .constantTable) memory₁;
-          };
+          kept = kept-as memory₁ refl (length-set t (3 + S + d) (65536 * getD t 0 0 + s))
+              (mark-ordered n S few (g .order) d s low used (λ r. getD t₁ (3 + r) 0) (λ e. getD t₁ (marksAt S + e) 0) slots₁ here₁ there₁) (omega arith) (omega arith);
+          same = same-as memory₁ refl refl refl slots₁;
           low = low;
           number = sym is;
           holds = λ dest v h.

@@ -7,6 +7,7 @@ pub mod Bytes
 pub mod Word
 pub mod Bits
 pub mod Lists
+pub mod Every
 pub mod Tabulate
 pub mod Keys
 pub mod Truth

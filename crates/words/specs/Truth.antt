@@ -1,6 +1,6 @@
--- What two tests say where both passed.
+-- Two tests: what it says that both passed, and when they are the same.
 -- Assumes nothing.
-use mathlib.Core.Path.{_≡_, refl}
+use mathlib.Core.Path.{_≡_, refl, sym}
 use mathlib.Core.Bool.{Bool, true, false, _&&_, false≢true}
 
 pub left-true : (s t : Bool) → (s && t) ≡ true → s ≡ true
@@ -13,3 +13,9 @@ right-true false t e = absurd (false≢true e)
 
 pub both : (s t : Bool) → (s && t) ≡ true → (s ≡ true) × (t ≡ true)
 both s t e = (left-true s t e, right-true s t e)
+
+-- two that hold together are the same
+pub same-bool : (s t : Bool) → (s ≡ true → t ≡ true) → (t ≡ true → s ≡ true) → s ≡ t
+same-bool true t f g = sym (f refl)
+same-bool false true f g = g refl
+same-bool false false f g = refl

@@ -3,15 +3,6 @@ use Rattle.host.specs.Numbers.{numbersOf}
 use Rattle.host.proofs.in_numbers.Statement.{statement}
 use Rattle.host.proofs.in_numbers.Tie as tie
 
-enum-told : tie.Need-enum-told
-enum-told c = search needs
-
-enum-known-a : tie.Need-enum-known-a
-enum-known-a c = search needs
-
-enum-known-a-2 : tie.Need-enum-known-a-2
-enum-known-a-2 c = search needs
-
 returns : tie.Need-returns
 unfolding numbersOf
 returns c = rw (c .enum-told .given .1)
@@ -26,4 +17,4 @@ returns-3 c = rw (c .before .a2 .given .1)
 
 pub in-numbers-spec : {M : Type 1} → statement M
 in-numbers-spec =
-    tie.close (tie.spec enum-told enum-known-a enum-known-a-2 returns returns-2 returns-3)
+    tie.close (tie.spec (λ c. search needs) (λ c. search needs) (λ c. search needs) returns returns-2 returns-3)

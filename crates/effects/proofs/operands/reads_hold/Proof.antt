@@ -1,61 +1,40 @@
 use borrow.Author.Tests.{not-true, not-false}
-use mathlib.Core.Path.{_≡_, refl, sym, _∙_}
-use mathlib.Core.Bool.{true, false}
-use Prim.Native.Nat.{_-_, _≤_, _<_}
-use native.Mathlib.Omega.{arith}
-use lib.ListN.{length, getD, drop}
-use Rattle.effects.specs.Shape.{Cell, Tables, tablesOf}
-use Rattle.effects.specs.Effects.{allReads, allOf}
+use mathlib.Core.Path.{sym, ap, _∙_}
+use Prim.Native.Nat.{_-_}
+use lib.ListN.{getD}
+use Rattle.words.specs.Every.{Passed, none-passed, more-passed, all-passed, one-failed}
+use Rattle.effects.specs.Shape.{tablesOf}
+use Rattle.effects.specs.Effects.{allReads}
 use Rattle.effects.specs.Form.{emptyRange}
-use Rattle.effects.specs.Operands.{rangeHolds, all-on, all-here, all-none}
+use Rattle.effects.specs.Operands.{rangeHolds, every-range}
 use borrow.Author.Needs.{needs}
 use Rattle.effects.proofs.operands.reads_hold.Statement.{statement}
 use Rattle.effects.proofs.operands.reads_hold.Tie as tie
 
 abbrev Inv-loop : tie.InvT-loop
-Inv-loop limit i m functions externs cases n k₀ k = (k ≤ n) × (allOf (rangeHolds limit) (drop k (allReads (tablesOf functions externs cases) (record { instruction = i; metadata = m }))) ≡ allOf (rangeHolds limit) (allReads (tablesOf functions externs cases) (record { instruction = i; metadata = m })))
+Inv-loop limit i m functions externs cases n k₀ k = Passed n (λ j. rangeHolds limit (getD (allReads (tablesOf functions externs cases) (record { instruction = i; metadata = m })) j emptyRange)) k
 
 abbrev μ-loop : tie.MeasureT-loop
 μ-loop limit i m functions externs cases n k₀ k = n - k
 
-loop-holds : tie.Need-loop-holds Inv-loop μ-loop
-loop-holds c = (search needs, refl)
-
 read-range-requires : tie.Need-read-range-requires Inv-loop μ-loop
 read-range-requires c κs =
-    let a = c .before .before .before .before .before .before .args in
-    let x : Cell = record { instruction = a .i; metadata = a .m } in
-    let T : Tables = tablesOf (a .functions .now) (a .externs .now) (a .cases .now) in
-    (omega (arith, c .before .before .read-count .ensures T), c .before .before .before .before .before .before .pre .1)
+    let s = c .before .before in
+    (rw (← s .read-count .ensures _) (c .loop-test .taken), s .before .before .before .before .pre .1)
 
 returns : tie.Need-returns Inv-loop μ-loop
 returns c =
-    let a = c .before .before .before .before .before .before .before .before .before .args in
-    let x : Cell = record { instruction = a .i; metadata = a .m } in
-    let T : Tables = tablesOf (a .functions .now) (a .externs .now) (a .cases .now) in
-    let k = c .before .before .before .before .loop .k in
-    let inside : k < length (allReads T x) = omega (arith, c .before .before .before .before .before .read-count .ensures T) in
-    let fails : rangeHolds (a .limit) (getD (allReads T x) k emptyRange) ≡ false = rw (← c .before .before .read-range .ensures) (sym (c .before .range-holds .ensures) ∙ not-true _ (c .if1 .taken)) in
-    sym (all-here (rangeHolds (a .limit)) (allReads T x) k inside fails) ∙ c .before .before .before .before .loop .inv .1
+    let b = c .before .before in
+    let s = b .before .before .before in
+    one-failed _ _ _ (b .before .loop-test .taken) (ap (rangeHolds _) (sym (b .read-range .ensures)) ∙ sym (c .before .range-holds .ensures) ∙ not-true _ (c .if1 .taken)) ∙ every-range _ _ _ (s .read-count .ensures _)
 
 loop-again : tie.Need-loop-again Inv-loop μ-loop
 loop-again c =
-    let a = c .before .before .before .before .before .before .before .before .before .args in
-    let x : Cell = record { instruction = a .i; metadata = a .m } in
-    let T : Tables = tablesOf (a .functions .now) (a .externs .now) (a .cases .now) in
-    let k = c .before .before .before .before .loop .k in
-    let inside : k < length (allReads T x) = omega (arith, c .before .before .before .before .before .read-count .ensures T) in
-    let holds : rangeHolds (a .limit) (getD (allReads T x) k emptyRange) ≡ true = rw (← c .before .before .read-range .ensures) (sym (c .before .range-holds .ensures) ∙ not-false _ (c .if1 .left)) in
-    (search needs, all-on (rangeHolds (a .limit)) (allReads T x) k inside holds ∙ c .before .before .before .before .loop .inv .1)
+    let b = c .before .before in
+    more-passed _ _ _ (b .before .before .loop .inv) (b .before .loop-test .taken) (ap (rangeHolds _) (sym (b .read-range .ensures)) ∙ sym (c .before .range-holds .ensures) ∙ not-false _ (c .if1 .left))
 
 returns-2 : tie.Need-returns-2 Inv-loop μ-loop
-returns-2 c =
-    let a = c .before .before .before .before .before .before .args in
-    let x : Cell = record { instruction = a .i; metadata = a .m } in
-    let T : Tables = tablesOf (a .functions .now) (a .externs .now) (a .cases .now) in
-    let k = c .before .loop .k in
-    let end : k ≡ length (allReads T x) = omega (arith, c .before .before .read-count .ensures T) in
-    sym (all-none (rangeHolds (a .limit)) (allReads T x) k end) ∙ c .before .loop .inv .1
+returns-2 c = all-passed _ _ _ (c .before .loop .inv) (c .loop-test .left) ∙ every-range _ _ _ (c .before .before .read-count .ensures _)
 
 pub reads-hold-spec : {M : Type 1} → statement M
 reads-hold-spec =
@@ -64,7 +43,7 @@ reads-hold-spec =
     Inv-loop
     μ-loop
     (λ c κs. search needs)
-    loop-holds
+    (λ c. none-passed _ _)
     read-range-requires
     (λ c κs. search needs)
     returns

@@ -1,14 +1,14 @@
 use mathlib.Core.Path.{_≡_, refl}
 use mathlib.Core.Bool.{cond}
 use mathlib.Core.List.{List}
-use Prim.Native.Nat.{ℕ, _≤_, _-_}
+use Prim.Native.Nat.{ℕ, _-_}
 use native.Mathlib.Omega.{arith}
 use lib.ListN.{length, getD}
 use Rattle.unit.specs.Refusal.{branchOutside}
 use Rattle.effects.specs.Shape.{Cell}
 use Rattle.effects.specs.Cells.{cellOf, cellsBy, cells-long}
+use Rattle.effects.specs.Laws.{Unrefused, refused-first, refused-none, refused-later, refused-here}
 use Rattle.flow.specs.Branch.{branchInside, branchCheck}
-use Rattle.flow.specs.Checking.{Unrefused, refused-none, refused-later, refused-here}
 use borrow.Author.Needs.{needs}
 use Rattle.flow.proofs.branch.check_branches.Statement.{statement}
 use Rattle.flow.proofs.branch.check_branches.Tie as tie
@@ -18,13 +18,13 @@ abbrev branchTest : ℕ → ℕ → Cell → ℕ
 branchTest n p x = cond (branchInside n p (x .instruction)) 0 branchOutside
 
 abbrev Inv-loop : tie.InvT-loop
-Inv-loop words n p₀ p = (n ≡ length words) × (p ≤ n) × ((metadata : List ℕ) → Unrefused (branchTest (length (cellsBy words metadata))) words metadata p)
+Inv-loop words n p₀ p = (n ≡ length words) × ((metadata : List ℕ) → Unrefused (branchTest (length (cellsBy words metadata))) words metadata p)
 
 abbrev μ-loop : tie.MeasureT-loop
 μ-loop words n p₀ p = n - p
 
 loop-holds : tie.Need-loop-holds Inv-loop μ-loop
-loop-holds c = (refl, omega arith, λ metadata. refl)
+loop-holds c = (refl, λ metadata. refused-first)
 
 -- what a turn's call answers
 tested : (c : tie.After-branch-refusal Inv-loop μ-loop) (metadata : List ℕ)
@@ -37,19 +37,16 @@ returns : tie.Need-returns Inv-loop μ-loop
 unfolding branchCheck
 returns c =
     let b = c .before in
-    λ metadata. refused-here _ _ _ _ (b .before .before .before .before .loop .inv .2 metadata) (b .before .before .before .loop-test .taken) _ (tested b metadata) (c .if1 .taken)
+    λ metadata. refused-here (b .before .before .before .before .loop .inv .1 metadata) (omega arith) (tested b metadata) (c .if1 .taken)
 
 loop-again : tie.Need-loop-again Inv-loop μ-loop
 loop-again c =
-    let b = c .before in (
-      refl,
-      omega arith,
-      λ metadata. refused-later _ _ _ _ (b .before .before .before .before .loop .inv .2 metadata) (b .before .before .before .loop-test .taken) _ (tested b metadata) (c .if1 .left),
-    )
+    let b = c .before in
+    (refl, λ metadata. refused-later (b .before .before .before .before .loop .inv .1 metadata) (omega arith) (tested b metadata) (c .if1 .left))
 
 returns-2 : tie.Need-returns-2 Inv-loop μ-loop
 unfolding branchCheck
-returns-2 c = λ metadata. refused-none _ _ _ _ (c .before .loop .inv .2 metadata) (omega arith)
+returns-2 c = λ metadata. refused-none (c .before .loop .inv .1 metadata) (omega arith)
 
 pub check-branches-spec : {M : Type 1} → statement M
 check-branches-spec =

@@ -4,25 +4,21 @@ use Prim.Native.Nat.{ℕ, _≤_, _<_, _-_}
 use native.Mathlib.Omega.{arith}
 use lib.ListN.{length}
 use Rattle.unit.specs.Result.{metadataBytesAll}
-use Rattle.effects.specs.Cells.{cellsBy}
 use Rattle.pc_map.specs.Listed.{Listed}
-use Rattle.pc_map.specs.Relocate.{retainFrom}
-use Rattle.pc_map.specs.Retaining.{Written, metadata-section}
-use Rattle.pc_map.proofs.Writing.{section-begin, section-turn, section-end}
+use Rattle.pc_map.specs.Retaining.{metadata-section}
+use Rattle.pc_map.proofs.Writing.{WrittenTo, section-begin, section-turn, section-end}
 use borrow.Author.Needs.{needs}
 use Rattle.pc_map.proofs.retained.write_metadata.Statement.{statement}
 use Rattle.pc_map.proofs.retained.write_metadata.Tie as tie
 
 abbrev Inv-loop : tie.InvT-loop
-Inv-loop words metadata bounds kept out₀ a k q₀ out q = (q ≤ length kept) × (length out ≡ length out₀) × ((keep : List ℕ) → Listed keep bounds kept (length words) → Written 16 metadataBytesAll (retainFrom keep 0 (cellsBy words metadata)) a out₀ out q)
+Inv-loop words metadata bounds kept out₀ a k q₀ out q = (q ≤ length kept) × (length out ≡ length out₀) × ((keep : List ℕ) → Listed keep bounds kept (length words) → WrittenTo 16 metadataBytesAll keep kept words metadata a out₀ out q)
 
 abbrev μ-loop : tie.MeasureT-loop
 μ-loop words metadata bounds kept out₀ a k q₀ out q = length kept - q
 
 loop-holds : tie.Need-loop-holds Inv-loop μ-loop
-loop-holds c =
-    let a = c .before .before .before .before .before .args in
-    (omega arith, refl, λ keep l. section-begin metadata-section keep (a .kept .now) (a .words .now) (a .metadata .now) (l .list) (l .long) (a .a) (a .out .now))
+loop-holds c = (omega arith, refl, λ keep l. section-begin metadata-section (l .list) (l .long))
 
 cast-write-entry : tie.Need-cast-write-entry Inv-loop μ-loop
 cast-write-entry c = omega (arith, c .shared-slice-known5 .given (c .before .before .loop .q))
@@ -38,21 +34,17 @@ loop-again : tie.Need-loop-again Inv-loop μ-loop
 loop-again c =
     let w = c .before .before in
     let h = w .before .before .before .before in
-    let s = h .before .before .before .before .before .before in
-    let a = s .args in (
+    let s = h .before .before .before .before .before .before in (
       omega arith,
       w .write-entry .kept .1 .1 .1 .1 .0 ∙ h .loop .inv .1,
-      λ keep l. section-turn metadata-section keep (a .kept .now) (a .words .now) (a .metadata .now) (l .list) (l .long) (a .a) (a .out .now) _ _ (h .loop .q) (h .loop .inv .2 keep l) (omega arith) (s .pre .4) (w .write-entry .ensures keep (l .mapped)),
+      λ keep l. section-turn metadata-section (h .loop .inv .2 keep l) (omega arith) (s .pre .4) (w .write-entry .ensures keep (l .mapped)),
     )
 
 same-length : tie.Need-same-length Inv-loop μ-loop
 same-length c = c .before .loop .inv .1
 
 returns : tie.Need-returns Inv-loop μ-loop
-returns c =
-    let h = c .before in
-    let a = h .before .before .before .before .before .before .args in
-    λ keep l. section-end metadata-section keep (a .kept .now) (a .words .now) (a .metadata .now) (l .list) (l .long) (a .a) (a .out .now) _ (h .loop .q) (h .loop .inv .2 keep l) (omega arith)
+returns c = λ keep l. section-end metadata-section (c .before .loop .inv .2 keep l) (omega arith)
 
 pub write-metadata-spec : {M : Type 1} → statement M
 write-metadata-spec =

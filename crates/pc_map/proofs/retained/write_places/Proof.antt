@@ -4,25 +4,21 @@ use Prim.Native.Nat.{ℕ, _+_, _*_, _-_, _≤_}
 use native.Mathlib.Omega.{arith}
 use lib.ListN.{length, getD}
 use Rattle.unit.specs.Result.{placeBytes}
-use Rattle.effects.specs.Cells.{cellsBy}
 use Rattle.pc_map.specs.Listed.{keptList}
-use Rattle.pc_map.specs.Relocate.{retainFrom}
-use Rattle.pc_map.specs.Retaining.{Written, place-section}
-use Rattle.pc_map.proofs.Writing.{kept-place, section-begin, section-turn, section-end}
+use Rattle.pc_map.specs.Retaining.{place-section}
+use Rattle.pc_map.proofs.Writing.{kept-place, WrittenTo, section-begin, section-turn, section-end}
 use borrow.Author.Needs.{needs}
 use Rattle.pc_map.proofs.retained.write_places.Statement.{statement}
 use Rattle.pc_map.proofs.retained.write_places.Tie as tie
 
 abbrev Inv-loop : tie.InvT-loop
-Inv-loop kept out₀ a k q₀ out q = (q ≤ length kept) × (length out ≡ length out₀) × ((keep words metadata : List ℕ) → kept ≡ keptList keep → length keep ≡ length words → Written 4 placeBytes (retainFrom keep 0 (cellsBy words metadata)) a out₀ out q)
+Inv-loop kept out₀ a k q₀ out q = (q ≤ length kept) × (length out ≡ length out₀) × ((keep words metadata : List ℕ) → kept ≡ keptList keep → length keep ≡ length words → WrittenTo 4 placeBytes keep kept words metadata a out₀ out q)
 
 abbrev μ-loop : tie.MeasureT-loop
 μ-loop kept out₀ a k q₀ out q = length kept - q
 
 loop-holds : tie.Need-loop-holds Inv-loop μ-loop
-loop-holds c =
-    let a = c .before .before .args in
-    (omega arith, refl, λ keep words metadata e f. section-begin place-section keep (a .kept .now) words metadata e f (a .a) (a .out .now))
+loop-holds c = (omega arith, refl, λ keep words metadata e f. section-begin place-section e f)
 
 write-u32-requires : tie.Need-write-u32-requires Inv-loop μ-loop
 write-u32-requires c κs = let h = c .before .before .before in omega (arith, h .loop .inv .1)
@@ -35,17 +31,14 @@ loop-again c =
     let a = s .args in (
       omega arith,
       w .write-u32 .kept .0 ∙ h .loop .inv .1,
-      λ keep words metadata e f. section-turn place-section keep (a .kept .now) words metadata e f (a .a) (a .out .now) _ _ (h .loop .q) (h .loop .inv .2 keep words metadata e f) (omega arith) (s .pre) (kept-place keep (getD (a .kept .now) (h .loop .q) 0) _ (h .loop .out) _ (a .a + 4 * h .loop .q) (w .write-u32 .ensures)),
+      λ keep words metadata e f. section-turn place-section (h .loop .inv .2 keep words metadata e f) (omega arith) (s .pre) (kept-place keep (getD (a .kept .now) (h .loop .q) 0) _ (h .loop .out) _ (a .a + 4 * h .loop .q) (w .write-u32 .ensures)),
     )
 
 same-length : tie.Need-same-length Inv-loop μ-loop
 same-length c = c .before .loop .inv .1
 
 returns : tie.Need-returns Inv-loop μ-loop
-returns c =
-    let h = c .before in
-    let a = h .before .before .before .args in
-    λ keep words metadata e f. section-end place-section keep (a .kept .now) words metadata e f (a .a) (a .out .now) _ (h .loop .q) (h .loop .inv .2 keep words metadata e f) (omega arith)
+returns c = λ keep words metadata e f. section-end place-section (c .before .loop .inv .2 keep words metadata e f) (omega arith)
 
 pub write-places-spec : {M : Type 1} → statement M
 write-places-spec =

@@ -1,6 +1,6 @@
 use borrow.Author.Tests.{not-true, not-false}
 use Prim.Native.Nat.{_-_}
-use Rattle.unit.proofs.Every.{Passed, none-passed, more-passed, all-passed, one-failed}
+use Rattle.words.specs.Every.{Passed, none-passed, more-passed, all-passed, one-failed}
 use Rattle.unit.specs.Entry.{goodMetadata, metadataAt}
 use borrow.Author.Needs.{needs}
 use Rattle.unit.proofs.parse.every_metadata.Statement.{statement}
