@@ -24,7 +24,6 @@ use optimize::Answer;
 use optimize::pass;
 use unit::Counts;
 use unit::Layout;
-use unit::parse;
 use unit::refusal;
 use unit::size;
 use words::fill;

@@ -15,7 +15,6 @@ use crate::Answer;
 use crate::parts;
 use unit::Counts;
 use unit::Layout;
-use unit::parse;
 use unit::refusal;
 use unit::section;
 use unit::size;

@@ -1,6 +1,5 @@
 // The unit: its header, its sections and their entries; the result's layout; the sizes of lent buffers.
 pub mod entry;
-pub mod parse;
 pub mod refusal;
 pub mod result;
 pub mod section;

@@ -1,0 +1,226 @@
+// The unit's header, and the check that bytes are a unit.
+ghost use mathlib.Core.Path.{_≡_};
+ghost use Prim.Native.Nat.{_+_, _*_, _/_, _≤_};
+ghost use lib.Dec.{eqb};
+ghost use lib.ListN.{length};
+ghost use Rattle.words.specs.Le.{u32At};
+ghost use Rattle.words.specs.Lists.{every};
+ghost use Rattle.unit.specs.Size.{headerSize, metadataSize, constantSize, caseSize};
+ghost use Rattle.unit.specs.Entry.{metadataAt, goodMetadata, typeAt, goodType, goodConstant, caseAt, goodCase};
+ghost use Rattle.unit.specs.Layout.{headerOf, sectionsFollow, goodCounts, goodEntries, isUnit, layoutOf};
+ghost use Rattle.unit.specs.Laws.{Sections};
+use unit::Counts;
+use unit::Header;
+use unit::Layout;
+use unit::Metadata;
+use unit::Offsets;
+use unit::SelectCase;
+use unit::entry;
+use unit::refusal;
+use unit::section;
+use words::le;
+
+fn counts(unit: &[u8]) -> Counts
+    requires { ⌜ headerSize ≤ length (now unit) ⌝ }
+    ensures { λ r. ⌜ r ≡ headerOf (now (unit .entry)) .counts ⌝ }
+{
+    Counts {
+        instructions: section::word(unit, 0),
+        metadata: section::word(unit, 4),
+        locals: section::word(unit, 8),
+        types: section::word(unit, 12),
+        defer: section::word(unit, 16),
+        constants: section::word(unit, 20),
+        functions: section::word(unit, 24),
+        externs: section::word(unit, 28),
+        cases: section::word(unit, 32),
+    }
+}
+
+fn offsets(unit: &[u8]) -> Offsets
+    requires { ⌜ headerSize ≤ length (now unit) ⌝ }
+    ensures { λ r. ⌜ r ≡ headerOf (now (unit .entry)) .offsets ⌝ }
+{
+    Offsets {
+        code: section::word(unit, 36),
+        metadata: section::word(unit, 40),
+        types: section::word(unit, 44),
+        constants: section::word(unit, 48),
+        functions: section::word(unit, 52),
+        externs: section::word(unit, 56),
+        cases: section::word(unit, 60),
+    }
+}
+
+pub fn header(unit: &[u8]) -> Header
+    requires { ⌜ headerSize ≤ length (now unit) ⌝ }
+    ensures { λ r. ⌜ r ≡ headerOf (now (unit .entry)) ⌝ }
+{
+    let counts = counts(unit);
+    let offsets = offsets(unit);
+    Header { counts, offsets }
+}
+
+// Does the section whose start stands at byte `next` follow the one of `offset`, `count` and `size`?
+fn meets(unit: &[u8], offset: usize, count: usize, size: usize, next: usize) -> bool
+    requires { ⌜ (headerSize ≤ length (now unit)) × (offset ≤ 60) × (count ≤ 60) × (size ≤ 16) × (next ≤ 60) ⌝ }
+    ensures { λ r. ⌜ r ≡ eqb (u32At (now (unit .entry)) next) (u32At (now (unit .entry)) offset + size * u32At (now (unit .entry)) count) ⌝ }
+{
+    section::word(unit, next) == section::past(unit, offset, count, size)
+}
+
+// The tests are cheap, so that all are made.
+fn sections_follow(unit: &[u8]) -> bool
+    requires { ⌜ headerSize ≤ length (now unit) ⌝ }
+    ensures { λ r. ⌜ r ≡ sectionsFollow (headerOf (now (unit .entry))) (length (now (unit .entry))) ⌝ }
+{
+    (section::word(unit, 36) == 64)
+        & meets(unit, 36, 0, 8, 40)
+        & meets(unit, 40, 4, 16, 44)
+        & meets(unit, 44, 12, 1, 48)
+        & meets(unit, 48, 20, 16, 52)
+        & meets(unit, 52, 24, 4, 56)
+        & meets(unit, 56, 28, 2, 60)
+        & (unit.len() == section::past(unit, 60, 32, 8))
+}
+
+fn good_counts(unit: &[u8]) -> bool
+    requires { ⌜ headerSize ≤ length (now unit) ⌝ }
+    ensures { λ r. ⌜ r ≡ goodCounts (headerOf (now (unit .entry))) ⌝ }
+{
+    (section::word(unit, 8) <= 65535) & (section::word(unit, 16) <= 1)
+}
+
+// A kind of 0 to 15, an ok flag, and a select's cases within the section of cases.
+fn good_metadata(d: Metadata, cases: usize) -> bool
+    ensures { λ r. ⌜ r ≡ goodMetadata cases d ⌝ }
+{
+    if d.kind > 15 {
+        return false;
+    }
+    if d.ok > 1 {
+        return false;
+    }
+    if d.kind == 12 {
+        (d.first as usize) + (d.second as usize) <= cases
+    } else {
+        true
+    }
+}
+
+fn every_metadata(section: &[u8], cases: usize) -> bool
+    ensures { λ r. ⌜ r ≡ every (length (now (section .entry)) / metadataSize) (λ k. goodMetadata cases (metadataAt (now (section .entry)) k)) ⌝ }
+{
+    let n = section.len() / 16;
+    let mut k = 0;
+    while k < n {
+        if !good_metadata(entry::metadata(section, k), cases) {
+            return false;
+        }
+        k += 1;
+    }
+    true
+}
+
+fn every_type(section: &[u8]) -> bool
+    ensures { λ r. ⌜ r ≡ every (length (now (section .entry))) (λ k. goodType (typeAt (now (section .entry)) k)) ⌝ }
+{
+    let mut k = 0;
+    while k < section.len() {
+        if section[k] > 5 {
+            return false;
+        }
+        k += 1;
+    }
+    true
+}
+
+// A kind of 0 to 4, and a Bool of 0 or 1.
+fn good_constant(section: &[u8], k: usize) -> bool
+    requires { ⌜ constantSize * k + constantSize ≤ length (now section) ⌝ }
+    ensures { λ r. ⌜ r ≡ goodConstant (now (section .entry)) k ⌝ }
+{
+    let at = 16 * k;
+    if section[at] > 4 {
+        return false;
+    }
+    if section[at] == 1 {
+        le::read_u64(section, at + 8) <= 1
+    } else {
+        true
+    }
+}
+
+fn every_constant(section: &[u8]) -> bool
+    ensures { λ r. ⌜ r ≡ every (length (now (section .entry)) / constantSize) (λ k. goodConstant (now (section .entry)) k) ⌝ }
+{
+    let n = section.len() / 16;
+    let mut k = 0;
+    while k < n {
+        if !good_constant(section, k) {
+            return false;
+        }
+        k += 1;
+    }
+    true
+}
+
+fn good_case(x: SelectCase) -> bool
+    ensures { λ r. ⌜ r ≡ goodCase x ⌝ }
+{
+    if x.kind > 1 {
+        return false;
+    }
+    x.ok <= 1
+}
+
+fn every_case(section: &[u8]) -> bool
+    ensures { λ r. ⌜ r ≡ every (length (now (section .entry)) / caseSize) (λ k. goodCase (caseAt (now (section .entry)) k)) ⌝ }
+{
+    let n = section.len() / 8;
+    let mut k = 0;
+    while k < n {
+        if !good_case(entry::select_case(section, k)) {
+            return false;
+        }
+        k += 1;
+    }
+    true
+}
+
+fn good_entries(unit: &[u8]) -> bool
+    requires { ⌜ Sections (headerOf (now unit)) (length (now unit)) ⌝ }
+    ensures { λ r. ⌜ r ≡ goodEntries (now (unit .entry)) ⌝ }
+{
+    let cases = section::word(unit, 32);
+    every_metadata(section::part(unit, 40, 4, 16), cases)
+        & every_type(section::part(unit, 44, 12, 1))
+        & every_constant(section::part(unit, 48, 20, 16))
+        & every_case(section::part(unit, 60, 32, 8))
+}
+
+fn is_unit(unit: &[u8]) -> bool
+    ensures { λ r. ⌜ r ≡ isUnit (now (unit .entry)) ⌝ }
+{
+    if unit.len() < 64 {
+        return false;
+    }
+    if !sections_follow(unit) {
+        return false;
+    }
+    if !good_counts(unit) {
+        return false;
+    }
+    good_entries(unit)
+}
+
+// The header of a unit, or refusal 1 at place 0.
+pub fn check(unit: &[u8]) -> Layout
+    ensures { λ r. ⌜ r ≡ layoutOf (now (unit .entry)) ⌝ }
+{
+    if is_unit(unit) {
+        Layout::Unit(header(unit))
+    } else {
+        Layout::Refused(refusal::NOT_UNIT, 0)
+    }
+}

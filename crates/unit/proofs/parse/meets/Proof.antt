@@ -1,9 +1,0 @@
-use borrow.Author.Needs.{needs}
-use Rattle.unit.proofs.parse.meets.Statement.{statement}
-use Rattle.unit.proofs.parse.meets.Tie as tie
-
-returns : tie.Need-returns
-returns c = cc
-
-pub meets-spec : {M : Type 1} → statement M
-meets-spec = tie.close (tie.spec (λ c κs. search needs) (λ c κs. search needs) returns)
