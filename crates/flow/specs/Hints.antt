@@ -5,14 +5,10 @@ use mathlib.Core.Bool.{Bool, true, false, cond, _&&_}
 use mathlib.Core.List.{List, [], _∷_, _++_}
 use Prim.Native.Nat.{ℕ, suc, _+_, _<_}
 use native.Mathlib.Numerals.{add-one}
-use lib.Dec.{eqb, ltb}
+use lib.Dec.{eqb}
 use lib.ListN.{length, getD, drop, replicate}
 use lib.Seq.{drop-cons, drop-length}
-use borrow.Author.Tests.{ne-eqb}
-use Rattle.instruction.specs.declared.Instruction.{Instruction}
 use Rattle.unit.specs.Refusal.{unsoundLoop}
-use Rattle.unit.specs.declared.Metadata.{Metadata}
-use Rattle.unit.specs.Entry.{kindLoopEnd}
 use Rattle.effects.specs.Shape.{Cell, cellAt, noCell}
 use Rattle.effects.specs.Cells.{cellOf, cellsBy, cells-long, cell-at}
 use Rattle.flow.specs.Loop.{isLoopHint, isSound, loopEnd, loopEnds, anchors}
@@ -58,26 +54,3 @@ module _ (words metadata marks : List ℕ) where
   pub anchoring-end : (ends : List ℕ) (p : ℕ) → Anchoring words metadata marks ends p → p ≡ length words → ends ≡ anchors marks (cellsBy words metadata)
   unfolding loopEnds markAll
   anchoring-end ends p e h = rw (h, ← cells-long words metadata, drop-length (cellsBy words metadata)) at e
-
--- the answers of the test; i is the cell's instruction and d its metadata, as the code has them
-module _ (marks : List ℕ) (n p : ℕ) (x : Cell) where
-  pub loop-unmarked : (getD marks p 0 ≡ 1 → ⊥) → 0 ≡ loopTest marks n p x
-  loop-unmarked f = rw (ne-eqb (getD marks p 0) 1 f)
-
-  module _ (i : Instruction) (h : Bool) (same : i ≡ x .instruction) (hint : h ≡ isLoopHint i) where
-    pub loop-none : h ≡ false → 0 ≡ loopTest marks n p x
-    loop-none e = let t : isLoopHint (x .instruction) ≡ false = cc in rw t (go (eqb (getD marks p 0) 1))
-      where
-        go : (m : Bool) → 0 ≡ cond (m && false) (cond (isSound n x) 0 unsoundLoop) 0
-        go true = refl
-        go false = refl
-
-    module _ (d : Metadata) (s : Bool) (there : d ≡ x .metadata) (sound : s ≡ (eqb (d .kind) kindLoopEnd && ltb (d .end) n)) (e : h ≡ true) (f : getD marks p 0 ≡ 1) where
-      t : isLoopHint (x .instruction) ≡ true
-      t = cc
-
-      pub loop-good : s ≡ true → 0 ≡ loopTest marks n p x
-      loop-good g = let u : isSound n x ≡ true = cc in rw (f, t, u)
-
-      pub loop-bad : s ≡ false → unsoundLoop ≡ loopTest marks n p x
-      loop-bad g = let u : isSound n x ≡ false = cc in rw (f, t, u)

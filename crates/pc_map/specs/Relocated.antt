@@ -5,8 +5,7 @@ use mathlib.Core.Bool.{Bool, true, false, cond, _&&_, false≢true}
 use mathlib.Core.List.{List}
 use Prim.Native.Nat.{ℕ}
 use lib.Dec.{eqb, leb}
-use lib.ListN.{getD}
-use borrow.Author.Tests.{eqb-true, ne-eqb}
+use borrow.Author.Tests.{eqb-true}
 use Rattle.words.specs.Truth.{left-true}
 use Rattle.instruction.specs.declared.Instruction.{Instruction}
 use Rattle.instruction.specs.declared.Class.{Class}
@@ -99,26 +98,3 @@ module _ (keep : List ℕ) where
       go : (t : Bool) → isLoopHint (x .instruction) ≡ t → movedExit keep (x .instruction) ≡ relocate keep p x .instruction
       go true e = sym (ap (λ (k : Class). relocateBy keep k p x .instruction) (loop-class (x .instruction) e) ∙ hint-instruction x)
       go false e = rw e (other e (class (x .instruction)) ends)
-
--- the answers of the test; i is the cell's instruction and d its metadata, as the code has them
-module _ (keep : List ℕ) (n p : ℕ) (x : Cell) where
-  pub moves-removed : (getD keep p 0 ≡ 1 → ⊥) → 0 ≡ relocationTest keep n p x
-  moves-removed f = rw (ne-eqb (getD keep p 0) 1 f)
-
-  module _ (i : Instruction) (h : Bool) (same : i ≡ x .instruction) (hint : h ≡ isLoopHint i) where
-    pub moves-no-hint : h ≡ false → 0 ≡ relocationTest keep n p x
-    moves-no-hint e = let t : isLoopHint (x .instruction) ≡ false = cc in rw t (go (isKept keep p))
-      where
-        go : (m : Bool) → 0 ≡ cond (m && false) (cond (leb (loopExit x) n && isKept keep (loopEnd x)) 0 lostLoop) 0
-        go true = refl
-        go false = refl
-
-    module _ (d : Metadata) (v : ℕ) (s : Bool) (there : d ≡ x .metadata) (exit : v ≡ imm32Unsigned i) (kept : s ≡ isKept keep (d .end)) (e : h ≡ true) (f : getD keep p 0 ≡ 1) where
-      t : isLoopHint (x .instruction) ≡ true
-      t = cc
-
-      pub moves-well : (leb v n && s) ≡ true → 0 ≡ relocationTest keep n p x
-      moves-well g = let u : (leb (loopExit x) n && isKept keep (loopEnd x)) ≡ true = cc in rw (f, t, u)
-
-      pub moves-not : (leb v n && s) ≡ false → lostLoop ≡ relocationTest keep n p x
-      moves-not g = let u : (leb (loopExit x) n && isKept keep (loopEnd x)) ≡ false = cc in rw (f, t, u)
