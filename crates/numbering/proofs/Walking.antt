@@ -69,7 +69,7 @@ kept-then d w =
 
 -- nothing changed
 pub kept-same : {n S k c e : ℕ} {t : List ℕ} → Ready n S t → Kept n S k c e t t
-kept-same g = widen (omega arith) (omega arith) (omega arith) (unchanged g)
+kept-same g = widen (omega arith) (omega arith) (omega arith) (unchanged g {c = 0} {e = 0})
 
 pub room-kept : {n S : ℕ} {t t′ : List ℕ} → Room n S t → Kept n S 0 0 0 t t′ → Room n S t′
 room-kept g d =
