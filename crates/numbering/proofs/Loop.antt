@@ -22,7 +22,8 @@ use Rattle.values.specs.Number.{number, numberCode}
 use Rattle.values.specs.Memory.{memoryOf, Ready, Holds}
 use Rattle.values.specs.Kept.{Kept, Clears}
 use Rattle.numbering.specs.Walk.{sectionsOf, Stands, Room, Becomes, numberWords, code-words, Begins, Enters, Turns}
-use Rattle.numbering.proofs.Walking.{kept-then, kept-same}
+use Rattle.values.proofs.Recording.{unchanged}
+use Rattle.numbering.proofs.Walking.{kept-then}
 
 -- the destinations of the places
 abbrev pub destOf : List ℕ → ℕ → ℕ
@@ -38,7 +39,7 @@ pub enters-cleared : {n S leader : ℕ} {t t′ : List ℕ} → leader ≡ 1 →
 enters-cleared e d = rw e (record { kept = d .kept; holds = λ dest v h. d .holds dest })
 
 pub enters-same : {n S leader : ℕ} {t : List ℕ} → (leader ≡ 1 → ⊥) → Ready n S t → Enters n S leader t t
-enters-same {leader = leader} e g = record { kept = kept-same g; holds = λ dest v h. rw (ne-eqb leader 1 e) h }
+enters-same {leader = leader} e g = record { kept = unchanged g; holds = λ dest v h. rw (ne-eqb leader 1 e) h }
 
 pub enter-room : {n S : ℕ} {t t₁ : List ℕ} → Room n S t → memoryOf n S t .epoch + 1 < 4294967295 → Kept n S 1 0 0 t t₁ → Room n S t₁
 enter-room g more d =

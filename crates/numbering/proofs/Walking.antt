@@ -67,10 +67,6 @@ kept-then d w =
       expressions = omega (arith, w .expressions, d .expressions);
     }
 
--- nothing changed
-pub kept-same : {n S k c e : ℕ} {t : List ℕ} → Ready n S t → Kept n S k c e t t
-kept-same g = widen (omega arith) (omega arith) (omega arith) (unchanged g {c = 0} {e = 0})
-
 pub room-kept : {n S : ℕ} {t t′ : List ℕ} → Room n S t → Kept n S 0 0 0 t t′ → Room n S t′
 room-kept g d =
     record {
@@ -200,7 +196,7 @@ module _ {n : ℕ} {types : List ℕ} {t : List ℕ} where
   pub stay-becomes : {x : Instruction} {k c e : ℕ} {Good : (ℕ → ℕ) → List ℕ → Type 0} {f : (ℕ → ℕ) → Sections → Values → Numbered} → Ready n (length types) t
       → ((dest : ℕ → ℕ) (z : List ℕ) (l : ℕ) (T : Tables) (v : Values) → Knows n types t dest v
       → f dest (sectionsOf types z l T) v ≡ record { instruction = x; table = v }) → Becomes n types k c e t x t Good f
-  stay-becomes g e = record { kept = kept-same g; holds = λ dest z l T v y h. rw (e dest z l T v h) (refl, h) }
+  stay-becomes g e = record { kept = unchanged g; holds = λ dest z l T v y h. rw (e dest z l T v h) (refl, h) }
 
   pub copied-becomes : (d : ℕ) (i : Instruction) {j x : Instruction} {t′ : List ℕ}
       → ((dest : ℕ → ℕ) (z : List ℕ) (l : ℕ) (T : Tables) (v : Values) → Knows n types t dest v
@@ -408,7 +404,7 @@ module _ {n S : ℕ} (types : List ℕ) {t : List ℕ} where
   unfolding secondOf
   second-none g e =
       rw e (record {
-        kept = kept-same g;
+        kept = unchanged g;
         same = same-self g;
         low = λ z. let f : _≡_ {A = ℕ} 0 1 = cc in absurd (omega arith);
         number = λ z. let f : _≡_ {A = ℕ} 0 1 = cc in absurd (omega arith);

@@ -60,7 +60,7 @@ module _ {n S : ℕ} {t : List ℕ} (g : Ready n S t) where
   some-code = g .order .constants .some
 
   -- nothing changes
-  pub unchanged : {c e : ℕ} → Kept n S 0 c e t t
+  pub unchanged : {k c e : ℕ} → Kept n S k c e t t
   unchanged = record { ready = g; long = refl; epochs = omega arith; constants = omega arith; expressions = omega arith }
 
   pub same-self : Same n S t t
