@@ -23,7 +23,7 @@ use Rattle.values.specs.Memory.{memoryOf, Ready, Holds}
 use Rattle.values.specs.Kept.{Kept, Clears}
 use Rattle.numbering.specs.Walk.{sectionsOf, Stands, Room, Becomes, numberWords, code-words, Begins, Enters, Turns}
 use Rattle.values.proofs.Recording.{unchanged}
-use Rattle.numbering.proofs.Walking.{kept-then}
+use Rattle.numbering.proofs.Keeping.{kept-then}
 
 -- the destinations of the places
 abbrev pub destOf : List ℕ → ℕ → ℕ

@@ -3,33 +3,27 @@
 use mathlib.Core.Path.{_≡_, refl, sym, ap, _∙_}
 use mathlib.Core.Bool.{Bool, true, false, cond, _&&_}
 use mathlib.Core.List.{List, [], _∷_}
-use mathlib.Core.Logic.{⊎-elim, _⊎_, inl, inr}
 use mathlib.Core.Option.{Option, none, some}
-use Prim.Native.Nat.{ℕ, zero, suc, _+_, _%_, _^_, _≤_, _<_}
+use Prim.Native.Nat.{ℕ, _+_, _%_, _^_, _≤_, _<_}
 use native.Mathlib.Omega.{arith}
 use lib.Dec.{eqb}
 use lib.ListN.{length, getD}
 use types.Run.{OneOf, miss}
-use borrow.Author.Tests.{eq-eqb, ne-eqb}
+use borrow.Author.Tests.{eq-eqb}
 use denote.Enum.Declared.{tagOf as variantOf}
-use Rattle.words.specs.Lists.{isIn}
 use Rattle.instruction.specs.declared.Instruction.{Instruction}
 use Rattle.instruction.specs.declared.Class.{Class}
-use Rattle.instruction.specs.declared.Class.the-variants.{Hint, LoadInt, LoadConst, Copy, CopyN, Unary, Binary, Jump, JumpIf, JumpIfNot, ForLoop, Return, Panic, Outside, Invalid}
-use Rattle.instruction.proofs.Class.{the-type as class-type}
-use Rattle.instruction.specs.Class.{numberOf, namedClass, named-number}
+use Rattle.instruction.specs.declared.Class.the-variants.{LoadInt, Return}
 use Rattle.instruction.specs.Instruction.{plain, withImm32}
-use Rattle.values.specs.Fold.{foldingUnary, foldingBinary, foldWord, fitsImm32}
+use Rattle.values.specs.Fold.{fitsImm32}
 use Rattle.effects.specs.Shape.{Sections, Tables}
 use Rattle.values.specs.Table.{Values, Expression, valueOf, expressionIn, recordedSlot, representative, learn}
-use Rattle.values.specs.Number.{Numbered, setA, setB, setBC, foldUnary, foldBinary, loadOrStay, stored as storedBy, copyOrStay, byExpression, byValue, numberUnary, numberBinary, numberCopy, numberConstant, numberRead, decided, numberJump, cleared as clearedBy, numberBy}
-use Rattle.values.specs.Folded.{integerOf, answered, expressionOf}
-use Rattle.values.specs.Entries.{Key, value, newest}
-use Rattle.values.specs.Chain.{newest-le}
-use Rattle.values.specs.Memory.{memoryOf, numberAt, constantOf, constantKey, expressionKey, slotFound, limit, usableAt, integerAt, expressionIf, expressionAt, Ready, atomAt, atomIn, atomFound, Holds}
-use Rattle.values.specs.Kept.{Kept, Same, Clears, Represents, Stores, Interns, Learns}
-use Rattle.numbering.specs.Walk.{sectionsOf, wordOf, Stands, Becomes, Room, Second, secondNumber, foldBy, secondOf, atomOf, KindOf, binaryClass, operatorClass, onZero, combined, operated, scalarIn, undecidedBy, takes, pureBy, otherBy, by-other}
-use Rattle.values.specs.Named.{Named}
+use Rattle.values.specs.Number.{Numbered, setA, setB, setBC, loadOrStay, stored as storedBy, copyOrStay, byExpression, byValue, numberCopy, numberConstant, numberRead, decided, numberJump, cleared as clearedBy, numberBy}
+use Rattle.values.specs.Folded.{integerOf, expressionOf}
+use Rattle.values.specs.Entries.{Key, value}
+use Rattle.values.specs.Memory.{memoryOf, numberAt, constantOf, constantKey, expressionKey, limit, integerAt, expressionAt, Ready, atomIn, atomFound, Holds}
+use Rattle.values.specs.Kept.{Kept, Clears, Represents, Stores, Interns, Learns}
+use Rattle.numbering.specs.Walk.{sectionsOf, wordOf, Stands, Becomes, Second, secondNumber, foldBy, secondOf, atomOf, KindOf, combined, operated, scalarIn, undecidedBy, pureBy, otherBy}
 use Rattle.values.specs.declared.Atom.{Atom}
 use Rattle.values.specs.declared.Atom.the-variants.{Integer, Float, Definition}
 use Rattle.values.specs.declared.Found.{Found}
@@ -40,105 +34,8 @@ use Rattle.values.specs.declared.Folded.{Folded}
 use Rattle.values.specs.declared.Folded.the-variants.{Word, Not}
 use Rattle.values.proofs.Atom.{the-type}
 use Rattle.values.proofs.Atoms.{atom-place, atom-zero, integer-at}
-use Rattle.values.proofs.Holding.{usable-holds}
-use Rattle.values.proofs.Recording.{few, unchanged, same-self}
-
--- ---- what stays in order
-
--- more may be allowed than was used
-pub widen : {n S k c e k′ c′ e′ : ℕ} {t t′ : List ℕ} → k ≤ k′ → c ≤ c′ → e ≤ e′ → Kept n S k c e t t′ → Kept n S k′ c′ e′ t t′
-widen a b d w =
-    record {
-      ready = w .ready;
-      long = w .long;
-      epochs = omega (arith, w .epochs);
-      constants = omega (arith, w .constants);
-      expressions = omega (arith, w .expressions);
-    }
-
--- one change after another
-pub kept-then : {n S k c e k′ c′ e′ : ℕ} {t t₁ t′ : List ℕ} → Kept n S k c e t t₁ → Kept n S k′ c′ e′ t₁ t′ → Kept n S (k + k′) (c + c′) (e + e′) t t′
-kept-then d w =
-    record {
-      ready = w .ready;
-      long = w .long ∙ d .long;
-      epochs = omega (arith, w .epochs, d .epochs);
-      constants = omega (arith, w .constants, d .constants);
-      expressions = omega (arith, w .expressions, d .expressions);
-    }
-
-pub room-kept : {n S : ℕ} {t t′ : List ℕ} → Room n S t → Kept n S 0 0 0 t t′ → Room n S t′
-room-kept g d =
-    record {
-      ready = d .ready;
-      constants = omega (arith, g .constants, d .constants);
-      expressions = omega (arith, g .expressions, d .expressions);
-      epoch = omega (arith, g .epoch, d .epochs);
-    }
-
--- ---- numbers and values
-
-module _ {n S : ℕ} {t t₁ : List ℕ} (s : Same n S t t₁) where
-  pub same-limit : {d : ℕ} → d < limit n S (memoryOf n S t) → d < limit n S (memoryOf n S t₁)
-  same-limit l = omega (arith, s .constants)
-
-  -- the value of a slot that had the number d
-  same-value : {dest : ℕ → ℕ} {v : Values} (r d : ℕ) → r < S → numberAt (memoryOf n S t) r ≡ d → Holds n S dest v (memoryOf n S t₁) → atomIn n S dest (memoryOf n S t₁) d ≡ valueOf v r
-  same-value {dest} r d l e h = ap (atomIn n S dest (memoryOf n S t₁)) (sym (s .numbers r l ∙ e)) ∙ h .slots r l
-
-pub same-then : {n S : ℕ} {t t₁ t₂ : List ℕ} → Same n S t t₁ → Same n S t₁ t₂ → Same n S t t₂
-same-then s r = record { numbers = λ x l. r .numbers x l ∙ s .numbers x l; constants = r .constants ∙ s .constants; table = r .table ∙ s .table }
-
--- the value with the number d, and what is known, in the memory t
-abbrev pub valueAt : ℕ → List ℕ → List ℕ → (ℕ → ℕ) → ℕ → Atom
-valueAt n types t dest d = atomIn n (length types) dest (memoryOf n (length types) t) d
-
-abbrev pub Knows : ℕ → List ℕ → List ℕ → (ℕ → ℕ) → Values → Type 0
-Knows n types t dest v = Holds n (length types) dest v (memoryOf n (length types) t)
-
-module _ {n : ℕ} (types : List ℕ) {t : List ℕ} where
-  -- a copy of the recorded slot
-  pub copy-found : {f : Found} {r d : ℕ} (i : Instruction) {j : Instruction} → Ready n (length types) t → d < limit n (length types) (memoryOf n (length types) t)
-      → f ≡ usableAt n (length types) types (memoryOf n (length types) t) d (getD types (i .a) 0) → f ≡ At r → j ≡ plain 3 (i .a) r 0
-      → (j .a ≡ i .a) × ((dest : ℕ → ℕ) (z : List ℕ) (l : ℕ) (T : Tables) (v : Values) → Knows n types t dest v
-      → j ≡ copyOrStay (sectionsOf types z l T) i (recordedSlot types v (valueAt n types t dest d) (getD types (i .a) 0)))
-  unfolding copyOrStay slotFound
-  copy-found {f} {r} {d} i {j} g low e q s = (
-    rw s,
-    λ dest z l T v h.
-        let known : some r ≡ recordedSlot types v (valueAt n types t dest d) (getD types (i .a) 0)
-        = ap slotFound (sym (sym e ∙ q)) ∙ usable-holds n (length types) (few g) (g .order) dest h types d (getD types (i .a) 0) low in
-        rw (sym known) s,
-  )
-
-  pub copy-none : {f : Found} {d : ℕ} (i : Instruction) → Ready n (length types) t → d < limit n (length types) (memoryOf n (length types) t)
-      → f ≡ usableAt n (length types) types (memoryOf n (length types) t) d (getD types (i .a) 0) → f ≡ Nothing
-      → (dest : ℕ → ℕ) (z : List ℕ) (l : ℕ) (T : Tables) (v : Values) → Knows n types t dest v
-      → i ≡ copyOrStay (sectionsOf types z l T) i (recordedSlot types v (valueAt n types t dest d) (getD types (i .a) 0))
-  unfolding copyOrStay slotFound
-  copy-none {f} {d} i g low e q dest z l T v h =
-      let known : none ≡ recordedSlot types v (valueAt n types t dest d) (getD types (i .a) 0)
-      = ap slotFound (sym (sym e ∙ q)) ∙ usable-holds n (length types) (few g) (g .order) dest h types d (getD types (i .a) 0) low in
-      rw (sym known)
-
--- the number of an expression's value is in use
-pub found-low : {n S : ℕ} {t : List ℕ} {f : Found} → Ready n S t → (k : Key) (d : ℕ) → f ≡ expressionAt n S (memoryOf n S t) k → f ≡ At d → d < limit n S (memoryOf n S t)
-unfolding expressionIf
-found-low {n} {S} {t} g k d e q = go (newest (memoryOf n S t .expressionTable) n (memoryOf n S t .expressions) k) refl (sym e ∙ q)
-  where
-    go : (j : ℕ) → newest (memoryOf n S t .expressionTable) n (memoryOf n S t .expressions) k ≡ j → expressionIf n S (memoryOf n S t .expressionTable) j ≡ At d → d < limit n S (memoryOf n S t)
-    go zero l z = let y : _≡_ {A = ℕ} 0 1 = cc in absurd (omega arith)
-    go (suc j) l z =
-        let same : value (memoryOf n S t .expressionTable) n j ≡ d = cc in
-        let low : j < memoryOf n S t .expressions = omega (arith, newest-le (memoryOf n S t .expressionTable) n k (memoryOf n S t .expressions)) in
-        rw (← same) (g .order .values-low j low)
-
--- the value of an expression of two numbers
-known-expression : {n S : ℕ} (t : List ℕ) {k : Key} {f : Found} {dest : ℕ → ℕ} {v : Values} (op flags left right : ℕ) → op < 256 → flags < 256
-    → left < limit n S (memoryOf n S t) → right < limit n S (memoryOf n S t) → k ≡ expressionKey op flags left right → f ≡ expressionAt n S (memoryOf n S t) k → Holds n S dest v (memoryOf n S t)
-    → atomFound n S dest (memoryOf n S t) f ≡ expressionIn (v .expressions) (expressionOf op flags (atomIn n S dest (memoryOf n S t) left) (atomIn n S dest (memoryOf n S t) right))
-known-expression {n} {S} t {k} {f} {dest} op flags left right a b c d q e h =
-    ap (atomFound n S dest (memoryOf n S t)) (e ∙ ap (expressionAt n S (memoryOf n S t)) q) ∙ h .expressions op flags left right a b c d
+use Rattle.values.proofs.Recording.{unchanged, same-self}
+use Rattle.numbering.proofs.Keeping.{widen, kept-then, same-value, same-then, valueAt, Knows, known-expression}
 
 -- ---- steps
 
@@ -280,64 +177,6 @@ load-a i v = go (fitsImm32 v)
     go : (t : Bool) → cond t (withImm32 (plain 1 (i .a) 0 0) (v % 2 ^ 32)) i .a ≡ i .a
     go true = refl
     go false = refl
-
--- ---- folding looks at known integers alone
-
-word-answered : (o : Option ℕ) → wordOf (answered o) ≡ o
-unfolding wordOf answered
-word-answered (some v) = refl
-word-answered none = refl
-
-unfoldable foldOne : ℕ → ℕ → Option ℕ → Option ℕ
-foldOne op flags (some x) = cond (isIn op foldingUnary) (some (foldWord op flags x 0)) none
-foldOne op flags none = none
-
-unfoldable foldTwo : ℕ → ℕ → Option ℕ → Option ℕ → Option ℕ
-foldTwo op flags (some x) (some y) = cond (isIn op foldingBinary) (some (foldWord op flags x y)) none
-foldTwo op flags (some x) none = none
-foldTwo op flags none y = none
-
-fold-one : (e : Expression) (v : Atom) → foldUnary e v ≡ foldOne (e .opcode) (e .flags) (integerOf v)
-unfolding foldUnary foldOne integerOf
-fold-one e (Integer x) = refl
-fold-one e (Float x) = refl
-fold-one e (Definition p s) = refl
-
-fold-two : (e : Expression) (v w : Atom) → foldBinary e v w ≡ foldTwo (e .opcode) (e .flags) (integerOf v) (integerOf w)
-unfolding foldBinary foldTwo integerOf
-fold-two e (Integer x) (Integer y) = refl
-fold-two e (Integer x) (Float y) = refl
-fold-two e (Integer x) (Definition q t) = refl
-fold-two e (Float x) w = refl
-fold-two e (Definition p s) w = refl
-
-module _ (n S : ℕ) (c : List ℕ) (op flags left right : ℕ) where
-  pub fold-binary-numbers : {b : Bool} (x y : Atom) {r : Folded} → b ≡ true → integerOf x ≡ integerAt n S c left → integerOf y ≡ integerAt n S c right
-      → r ≡ answered (foldBinary (expressionOf op flags x y) x y)
-      → (dest : ℕ → ℕ) → wordOf r ≡ foldBy b (expressionOf op flags (atomAt n S dest c left) (atomAt n S dest c right))
-  unfolding foldBy
-  fold-binary-numbers x y e p q z dest =
-      let lefts : integerOf x ≡ integerOf (atomAt n S dest c left) = p ∙ integer-at n S dest c left in
-      let rights : integerOf y ≡ integerOf (atomAt n S dest c right) = q ∙ integer-at n S dest c right in
-      rw e
-      (ap wordOf z
-      ∙ word-answered (foldBinary (expressionOf op flags x y) x y)
-      ∙ fold-two (expressionOf op flags x y) x y
-      ∙ ap (λ (o : Option ℕ). foldTwo op flags o (integerOf y)) lefts
-      ∙ ap (foldTwo op flags (integerOf (atomAt n S dest c left))) rights
-      ∙ sym (fold-two (expressionOf op flags (atomAt n S dest c left) (atomAt n S dest c right)) (atomAt n S dest c left) (atomAt n S dest c right)))
-
-  pub fold-unary-number : {b : Bool} (x : Atom) {r : Folded} → b ≡ false → integerOf x ≡ integerAt n S c left → ((y : Atom) → r ≡ answered (foldUnary (expressionOf op flags x y) x))
-      → (dest : ℕ → ℕ) → wordOf r ≡ foldBy b (expressionOf op flags (atomAt n S dest c left) (atomAt n S dest c right))
-  unfolding foldBy
-  fold-unary-number x e p z dest =
-      let lefts : integerOf x ≡ integerOf (atomAt n S dest c left) = p ∙ integer-at n S dest c left in
-      rw e
-      (ap wordOf (z (Integer 0))
-      ∙ word-answered (foldUnary (expressionOf op flags x (Integer 0)) x)
-      ∙ fold-one (expressionOf op flags x (Integer 0)) x
-      ∙ ap (foldOne op flags) lefts
-      ∙ sym (fold-one (expressionOf op flags (atomAt n S dest c left) (atomAt n S dest c right)) (atomAt n S dest c left)))
 
 -- other operands, the same destination
 other-operands : {n p : ℕ} {i : Instruction} {dest : ℕ → ℕ} (b c : ℕ) → Stands n p i dest → Stands n p (setBC i b c) dest
@@ -525,105 +364,3 @@ module _ {n : ℕ} {types : List ℕ} {t : List ℕ} where
       → ((dest : ℕ → ℕ) (z : List ℕ) (l : ℕ) (T : Tables) (v : Values) → Good′ dest z → Good dest z × (f dest (sectionsOf types z l T) v ≡ pureBy (sectionsOf types z l T) j p i v))
       → {a b d : ℕ} → a ≤ 1 → b ≤ 1 → d ≤ 1 → Becomes n types a b d t x t′ Good f → Becomes n types 1 1 1 t x t′ Good′ (λ dest S v. pureBy S k p i v)
   pure-by i p f e g u w z b = as-becomes u w z (λ dest c l T v y h. let q = g dest c l T v y in (q .0, rw e (q .1))) b
-
--- a class by its number
-tag-number : (k : Class) → variantOf class-type k ≡ numberOf k
-unfolding numberOf
-tag-number Hint = refl
-tag-number LoadInt = refl
-tag-number LoadConst = refl
-tag-number Copy = refl
-tag-number CopyN = refl
-tag-number Unary = refl
-tag-number Binary = refl
-tag-number Jump = refl
-tag-number JumpIf = refl
-tag-number JumpIfNot = refl
-tag-number ForLoop = refl
-tag-number Return = refl
-tag-number Panic = refl
-tag-number Outside = refl
-tag-number Invalid = refl
-
-by-number : (k : Class) (j : ℕ) → variantOf class-type k ≡ j → k ≡ namedClass j
-by-number k j e = sym (named-number k) ∙ ap namedClass (sym (tag-number k) ∙ e)
-
-pub not-number : (k : Class) (ks : List ℕ) (j : ℕ) → (OneOf ks j → ⊥) → OneOf ks (variantOf class-type k) → eqb (numberOf k) j ≡ false
-not-number k ks j h o = ne-eqb (numberOf k) j (λ e. h (rw (tag-number k ∙ e) at o))
-
-operator-class : (k : Class) → operatorClass k ≡ true → (k ≡ Unary) ⊎ (k ≡ Binary)
-unfolding numberOf
-operator-class Hint e = let w : _≡_ {A = ℕ} 0 1 = cc in absurd (omega arith)
-operator-class LoadInt e = let w : _≡_ {A = ℕ} 0 1 = cc in absurd (omega arith)
-operator-class LoadConst e = let w : _≡_ {A = ℕ} 0 1 = cc in absurd (omega arith)
-operator-class Copy e = let w : _≡_ {A = ℕ} 0 1 = cc in absurd (omega arith)
-operator-class CopyN e = let w : _≡_ {A = ℕ} 0 1 = cc in absurd (omega arith)
-operator-class Unary e = inl refl
-operator-class Binary e = inr refl
-operator-class Jump e = let w : _≡_ {A = ℕ} 0 1 = cc in absurd (omega arith)
-operator-class JumpIf e = let w : _≡_ {A = ℕ} 0 1 = cc in absurd (omega arith)
-operator-class JumpIfNot e = let w : _≡_ {A = ℕ} 0 1 = cc in absurd (omega arith)
-operator-class ForLoop e = let w : _≡_ {A = ℕ} 0 1 = cc in absurd (omega arith)
-operator-class Return e = let w : _≡_ {A = ℕ} 0 1 = cc in absurd (omega arith)
-operator-class Panic e = let w : _≡_ {A = ℕ} 0 1 = cc in absurd (omega arith)
-operator-class Outside e = let w : _≡_ {A = ℕ} 0 1 = cc in absurd (omega arith)
-operator-class Invalid e = let w : _≡_ {A = ℕ} 0 1 = cc in absurd (omega arith)
-
-pub operator-yes : (k : Class) → OneOf (5 ∷ 6 ∷ []) (variantOf class-type k) → operatorClass k ≡ true
-unfolding numberOf namedClass
-operator-yes k o = ⊎-elim (λ e. rw (by-number k 5 e)) (λ e. rw (by-number k 6 e)) o
-
-jump-class : (k : Class) → OneOf (8 ∷ 9 ∷ []) (variantOf class-type k) → (k ≡ JumpIf) ⊎ (k ≡ JumpIfNot)
-unfolding namedClass
-jump-class k o = ⊎-elim (λ e. inl (by-number k 8 e)) (λ e. inr (by-number k 9 e)) o
-
--- an opcode of one operand or of two
-pub operator-named : (k : Class) (s : ℕ) (i : Instruction) → operatorClass k ≡ true → Named k s i → (i .b < s) × (binaryClass k ≡ true → i .c < s) × (i .a < s)
-unfolding Named numberOf
-operator-named k s i o h =
-    ⊎-elim
-    (λ e. let g : Named Unary s i = rw e at h in rw e (g .0, (λ z. let f : _≡_ {A = ℕ} 0 1 = cc in absurd (omega arith)), g .1))
-    (λ e. let g : Named Binary s i = rw e at h in rw e (g .0, (λ z. g .1), g .2))
-    (operator-class k o)
-
-pub operator-pure : (S : Sections) (k : Class) (p : ℕ) (i : Instruction) (v : Values) → operatorClass k ≡ true → operated S (binaryClass k) p i v ≡ pureBy S k p i v
-unfolding pureBy numberOf operated combined secondOf foldBy numberUnary numberBinary
-operator-pure S k p i v o = ⊎-elim (λ e. rw e) (λ e. rw e) (operator-class k o)
-
--- a jump on a word that is 0, or on one that is not
-pub jump-named : (k : Class) (s : ℕ) (i : Instruction) → OneOf (8 ∷ 9 ∷ []) (variantOf class-type k) → Named k s i → i .a < s
-unfolding Named
-jump-named k s i o h = ⊎-elim (λ e. rw e at h) (λ e. rw e at h) (jump-class k o)
-
-pub jump-by : (S : Sections) (k : Class) (p : ℕ) (i : Instruction) (v : Values) → OneOf (8 ∷ 9 ∷ []) (variantOf class-type k)
-    → numberJump S (takes (onZero k)) i v (valueOf v (i .a)) ≡ numberBy S k p i v
-unfolding numberBy numberOf takes
-jump-by S k p i v o = ⊎-elim (λ e. rw e) (λ e. rw e) (jump-class k o)
-
--- the other classes
-pub pure-none : (S : Sections) (k : Class) (p : ℕ) (i : Instruction) (v : Values) → OneOf (0 ∷ 4 ∷ 5 ∷ 6 ∷ 7 ∷ 8 ∷ 9 ∷ 10 ∷ 11 ∷ 12 ∷ 13 ∷ 14 ∷ []) (variantOf class-type k) → operatorClass k ≡ false → pureBy S k p i v ≡ clearedBy S i
-unfolding pureBy numberOf
-pure-none S Hint p i v o e = refl
-pure-none S LoadInt p i v o e = absurd (miss (0 ∷ 4 ∷ 5 ∷ 6 ∷ 7 ∷ 8 ∷ 9 ∷ 10 ∷ 11 ∷ 12 ∷ 13 ∷ 14 ∷ []) 1 tt o)
-pure-none S LoadConst p i v o e = absurd (miss (0 ∷ 4 ∷ 5 ∷ 6 ∷ 7 ∷ 8 ∷ 9 ∷ 10 ∷ 11 ∷ 12 ∷ 13 ∷ 14 ∷ []) 2 tt o)
-pure-none S Copy p i v o e = absurd (miss (0 ∷ 4 ∷ 5 ∷ 6 ∷ 7 ∷ 8 ∷ 9 ∷ 10 ∷ 11 ∷ 12 ∷ 13 ∷ 14 ∷ []) 3 tt o)
-pure-none S CopyN p i v o e = refl
-pure-none S Unary p i v o e = let w : _≡_ {A = ℕ} 0 1 = cc in absurd (omega arith)
-pure-none S Binary p i v o e = let w : _≡_ {A = ℕ} 0 1 = cc in absurd (omega arith)
-pure-none S Jump p i v o e = refl
-pure-none S JumpIf p i v o e = refl
-pure-none S JumpIfNot p i v o e = refl
-pure-none S ForLoop p i v o e = refl
-pure-none S Return p i v o e = refl
-pure-none S Panic p i v o e = refl
-pure-none S Outside p i v o e = refl
-pure-none S Invalid p i v o e = refl
-
-pub number-other : (S : Sections) (k : Class) (p : ℕ) (i : Instruction) (v : Values) → OneOf (0 ∷ 1 ∷ 2 ∷ 3 ∷ 4 ∷ 5 ∷ 6 ∷ 7 ∷ 10 ∷ 12 ∷ 13 ∷ 14 ∷ []) (variantOf class-type k)
-    → numberBy S k p i v ≡ otherBy S k p i v
-number-other S k p i v o =
-    by-other S k
-    (λ e. miss (0 ∷ 1 ∷ 2 ∷ 3 ∷ 4 ∷ 5 ∷ 6 ∷ 7 ∷ 10 ∷ 12 ∷ 13 ∷ 14 ∷ []) 8 tt (rw e at o))
-    (λ e. miss (0 ∷ 1 ∷ 2 ∷ 3 ∷ 4 ∷ 5 ∷ 6 ∷ 7 ∷ 10 ∷ 12 ∷ 13 ∷ 14 ∷ []) 9 tt (rw e at o))
-    (λ e. miss (0 ∷ 1 ∷ 2 ∷ 3 ∷ 4 ∷ 5 ∷ 6 ∷ 7 ∷ 10 ∷ 12 ∷ 13 ∷ 14 ∷ []) 11 tt (rw e at o))
-    p i v

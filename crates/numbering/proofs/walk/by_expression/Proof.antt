@@ -1,4 +1,5 @@
-use Rattle.numbering.proofs.Walking.{found-low, expression-found, expression-none}
+use Rattle.numbering.proofs.Keeping.{found-low}
+use Rattle.numbering.proofs.Walking.{expression-found, expression-none}
 use borrow.Author.Needs.{needs}
 use Rattle.numbering.proofs.walk.by_expression.Statement.{statement}
 use Rattle.numbering.proofs.walk.by_expression.Tie as tie

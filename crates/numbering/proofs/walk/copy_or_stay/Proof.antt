@@ -1,4 +1,5 @@
-use Rattle.numbering.proofs.Walking.{copy-found, copy-none, copied-becomes, store-becomes}
+use Rattle.numbering.proofs.Keeping.{copy-found, copy-none}
+use Rattle.numbering.proofs.Walking.{copied-becomes, store-becomes}
 use Rattle.values.proofs.Reading.{found-fits}
 use borrow.Author.Needs.{needs}
 use Rattle.numbering.proofs.walk.copy_or_stay.Statement.{statement}

@@ -1,4 +1,4 @@
-use Rattle.numbering.proofs.Walking.{fold-binary-numbers, fold-unary-number}
+use Rattle.numbering.proofs.Folding.{fold-binary-numbers, fold-unary-number}
 use borrow.Author.Needs.{needs}
 use Rattle.numbering.proofs.walk.fold_numbers.Statement.{statement}
 use Rattle.numbering.proofs.walk.fold_numbers.Tie as tie

@@ -1,5 +1,5 @@
 use Rattle.instruction.specs.Class.{numberOf}
-use Rattle.numbering.proofs.Walking.{not-number}
+use Rattle.numbering.proofs.Classes.{not-number}
 use mathlib.Core.Path.{sym}
 use mathlib.Core.List.{List, [], _∷_}
 use Prim.Native.Nat.{ℕ}

@@ -1,4 +1,4 @@
-use Rattle.numbering.proofs.Walking.{operator-yes, not-number}
+use Rattle.numbering.proofs.Classes.{operator-yes, not-number}
 use mathlib.Core.Path.{sym}
 use mathlib.Core.List.{List, [], _∷_}
 use Prim.Native.Nat.{ℕ}

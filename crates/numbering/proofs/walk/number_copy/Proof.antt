@@ -1,4 +1,5 @@
-use Rattle.numbering.proofs.Walking.{same-limit, copy-becomes}
+use Rattle.numbering.proofs.Keeping.{same-limit}
+use Rattle.numbering.proofs.Walking.{copy-becomes}
 use borrow.Author.Needs.{needs}
 use Rattle.numbering.proofs.walk.number_copy.Statement.{statement}
 use Rattle.numbering.proofs.walk.number_copy.Tie as tie

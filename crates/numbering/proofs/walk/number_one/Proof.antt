@@ -1,4 +1,5 @@
-use Rattle.numbering.proofs.Walking.{as-becomes, number-other, jump-named, jump-by}
+use Rattle.numbering.proofs.Classes.{number-other, jump-named, jump-by}
+use Rattle.numbering.proofs.Walking.{as-becomes}
 use native.Mathlib.Omega.{arith}
 use mathlib.Core.Path.{sym, _∙_}
 use Rattle.values.specs.Number.{numberBy}

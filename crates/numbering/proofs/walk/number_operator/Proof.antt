@@ -1,4 +1,5 @@
-use Rattle.numbering.proofs.Walking.{same-limit, same-then, room-kept, kept-then, operator-becomes}
+use Rattle.numbering.proofs.Keeping.{same-limit, same-then, room-kept, kept-then}
+use Rattle.numbering.proofs.Walking.{operator-becomes}
 use borrow.Author.Needs.{needs}
 use Rattle.numbering.proofs.walk.number_operator.Statement.{statement}
 use Rattle.numbering.proofs.walk.number_operator.Tie as tie

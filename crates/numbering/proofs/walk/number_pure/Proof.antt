@@ -1,4 +1,5 @@
-use Rattle.numbering.proofs.Walking.{as-becomes, pure-by, pure-none, operator-named, operator-pure, forget-becomes}
+use Rattle.numbering.proofs.Classes.{pure-none, operator-named, operator-pure}
+use Rattle.numbering.proofs.Walking.{as-becomes, pure-by, forget-becomes}
 use native.Mathlib.Omega.{arith}
 use mathlib.Core.Path.{refl, sym, _∙_}
 use Rattle.values.specs.Memory.{constantOf}
