@@ -13,7 +13,7 @@ use Rattle.instruction.specs.declared.Class.{Class}
 use Rattle.instruction.specs.declared.Class.the-variants.{Hint, LoadInt, LoadConst, Copy, CopyN, Unary, Binary, Jump, JumpIf, JumpIfNot, ForLoop, Return, Panic, Outside, Invalid}
 use Rattle.instruction.specs.Class.{numberOf, namedClass, named-number}
 
-tag : (x : Class) → numberOf x ≡ tagOf the-type x
+pub tag : (x : Class) → numberOf x ≡ tagOf the-type x
 unfolding numberOf
 tag Hint = refl
 tag LoadInt = refl

@@ -1,6 +1,6 @@
 -- A class by its number: which function of the walk it goes to.
 -- Assumes nothing.
-use mathlib.Core.Path.{_≡_, refl, sym, ap, _∙_}
+use mathlib.Core.Path.{_≡_, refl, sym, _∙_}
 use mathlib.Core.Bool.{true, false}
 use mathlib.Core.List.{List, [], _∷_}
 use mathlib.Core.Logic.{⊎-elim, _⊎_, inl, inr}
@@ -14,37 +14,16 @@ use Rattle.instruction.specs.declared.Instruction.{Instruction}
 use Rattle.instruction.specs.declared.Class.{Class}
 use Rattle.instruction.specs.declared.Class.the-variants.{Hint, LoadInt, LoadConst, Copy, CopyN, Unary, Binary, Jump, JumpIf, JumpIfNot, ForLoop, Return, Panic, Outside, Invalid}
 use Rattle.instruction.proofs.Class.{the-type as class-type}
-use Rattle.instruction.specs.Class.{numberOf, namedClass, named-number}
+use Rattle.instruction.specs.Class.{numberOf, namedClass}
 use Rattle.effects.specs.Shape.{Sections}
+use Rattle.flow.proofs.Classes.{tag, of-tag}
 use Rattle.values.specs.Table.{Values, valueOf}
 use Rattle.values.specs.Number.{numberUnary, numberBinary, numberJump, cleared as clearedBy, numberBy}
 use Rattle.numbering.specs.Walk.{foldBy, secondOf, binaryClass, operatorClass, onZero, combined, operated, takes, pureBy, otherBy, by-other}
 use Rattle.values.specs.Named.{Named}
 
--- a class by its number
-tag-number : (k : Class) → variantOf class-type k ≡ numberOf k
-unfolding numberOf
-tag-number Hint = refl
-tag-number LoadInt = refl
-tag-number LoadConst = refl
-tag-number Copy = refl
-tag-number CopyN = refl
-tag-number Unary = refl
-tag-number Binary = refl
-tag-number Jump = refl
-tag-number JumpIf = refl
-tag-number JumpIfNot = refl
-tag-number ForLoop = refl
-tag-number Return = refl
-tag-number Panic = refl
-tag-number Outside = refl
-tag-number Invalid = refl
-
-by-number : (k : Class) (j : ℕ) → variantOf class-type k ≡ j → k ≡ namedClass j
-by-number k j e = sym (named-number k) ∙ ap namedClass (sym (tag-number k) ∙ e)
-
 pub not-number : (k : Class) (ks : List ℕ) (j : ℕ) → (OneOf ks j → ⊥) → OneOf ks (variantOf class-type k) → eqb (numberOf k) j ≡ false
-not-number k ks j h o = ne-eqb (numberOf k) j (λ e. h (rw (tag-number k ∙ e) at o))
+not-number k ks j h o = ne-eqb (numberOf k) j (λ e. h (rw (sym (tag k) ∙ e) at o))
 
 operator-class : (k : Class) → operatorClass k ≡ true → (k ≡ Unary) ⊎ (k ≡ Binary)
 unfolding numberOf
@@ -66,11 +45,11 @@ operator-class Invalid e = let w : _≡_ {A = ℕ} 0 1 = cc in absurd (omega ari
 
 pub operator-yes : (k : Class) → OneOf (5 ∷ 6 ∷ []) (variantOf class-type k) → operatorClass k ≡ true
 unfolding numberOf namedClass
-operator-yes k o = ⊎-elim (λ e. rw (by-number k 5 e)) (λ e. rw (by-number k 6 e)) o
+operator-yes k o = ⊎-elim (λ e. rw (of-tag k 5 e)) (λ e. rw (of-tag k 6 e)) o
 
 jump-class : (k : Class) → OneOf (8 ∷ 9 ∷ []) (variantOf class-type k) → (k ≡ JumpIf) ⊎ (k ≡ JumpIfNot)
 unfolding namedClass
-jump-class k o = ⊎-elim (λ e. inl (by-number k 8 e)) (λ e. inr (by-number k 9 e)) o
+jump-class k o = ⊎-elim (λ e. inl (of-tag k 8 e)) (λ e. inr (of-tag k 9 e)) o
 
 -- an opcode of one operand or of two
 pub operator-named : (k : Class) (s : ℕ) (i : Instruction) → operatorClass k ≡ true → Named k s i → (i .b < s) × (binaryClass k ≡ true → i .c < s) × (i .a < s)

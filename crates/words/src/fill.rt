@@ -4,7 +4,7 @@ ghost use Prim.Native.Nat.{_+_, _*_, _≤_};
 ghost use lib.ListN.{length, replicate};
 ghost use Rattle.words.specs.Zeros.{Lined};
 
-// A slice of so many numbers is in no cache. It is zeroed in eight parts at the same time, so that eight pages of memory come at once.
+// So long a slice is zeroed in eight parts at the same time: that was timed as faster (docs/BENCHMARK.md).
 const LONG: usize = 524288;
 
 pub fn zero_u8(bytes: &mut [u8])
