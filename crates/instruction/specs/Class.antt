@@ -4,6 +4,7 @@ use mathlib.Core.Path.{_≡_, refl}
 use mathlib.Core.Bool.{Bool, true, false, cond}
 use Prim.Native.Nat.{ℕ, _≤_}
 use lib.Dec.{eqb, ltb}
+use native.Mathlib.Omega.{arith}
 use borrow.Author.Tests.{lt-ltb}
 use Rattle.words.specs.Lists.{isIn, count}
 use Rattle.instruction.specs.Opcode as op
@@ -86,6 +87,24 @@ named-number Return = refl
 named-number Panic = refl
 named-number Outside = refl
 named-number Invalid = refl
+
+pub number-past : (x : Class) → 14 ≤ numberOf x → x ≡ Invalid
+unfolding numberOf
+number-past Hint h = absurd (omega arith)
+number-past LoadInt h = absurd (omega arith)
+number-past LoadConst h = absurd (omega arith)
+number-past Copy h = absurd (omega arith)
+number-past CopyN h = absurd (omega arith)
+number-past Unary h = absurd (omega arith)
+number-past Binary h = absurd (omega arith)
+number-past Jump h = absurd (omega arith)
+number-past JumpIf h = absurd (omega arith)
+number-past JumpIfNot h = absurd (omega arith)
+number-past ForLoop h = absurd (omega arith)
+number-past Return h = absurd (omega arith)
+number-past Panic h = absurd (omega arith)
+number-past Outside h = absurd (omega arith)
+number-past Invalid h = refl
 
 -- "The 51 pure opcodes are the 10 in `unary`, the 37 in `binary`, Copy, CopyN, LoadInt, LoadConst"
 unfoldable pub isPure : Class → Bool

@@ -1,6 +1,5 @@
 pub mod Regions
 pub mod Only
-pub mod Zeros
 pub mod Inside
 pub mod Le
 pub mod Bytes

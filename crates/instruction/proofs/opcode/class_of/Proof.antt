@@ -1,152 +1,92 @@
-use mathlib.Core.Path.{sym}
-use Prim.Native.Nat.{zero-le}
+use mathlib.Core.Path.{_≡_, sym, ap, _∙_}
+use Prim.Native.Nat.{ℕ, zero-le}
 use Rattle.words.specs.Keys.{past}
-use Rattle.instruction.specs.Class.{classOf, single, class-past}
+use Rattle.instruction.specs.declared.Class.{Class}
+use Rattle.instruction.specs.Class.{numberOf, namedClass, named-number, number-past}
+use borrow.Author.Needs.{needs}
 use Rattle.instruction.proofs.opcode.class_of.Statement.{statement}
 use Rattle.instruction.proofs.opcode.class_of.Tie as tie
 
-returns-137 : tie.Need-returns-137
-returns-137 c = sym (class-past _ (past 0 136 zero-le (c .match .rest)))
+-- the class that has the number k
+named : (k d : ℕ) (x : Class) → d ≡ numberOf x → d ≡ k → namedClass k ≡ x
+named k d x e q = ap namedClass (sym q ∙ e) ∙ named-number x
+
+returns : tie.Need-returns
+unfolding namedClass
+returns c = named 0 _ _ (c .before .class-number .ensures) (c .match .keys1)
+
+returns-2 : tie.Need-returns-2
+unfolding namedClass
+returns-2 c = named 1 _ _ (c .before .class-number .ensures) (c .match .keys2)
+
+returns-3 : tie.Need-returns-3
+unfolding namedClass
+returns-3 c = named 2 _ _ (c .before .class-number .ensures) (c .match .keys3)
+
+returns-4 : tie.Need-returns-4
+unfolding namedClass
+returns-4 c = named 3 _ _ (c .before .class-number .ensures) (c .match .keys4)
+
+returns-5 : tie.Need-returns-5
+unfolding namedClass
+returns-5 c = named 4 _ _ (c .before .class-number .ensures) (c .match .keys5)
+
+returns-6 : tie.Need-returns-6
+unfolding namedClass
+returns-6 c = named 5 _ _ (c .before .class-number .ensures) (c .match .keys6)
+
+returns-7 : tie.Need-returns-7
+unfolding namedClass
+returns-7 c = named 6 _ _ (c .before .class-number .ensures) (c .match .keys7)
+
+returns-8 : tie.Need-returns-8
+unfolding namedClass
+returns-8 c = named 7 _ _ (c .before .class-number .ensures) (c .match .keys8)
+
+returns-9 : tie.Need-returns-9
+unfolding namedClass
+returns-9 c = named 8 _ _ (c .before .class-number .ensures) (c .match .keys9)
+
+returns-10 : tie.Need-returns-10
+unfolding namedClass
+returns-10 c = named 9 _ _ (c .before .class-number .ensures) (c .match .keys10)
+
+returns-11 : tie.Need-returns-11
+unfolding namedClass
+returns-11 c = named 10 _ _ (c .before .class-number .ensures) (c .match .keys11)
+
+returns-12 : tie.Need-returns-12
+unfolding namedClass
+returns-12 c = named 11 _ _ (c .before .class-number .ensures) (c .match .keys12)
+
+returns-13 : tie.Need-returns-13
+unfolding namedClass
+returns-13 c = named 12 _ _ (c .before .class-number .ensures) (c .match .keys13)
+
+returns-14 : tie.Need-returns-14
+unfolding namedClass
+returns-14 c = named 13 _ _ (c .before .class-number .ensures) (c .match .keys14)
+
+returns-15 : tie.Need-returns-15
+returns-15 c = sym (number-past _ (rw (← c .before .class-number .ensures) (past 0 14 zero-le (c .match .rest))))
 
 pub class-of-spec : {M : Type 1} → statement M
-unfolding classOf single
 class-of-spec =
     tie.close
     (tie.spec
-    (λ c. rw (c .match .keys1))
-    (λ c. rw (c .match .keys2))
-    (λ c. rw (c .match .keys3))
-    (λ c. rw (c .match .keys4))
-    (λ c. rw (c .match .keys5))
-    (λ c. rw (c .match .keys6))
-    (λ c. rw (c .match .keys7))
-    (λ c. rw (c .match .keys8))
-    (λ c. rw (c .match .keys9))
-    (λ c. rw (c .match .keys10))
-    (λ c. rw (c .match .keys11))
-    (λ c. rw (c .match .keys12))
-    (λ c. rw (c .match .keys13))
-    (λ c. rw (c .match .keys14))
-    (λ c. rw (c .match .keys15))
-    (λ c. rw (c .match .keys16))
-    (λ c. rw (c .match .keys17))
-    (λ c. rw (c .match .keys18))
-    (λ c. rw (c .match .keys19))
-    (λ c. rw (c .match .keys20))
-    (λ c. rw (c .match .keys21))
-    (λ c. rw (c .match .keys22))
-    (λ c. rw (c .match .keys23))
-    (λ c. rw (c .match .keys24))
-    (λ c. rw (c .match .keys25))
-    (λ c. rw (c .match .keys26))
-    (λ c. rw (c .match .keys27))
-    (λ c. rw (c .match .keys28))
-    (λ c. rw (c .match .keys29))
-    (λ c. rw (c .match .keys30))
-    (λ c. rw (c .match .keys31))
-    (λ c. rw (c .match .keys32))
-    (λ c. rw (c .match .keys33))
-    (λ c. rw (c .match .keys34))
-    (λ c. rw (c .match .keys35))
-    (λ c. rw (c .match .keys36))
-    (λ c. rw (c .match .keys37))
-    (λ c. rw (c .match .keys38))
-    (λ c. rw (c .match .keys39))
-    (λ c. rw (c .match .keys40))
-    (λ c. rw (c .match .keys41))
-    (λ c. rw (c .match .keys42))
-    (λ c. rw (c .match .keys43))
-    (λ c. rw (c .match .keys44))
-    (λ c. rw (c .match .keys45))
-    (λ c. rw (c .match .keys46))
-    (λ c. rw (c .match .keys47))
-    (λ c. rw (c .match .keys48))
-    (λ c. rw (c .match .keys49))
-    (λ c. rw (c .match .keys50))
-    (λ c. rw (c .match .keys51))
-    (λ c. rw (c .match .keys52))
-    (λ c. rw (c .match .keys53))
-    (λ c. rw (c .match .keys54))
-    (λ c. rw (c .match .keys55))
-    (λ c. rw (c .match .keys56))
-    (λ c. rw (c .match .keys57))
-    (λ c. rw (c .match .keys58))
-    (λ c. rw (c .match .keys59))
-    (λ c. rw (c .match .keys60))
-    (λ c. rw (c .match .keys61))
-    (λ c. rw (c .match .keys62))
-    (λ c. rw (c .match .keys63))
-    (λ c. rw (c .match .keys64))
-    (λ c. rw (c .match .keys65))
-    (λ c. rw (c .match .keys66))
-    (λ c. rw (c .match .keys67))
-    (λ c. rw (c .match .keys68))
-    (λ c. rw (c .match .keys69))
-    (λ c. rw (c .match .keys70))
-    (λ c. rw (c .match .keys71))
-    (λ c. rw (c .match .keys72))
-    (λ c. rw (c .match .keys73))
-    (λ c. rw (c .match .keys74))
-    (λ c. rw (c .match .keys75))
-    (λ c. rw (c .match .keys76))
-    (λ c. rw (c .match .keys77))
-    (λ c. rw (c .match .keys78))
-    (λ c. rw (c .match .keys79))
-    (λ c. rw (c .match .keys80))
-    (λ c. rw (c .match .keys81))
-    (λ c. rw (c .match .keys82))
-    (λ c. rw (c .match .keys83))
-    (λ c. rw (c .match .keys84))
-    (λ c. rw (c .match .keys85))
-    (λ c. rw (c .match .keys86))
-    (λ c. rw (c .match .keys87))
-    (λ c. rw (c .match .keys88))
-    (λ c. rw (c .match .keys89))
-    (λ c. rw (c .match .keys90))
-    (λ c. rw (c .match .keys91))
-    (λ c. rw (c .match .keys92))
-    (λ c. rw (c .match .keys93))
-    (λ c. rw (c .match .keys94))
-    (λ c. rw (c .match .keys95))
-    (λ c. rw (c .match .keys96))
-    (λ c. rw (c .match .keys97))
-    (λ c. rw (c .match .keys98))
-    (λ c. rw (c .match .keys99))
-    (λ c. rw (c .match .keys100))
-    (λ c. rw (c .match .keys101))
-    (λ c. rw (c .match .keys102))
-    (λ c. rw (c .match .keys103))
-    (λ c. rw (c .match .keys104))
-    (λ c. rw (c .match .keys105))
-    (λ c. rw (c .match .keys106))
-    (λ c. rw (c .match .keys107))
-    (λ c. rw (c .match .keys108))
-    (λ c. rw (c .match .keys109))
-    (λ c. rw (c .match .keys110))
-    (λ c. rw (c .match .keys111))
-    (λ c. rw (c .match .keys112))
-    (λ c. rw (c .match .keys113))
-    (λ c. rw (c .match .keys114))
-    (λ c. rw (c .match .keys115))
-    (λ c. rw (c .match .keys116))
-    (λ c. rw (c .match .keys117))
-    (λ c. rw (c .match .keys118))
-    (λ c. rw (c .match .keys119))
-    (λ c. rw (c .match .keys120))
-    (λ c. rw (c .match .keys121))
-    (λ c. rw (c .match .keys122))
-    (λ c. rw (c .match .keys123))
-    (λ c. rw (c .match .keys124))
-    (λ c. rw (c .match .keys125))
-    (λ c. rw (c .match .keys126))
-    (λ c. rw (c .match .keys127))
-    (λ c. rw (c .match .keys128))
-    (λ c. rw (c .match .keys129))
-    (λ c. rw (c .match .keys130))
-    (λ c. rw (c .match .keys131))
-    (λ c. rw (c .match .keys132))
-    (λ c. rw (c .match .keys133))
-    (λ c. rw (c .match .keys134))
-    (λ c. rw (c .match .keys135))
-    (λ c. rw (c .match .keys136))
-    returns-137)
+    (λ c κs. search needs)
+    returns
+    returns-2
+    returns-3
+    returns-4
+    returns-5
+    returns-6
+    returns-7
+    returns-8
+    returns-9
+    returns-10
+    returns-11
+    returns-12
+    returns-13
+    returns-14
+    returns-15)
