@@ -1,12 +1,12 @@
 -- What an instruction is to the optimizer and to a run: the class of its opcode.
 -- Assumes nothing.
-use mathlib.Core.Path.{_≡_, refl}
-use mathlib.Core.Bool.{Bool, true, false, cond}
-use Prim.Native.Nat.{ℕ, _≤_}
+use mathlib.Core.Path.{_≡_, refl, sym, ap, _∙_}
+use mathlib.Core.Bool.{Bool, true, false, cond, not, false≢true}
+use Prim.Native.Nat.{ℕ, _/_, _%_, _^_, _≤_, _<_}
 use lib.Dec.{eqb, ltb}
 use native.Mathlib.Omega.{arith}
 use borrow.Author.Tests.{lt-ltb}
-use Rattle.words.specs.Lists.{isIn, count}
+use Rattle.words.specs.Lists.{isIn, count, every, every-at}
 use Rattle.instruction.specs.Opcode as op
 use Rattle.instruction.specs.declared.Class.{Class}
 use Rattle.instruction.specs.declared.Class.the-variants.{Hint, LoadInt, LoadConst, Copy, CopyN, Unary, Binary, Jump, JumpIf, JumpIfNot, ForLoop, Return, Panic, Outside, Invalid}
@@ -105,6 +105,39 @@ number-past Return h = absurd (omega arith)
 number-past Panic h = absurd (omega arith)
 number-past Outside h = absurd (omega arith)
 number-past Invalid h = refl
+
+pub number-below : (x : Class) → numberOf x < 15
+unfolding numberOf
+number-below Hint = omega arith
+number-below LoadInt = omega arith
+number-below LoadConst = omega arith
+number-below Copy = omega arith
+number-below CopyN = omega arith
+number-below Unary = omega arith
+number-below Binary = omega arith
+number-below Jump = omega arith
+number-below JumpIf = omega arith
+number-below JumpIfNot = omega arith
+number-below ForLoop = omega arith
+number-below Return = omega arith
+number-below Panic = omega arith
+number-below Outside = omega arith
+number-below Invalid = omega arith
+
+-- a test of classes is a bit of a constant, by the class's number
+abbrev agrees : ℕ → (Class → Bool) → ℕ → Bool
+agrees set f k = cond (eqb (set / 2 ^ k % 2) 1) (f (namedClass k)) (not (f (namedClass k)))
+
+pub class-bit : (set : ℕ) (f : Class → Bool) → every 15 (agrees set f) ≡ true → (x : Class) (k : ℕ) → k ≡ numberOf x → eqb (set / 2 ^ k % 2) 1 ≡ f x
+class-bit set f e x k q =
+    let h : k < 15 = rw q (number-below x) in
+    let name : namedClass k ≡ x = ap namedClass q ∙ named-number x in
+    same (eqb (set / 2 ^ k % 2) 1) (f (namedClass k)) (every-at 15 (agrees set f) e k h) ∙ ap f name
+  where
+    same : (x y : Bool) → cond x y (not y) ≡ true → x ≡ y
+    same true y e = sym e
+    same false true e = absurd (false≢true e)
+    same false false e = refl
 
 -- "The 51 pure opcodes are the 10 in `unary`, the 37 in `binary`, Copy, CopyN, LoadInt, LoadConst"
 unfoldable pub isPure : Class → Bool

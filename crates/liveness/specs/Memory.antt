@@ -86,6 +86,17 @@ pub record Coded (s : Layout) (memory blocks : List ℕ) : Type 0 where
   pub inside : (p : ℕ) → p < s .code → branchInside (s .code) p (ofWord (getD memory p 0)) ≡ true
   pub rows-inside : (q : ℕ) → q < s .code → s .width * getD blocks q 0 + s .width ≤ s .width * s .count
 
+-- what is live at the start of the block of place q
+module _ (s : Layout) (m blocks : List ℕ) (c : Coded s m blocks) (q : ℕ) (h : q < s .code) where
+  abbrev start : ℕ
+  start = s .live + s .width * getD blocks q 0
+
+  pub start-inside : (s .row + s .width ≤ start) × (start + s .width ≤ length m)
+  start-inside = let l = c .laid in (omega (arith, l .uses, l .preserved, l .live), omega (arith, l .end, c .rows-inside q h))
+
+  pub start-row : midOf start (s .width) m ≡ rowAt (s .width) (liveOf s m) (getD blocks q 0)
+  start-row = sym (mid-mid m (s .live) (s .width * s .count) (s .width * getD blocks q 0) (s .width) (c .laid .end) (c .rows-inside q h))
+
 -- what was written behind the code leaves all that
 module _ (s : Layout) (P : ℕ → Type 0) (m m′ : List ℕ) (o : Only P m m′) (past : (j : ℕ) → P j → s .code ≤ j) where
   pub same-word : (p : ℕ) → p < s .code → getD m′ p 0 ≡ getD m p 0

@@ -1,25 +1,31 @@
 -- What is live at a block's end, of the blocks' rows in lent words.
 -- Assumes nothing.
 use mathlib.Core.Path.{_≡_, refl, sym, ap, _∙_}
-use mathlib.Core.Bool.{Bool, true, false, cond, not, _&&_, _||_, or-false}
+use mathlib.Core.Bool.{Bool, true, false, cond, not, _&&_, _||_, or-false, false≢true}
 use mathlib.Core.List.{List, [], _∷_, _++_}
-use Prim.Native.Nat.{ℕ, zero, suc, _+_, _*_, _-_, _≤_, _<_}
+use Prim.Native.Nat.{ℕ, zero, suc, _+_, _*_, _-_, _%_, _^_, _≤_, _<_}
+use native.Mathlib.Nat.{add-zero, mod-eq-of-lt}
+use native.Mathlib.Numerals.{add-one}
 use native.Mathlib.Omega.{arith}
-use lib.Dec.{ltb}
+use lib.Dec.{eqb, ltb}
 use lib.ListN.{length, getD, replicate}
+use lib.Bits.{bitAnd, and-mask, and-zero-r}
+use mir.Val.{boolByte}
 use borrow.Author.Tests.{ltb-true}
 use Rattle.words.specs.Bits.{member}
 use Rattle.words.specs.Lists.{tabulate, getD-tabulate}
 use Rattle.instruction.specs.declared.Instruction.{Instruction}
 use Rattle.instruction.specs.declared.Class.{Class}
-use Rattle.instruction.specs.Instruction.{class}
+use Rattle.instruction.specs.declared.Class.the-variants.{Hint, LoadInt, LoadConst, Copy, CopyN, Unary, Binary, Jump, JumpIf, JumpIfNot, ForLoop, Return, Panic, Outside, Invalid}
+use Rattle.instruction.specs.Class.{numberOf}
+use Rattle.instruction.specs.Instruction.{class, imm32, forLoopDistance}
 use Rattle.effects.specs.Shape.{Sections, Cell}
-use Rattle.flow.specs.Branch.{falls, branches, target, branchInside}
+use Rattle.flow.specs.Branch.{falls, branches, target, targetBy, branchInside}
 use Rattle.flow.specs.Block.{blockOf, blockCount}
 use Rattle.flow.specs.Blocks.{block-below}
 use Rattle.flow.specs.Marks.{Marked}
 use Rattle.flow.specs.Flags.{Flags}
-use Rattle.use_def.specs.Wordwise.{none-in}
+use Rattle.use_def.specs.Wordwise.{allBits}
 use Rattle.liveness.specs.Live.{Row, edges, joined, noRow}
 use Rattle.liveness.specs.Rows.{union-bit, no-bit}
 use Rattle.liveness.specs.Shown.{rowAt, Holds, Shown, row-before}
@@ -28,15 +34,10 @@ use Rattle.liveness.specs.Shown.{rowAt, Holds, Shown, row-before}
 abbrev pub startBit : ℕ → List ℕ → List ℕ → ℕ → ℕ → Bool
 startBit w live blocks q t = member (rowAt w live (getD blocks q 0)) t
 
--- the row of q's block is joined, or not
-abbrev pub JoinedIf : ℕ → List ℕ → List ℕ → Bool → ℕ → List ℕ → List ℕ → Type 0
-JoinedIf w live blocks when q l l′ = (t : ℕ) → member l′ t ≡ (member l t || (when && startBit w live blocks q t))
-
-pub joined-if : (w : ℕ) (live blocks : List ℕ) (when : Bool) (q : ℕ) (l l′ : List ℕ) → when ≡ true → ((t : ℕ) → member l′ t ≡ (member l t || startBit w live blocks q t)) → JoinedIf w live blocks when q l l′
-joined-if w live blocks when q l l′ e f t = rw e (f t)
-
-pub not-joined : (w : ℕ) (live blocks : List ℕ) (when : Bool) (q : ℕ) (l : List ℕ) → when ≡ false → JoinedIf w live blocks when q l l
-not-joined w live blocks when q l e t = rw e (sym (or-false (member l t)))
+-- a row that is left out may be any block's
+start-if : (w : ℕ) (live blocks : List ℕ) (x : Bool) (q t : ℕ) → (x && startBit w live blocks (cond x q 0) t) ≡ (x && startBit w live blocks q t)
+start-if w live blocks true q t = refl
+start-if w live blocks false q t = refl
 
 -- of the block's last place p
 abbrev pub outBit : ℕ → List ℕ → List ℕ → ℕ → ℕ → Instruction → ℕ → Bool
@@ -45,15 +46,72 @@ outBit w live blocks n p i t = (falls (class i) && ltb (suc p) n && startBit w l
 abbrev pub OutOf : ℕ → List ℕ → List ℕ → ℕ → ℕ → Instruction → List ℕ → Type 0
 OutOf w live blocks n p i out = (t : ℕ) → member out t ≡ outBit w live blocks n p i t
 
-pub out-joined : (w : ℕ) (live blocks : List ℕ) (n p k q m : ℕ) (i : Instruction) (x : Class) (f g : Bool) (l₀ l₁ l₂ : List ℕ) → x ≡ class i → f ≡ falls x → g ≡ branches x → q ≡ suc p → k ≡ target p i
-    → l₀ ≡ replicate m 0 → JoinedIf w live blocks (f && ltb q n) q l₀ l₁ → JoinedIf w live blocks g k l₁ l₂ → OutOf w live blocks n p i l₂
-out-joined w live blocks n p k q m i x f g l₀ l₁ l₂ ex ef eg eq ek e a b t =
-    b t ∙ rw (a t, e, none-in m t, ef, eg, ex, eq, ek) (go (falls (class i)) (ltb (suc p) n) (startBit w live blocks (suc p) t) (branches (class i) && startBit w live blocks (target p i) t))
+pub out-joined : (w : ℕ) (live blocks : List ℕ) (n p k : ℕ) (i : Instruction) (l m out : List ℕ) (x y : Bool) → x ≡ (falls (class i) && ltb (p + 1) n) → y ≡ branches (class i)
+    → (y ≡ true → k ≡ target p i) → l ≡ rowAt w live (getD blocks (cond x (p + 1) 0) 0) → m ≡ rowAt w live (getD blocks (cond y k 0) 0)
+    → ((t : ℕ) → member out t ≡ ((x && member l t) || (y && member m t))) → OutOf w live blocks n p i out
+out-joined w live blocks n p k i l m out x y ex ey ek el em e t =
+    e t ∙ rw (el, em, start-if w live blocks x (p + 1) t, start-if w live blocks y k t, ex, add-one p) (first (falls (class i)) (ltb (suc p) n) (startBit w live blocks (suc p) t) (second y refl))
   where
-    go : (x y z u : Bool) → ((false || ((x && y) && z)) || u) ≡ ((x && y && z) || u)
-    go true true z u = refl
-    go true false z u = refl
-    go false y z u = refl
+    second : (b : Bool) → y ≡ b → (y && startBit w live blocks k t) ≡ (branches (class i) && startBit w live blocks (target p i) t)
+    second true q = rw (← ey, q, ek q)
+    second false q = rw (← ey, q)
+
+    first : (a b c : Bool) {d e : Bool} → d ≡ e → (((a && b) && c) || d) ≡ ((a && b && c) || e)
+    first true true c q = rw q
+    first true false c q = q
+    first false b c q = q
+
+-- a bit of a constant, and what masks make of a place
+pub bit-byte : (v : ℕ) (b : Bool) → v < 2 → eqb v 1 ≡ b → v ≡ boolByte b
+bit-byte zero b h e = rw (← e)
+bit-byte (suc zero) b h e = rw (← e)
+bit-byte (suc (suc v)) b h e = absurd (omega arith)
+
+pub both-bits : (x y : Bool) → bitAnd (boolByte x) (boolByte y) ≡ boolByte (x && y)
+both-bits true true = refl
+both-bits true false = refl
+both-bits false true = refl
+both-bits false false = refl
+
+pub byte-below : (x : Bool) → boolByte x < 2
+byte-below true = omega arith
+byte-below false = omega arith
+
+pub place-if : (q : ℕ) (x : Bool) → q < 2 ^ 64 → bitAnd q (allBits x) ≡ cond x q 0
+place-if q true h = and-mask q 64 ∙ mod-eq-of-lt h
+place-if q false h = and-zero-r q
+
+-- the place that a mask leaves is a place, in both ways
+pub next-place : (x : Bool) (p n : ℕ) → p < n → cond (x && ltb (p + 1) n) (p + 1) 0 < n
+next-place x p n h = go x (ltb (p + 1) n) refl
+  where
+    go : (x y : Bool) → ltb (p + 1) n ≡ y → cond (x && y) (p + 1) 0 < n
+    go true true e = ltb-true (p + 1) n e
+    go true false e = omega arith
+    go false y e = omega arith
+
+pub target-place : (y : Bool) (k n : ℕ) → 0 < n → (y ≡ true → k < n) → cond y k 0 < n
+target-place true k n h f = f refl
+target-place false k n h f = h
+
+-- a branch's target, by whether it is ForLoop
+pub loop-target : (x : Class) (p : ℕ) (i : Instruction) → branches x ≡ true → (p + boolByte (eqb (numberOf x) 10) + cond (eqb (numberOf x) 10) (forLoopDistance i) (imm32 i)) % 2 ^ 64 ≡ targetBy x p i
+unfolding branches numberOf targetBy
+loop-target Hint p i e = absurd (false≢true e)
+loop-target LoadInt p i e = absurd (false≢true e)
+loop-target LoadConst p i e = absurd (false≢true e)
+loop-target Copy p i e = absurd (false≢true e)
+loop-target CopyN p i e = absurd (false≢true e)
+loop-target Unary p i e = absurd (false≢true e)
+loop-target Binary p i e = absurd (false≢true e)
+loop-target Jump p i e = rw (add-zero p)
+loop-target JumpIf p i e = rw (add-zero p)
+loop-target JumpIfNot p i e = rw (add-zero p)
+loop-target ForLoop p i e = rw (add-one p)
+loop-target Return p i e = absurd (false≢true e)
+loop-target Panic p i e = absurd (false≢true e)
+loop-target Outside p i e = absurd (false≢true e)
+loop-target Invalid p i e = absurd (false≢true e)
 
 -- ---- the same of rows
 
@@ -96,9 +154,6 @@ module _ (S : Sections) (n : ℕ) (leaders keep : List ℕ) (long : length leade
     row-inside q h = rw (number-at q h, shown .long) (row-before w (blockOf leaders q) (length rows) (rw count (block-below leaders flags one q (rw long h))))
 
 -- a branch's target is a place
-pub target-inside : (n p k : ℕ) (i y : Instruction) (x : Class) (g : Bool) → i ≡ y → x ≡ class i → g ≡ branches x → k ≡ target p i → branchInside n p y ≡ true → g ≡ true → k < n
+pub target-inside : (n p : ℕ) (i : Instruction) → branchInside n p i ≡ true → branches (class i) ≡ true → target p i < n
 unfolding branchInside
-target-inside n p k i y x g ei ex eg ek b e =
-    let yes : branches (class y) ≡ true = rw (← ei, ← ex, ← eg) e in
-    let test : ltb (target p y) n ≡ true = rw yes at b in
-    rw (ek, ei) (ltb-true (target p y) n test)
+target-inside n p i b e = ltb-true (target p i) n (rw e at b)

@@ -167,7 +167,7 @@ module _ (S : Sections) (leaders keep₀ : List ℕ) (cells : List Cell) (rows :
           (c .0 ∙ split ∙ rw zero, rw (c .1) after-holds)
       result true true ek ed =
           let c = v .gone (rw same-kept ek) (sym same-dead ∙ ed) in
-          (c .0 ∙ rw split (set-at (take q keep₀) (getD keep₀ q 0) (sweepAt (suc q) .keep) 0 q front-less), rw (c .1) after-holds)
+          (c .0 ∙ rw split (set-at (take q keep₀) (getD keep₀ q 0) (sweepAt (suc q) .keep) 0 q front-less), λ t. c .1 t ∙ after-holds t)
       result true false ek ed =
           let c = v .on (rw same-kept ek) (sym same-dead ∙ ed) in
           (c .0 ∙ split ∙ rw (eqb-true (getD keep₀ q 0) 1 ek), before-holds (S .tables) (cellAt cells q) (S .locals) (afterAt q) row₁ row′ after-wide (g .within q) after-holds (c .1))

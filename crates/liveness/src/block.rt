@@ -38,10 +38,10 @@ fn summarize_place(
         return;
     }
     let word = memory[p];
-    let c = opcode::class_of((word % 256) as u8);
-    if touch::is_single(c) {
+    let k = opcode::class_number((word % 256) as u8);
+    if touch::is_single(k) {
         touch::take_single_write(&mut memory[preserved..preserved + w], word);
-        touch::single_before(&mut memory[uses..uses + w], word, c);
+        touch::single_before(&mut memory[uses..uses + w], word, k, true);
         return;
     }
     let i = Instruction::from_word(word);

@@ -68,13 +68,12 @@ fn sweep_place(
     let start = sets.row;
     let end = start + sets.width;
     let word = memory[p];
-    let c = opcode::class_of((word % 256) as u8);
-    if touch::is_single(c) {
-        if dead::is_single_dead(types, &memory[start..end], word) {
-            keep[p] = 0;
-            return;
-        }
-        touch::single_before(&mut memory[start..end], word, c);
+    let k = opcode::class_number((word % 256) as u8);
+    if touch::is_single(k) {
+        // The processor could not predict which store is dead.
+        let live = !dead::is_single_dead(types, &memory[start..end], word);
+        keep[p] = live as u32;
+        touch::single_before(&mut memory[start..end], word, k, live);
         return;
     }
     let i = Instruction::from_word(word);

@@ -21,6 +21,10 @@ use Rattle.effects.specs.Form.{emptyRange}
 abbrev pub Put : Bool → (ℕ → Bool) → List ℕ → List ℕ → Type 0
 Put b f l l′ = (t : ℕ) → member l′ t ≡ cond (f t) b (member l t)
 
+-- the same slots
+abbrev pub Same : List ℕ → List ℕ → Type 0
+Same l l′ = (t : ℕ) → member l′ t ≡ member l t
+
 pub put-none : (b : Bool) (f : ℕ → Bool) (l : List ℕ) → ((t : ℕ) → f t ≡ false) → Put b f l l
 put-none b f l e t = rw (e t)
 

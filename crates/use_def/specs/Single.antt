@@ -1,12 +1,15 @@
 -- Loads, copies and operators: they write slot a, and of single slots they read b and c at most.
 -- Assumes nothing.
-use mathlib.Core.Path.{_≡_, refl}
-use mathlib.Core.Bool.{Bool, true, false, cond, _&&_, false≢true}
+use mathlib.Core.Path.{_≡_, refl, sym, _∙_}
+use mathlib.Core.Bool.{Bool, true, false, cond, not, _&&_, _||_, and-false, false≢true}
 use mathlib.Core.List.{List, [], _∷_}
 use Prim.Native.Nat.{ℕ, zero, suc, _+_, _*_, _/_, _%_, _^_, _<_}
 use native.Mathlib.Omega.{arith}
 use lib.Dec.{eqb}
 use lib.ListN.{length, getD}
+use borrow.Author.Tests.{eqb-true, not-true}
+use Rattle.words.specs.Truth.{right-true}
+use Rattle.words.specs.Bits.{member}
 use Rattle.words.specs.Lists.{isIn}
 use Rattle.instruction.specs.declared.Instruction.{Instruction}
 use Rattle.instruction.specs.declared.Class.{Class}
@@ -19,8 +22,9 @@ use Rattle.effects.specs.Effects.{rangeHas, rangeWithin}
 use Rattle.effects.specs.Form.{emptyRange}
 use Rattle.effects.specs.Plain.{slotOf}
 use Rattle.effects.specs.ByClass.{isOutside, readsByClass, writesByClass}
+use Rattle.unit.specs.Entry.{typeValue, typeFloat}
 use Rattle.unit.specs.declared.Metadata.{Metadata}
-use Rattle.use_def.specs.Sets.{Put, range, put-as, put-one, has-none, within-end}
+use Rattle.use_def.specs.Sets.{Put, Same, range, put-as, put-one, has-none, within-end}
 use Rattle.use_def.specs.Touched.{reading, writing, Fits, put-reads, put-writes, reads-in, writes-in}
 use Rattle.use_def.specs.Free.{freeSlot, deadBy, one-free, Spans}
 
@@ -136,11 +140,26 @@ module _ (w : ℕ) (k : Class) (same : k ≡ class (ofWord w)) (e : isSingle k �
       put-reads T (cell w m) k same (inside k e) true l l₁ l₂ (slotIf x b) (slotIf y c) (rw (f, d) (first-read k e (ofWord w))) (rw (g, h) (second-read k e (ofWord w)))
       (put-slot true x b l l₁ q) (put-slot true y c l₁ l₂ s)
 
+-- the slot of a dead store is not in the set, and nothing is put in: the set stays
+pub single-stays : (l l₁ l₂ l₃ : List ℕ) (a b c : ℕ) (x y live : Bool) → live ≡ false → member l a ≡ false → Put false (λ t. eqb t a) l l₁ → Put true (λ t. (x && live) && eqb t b) l₁ l₂ → Put true (λ t. (y && live) && eqb t c) l₂ l₃ → Same l l₃
+single-stays l l₁ l₂ l₃ a b c x y live d e p q r t =
+    let none : (z s : Bool) → ((z && live) && s) ≡ false = λ z s. rw (d, and-false z) in
+    let second : member l₃ t ≡ member l₂ t = rw (none y (eqb t c)) at (r t) in
+    let first : member l₂ t ≡ member l₁ t = rw (none x (eqb t b)) at (q t) in
+    second ∙ first ∙ p t ∙ go (eqb t a) refl
+  where
+    go : (s : Bool) → eqb t a ≡ s → cond s false (member l t) ≡ member l t
+    go true s = rw (eqb-true t a s) (sym e)
+    go false s = refl
+
 -- ---- dead stores
 
 module _ (types row : List ℕ) (i : Instruction) (e : isSingle (class i) ≡ true) where
   pub single-dead : deadBy types row i ≡ freeSlot types row (i .a)
   single-dead = rw (pure (class i) e, ← slot-written (class i) e i) (one-free types row (range (i .a) 1) refl)
+
+  pub single-absent : deadBy types row i ≡ true → member row (i .a) ≡ false
+  single-absent d = not-true (member row (i .a)) (right-true (eqb (getD types (i .a) 1) typeValue || eqb (getD types (i .a) 1) typeFloat) (not (member row (i .a))) (sym single-dead ∙ d))
 
   pub single-spans : Spans types row (getD (writesByClass (class i) i) 0 emptyRange) → (i .a < length types) × (i .a < 64 * length row)
   single-spans s =

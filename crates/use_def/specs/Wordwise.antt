@@ -1,7 +1,7 @@
 -- Sets of slots worked on word by word.
 -- Assumes nothing.
 use mathlib.Core.Path.{_≡_, refl, sym, ap, _∙_}
-use mathlib.Core.Bool.{Bool, true, false, cond, not, _&&_, _||_, false≢true}
+use mathlib.Core.Bool.{Bool, true, false, cond, not, _&&_, _||_, and-true, and-false, false≢true}
 use mathlib.Core.List.{List}
 use Prim.Native.Nat.{ℕ, zero, suc, _+_, _*_, _-_, _/_, _%_, _^_, _≤_, _<_, max, min}
 use native.Mathlib.Nat.{zero-div, pow-suc}
@@ -97,17 +97,34 @@ test-or a b k = rw (bit-or a b k) (or-bit (bit a k) (bit b k) (omega arith) (ome
 test-and : (a b k : ℕ) → eqb (bit (bitAnd a b) k) 1 ≡ (eqb (bit a k) 1 && eqb (bit b k) 1)
 test-and a b k = rw (bit-and a b k) (and-bit (bit a k) (bit b k) (omega arith) (omega arith))
 
--- ---- the union of two sets
+-- ---- the union of two sets, each of which may be left out
 
-abbrev pub orWords : List ℕ → List ℕ → ℕ → ℕ
-orWords l m j = bitOr (getD l j 0) (getD m j 0)
+abbrev pub allBits : Bool → ℕ
+allBits when = cond when 18446744073709551615 0
 
-pub or-past : (l m : List ℕ) → length m ≡ length l → (j : ℕ) → length l ≤ j → orWords l m j ≡ 0
-or-past l m e j h = rw (get-past l j h, get-past m j (omega arith)) (or-zero-l 0)
+abbrev pub joinWords : ℕ → List ℕ → ℕ → List ℕ → ℕ → ℕ
+joinWords f l s m j = bitOr (bitAnd (getD l j 0) f) (bitAnd (getD m j 0) s)
 
-pub joined-sets : (l m l′ : List ℕ) → ((j : ℕ) → getD l′ j 0 ≡ orWords l m j) → (t : ℕ) → member l′ t ≡ (member l t || member m t)
+pub join-past : (f s : ℕ) (l m : List ℕ) (n : ℕ) → length l ≡ n → length m ≡ n → (j : ℕ) → n ≤ j → joinWords f l s m j ≡ 0
+join-past f s l m n e d j h = rw (get-past l j (omega arith), get-past m j (omega arith), and-zero-l f, and-zero-l s) (or-zero-l 0)
+
+ones : (k : ℕ) → k < 64 → eqb (bit 18446744073709551615 k) 1 ≡ true
+unfolding every
+ones k h = every-at 64 (λ k. eqb (bit 18446744073709551615 k) 1) refl k h
+
+no-ones : (k : ℕ) → eqb (bit 0 k) 1 ≡ false
+no-ones k = rw (zero-div (2 ^ k))
+
+test-masked : (x : Bool) (a k : ℕ) → k < 64 → eqb (bit (bitAnd a (allBits x)) k) 1 ≡ (x && eqb (bit a k) 1)
+test-masked true a k h = test-and a 18446744073709551615 k ∙ rw (ones k h) (and-true (eqb (bit a k) 1))
+test-masked false a k h = test-and a 0 k ∙ rw (no-ones k) (and-false (eqb (bit a k) 1))
+
+pub joined-sets : (f s : ℕ) (l m l′ : List ℕ) → ((j : ℕ) → getD l′ j 0 ≡ joinWords f l s m j) → (x y : Bool) → f ≡ allBits x → s ≡ allBits y → (t : ℕ) → member l′ t ≡ ((x && member l t) || (y && member m t))
 unfolding member
-joined-sets l m l′ e t = rw (e (t / 64)) (test-or (getD l (t / 64) 0) (getD m (t / 64) 0) (t % 64))
+joined-sets f s l m l′ e x y ef es t =
+    let k : t % 64 < 64 = omega arith in
+    rw (e (t / 64), ef, es) (test-or (bitAnd (getD l (t / 64) 0) (allBits x)) (bitAnd (getD m (t / 64) 0) (allBits y)) (t % 64)
+    ∙ rw (test-masked x (getD l (t / 64) 0) (t % 64) k, test-masked y (getD m (t / 64) 0) (t % 64) k))
 
 -- ---- what is live at a block's start, of what is live at its end
 
@@ -245,19 +262,12 @@ module _ (m₀ m : List ℕ) (a w k : ℕ) (o : Only (At a w) m₀ m) (room : a 
 
 pub none-in : (n t : ℕ) → member (replicate n 0) t ≡ false
 unfolding member
-none-in n t = rw (zeros n (t / 64)) low
+none-in n t = rw (zeros n (t / 64)) (no-ones (t % 64))
   where
     zeros : (n j : ℕ) → _≡_ {A = ℕ} (getD (replicate n 0) j 0) 0
     zeros zero j = refl
     zeros (suc n) zero = refl
     zeros (suc n) (suc j) = zeros n j
-
-    low : eqb (0 / 2 ^ (t % 64) % 2) 1 ≡ false
-    low = rw (zero-div (2 ^ (t % 64)))
-
-ones : (k : ℕ) → k < 64 → eqb (bit 18446744073709551615 k) 1 ≡ true
-unfolding every
-ones k h = every-at 64 (λ k. eqb (bit 18446744073709551615 k) 1) refl k h
 
 pub all-in : (n t : ℕ) → t < 64 * n → member (replicate n 18446744073709551615) t ≡ true
 unfolding member

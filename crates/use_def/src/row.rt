@@ -1,7 +1,8 @@
 // Sets of slots: slot t is bit t % 64 of word t / 64.
 ghost use mathlib.Core.Path.{_≡_};
 ghost use Prim.Native.Nat.{ℕ, _+_, _*_, _-_, _^_, _≤_, _<_};
-ghost use mathlib.Core.Bool.{true, cond, _&&_, _||_};
+ghost use mathlib.Core.Bool.{Bool, true, cond, _&&_, _||_};
+ghost use mir.Val.{boolByte};
 ghost use lib.Dec.{eqb};
 ghost use lib.Bits.{bitAnd, bitOr};
 ghost use lib.ListN.{length, replicate};
@@ -9,7 +10,7 @@ ghost use borrow.Rule.Slice.PartMut.{midOf};
 ghost use Rattle.words.specs.Bits.{member};
 ghost use Rattle.effects.specs.Effects.{rangeHas, rangeWithin};
 ghost use Rattle.use_def.specs.Sets.{Put, range};
-ghost use Rattle.use_def.specs.Wordwise.{Moved};
+ghost use Rattle.use_def.specs.Wordwise.{allBits, Moved};
 ghost use Rattle.words.specs.Only.{At, Only};
 use effects::Range;
 use words::bits;
@@ -33,8 +34,8 @@ fn masked(x: u64, m: u64, on: bool) -> u64
     if on { x | m } else { x & !m }
 }
 
-// The slot, or 0.
-fn slot_if(t: usize, when: bool) -> usize
+// The index, or 0.
+fn index_if(t: usize, when: bool) -> usize
     ensures { λ r. ⌜ r ≡ cond when t 0 ⌝ }
 {
     if when { t } else { 0 }
@@ -45,7 +46,7 @@ pub fn put_if(row: &mut [u64], t: usize, when: bool, on: bool)
     requires { ⌜ (0 < length (now row)) × (when ≡ true → t < 64 * length (now row)) ⌝ }
     ensures { λ _. ⌜ Put on (λ k. when && eqb k t) (now (row .entry)) (now (row .exit)) ⌝ }
 {
-    let at = slot_if(t, when);
+    let at = index_if(t, when);
     let bit: u64 = when as u64;
     let k = at / 64;
     let x = row[k];
@@ -89,15 +90,22 @@ pub fn fill(row: &mut [u64], v: u64)
     }
 }
 
-// Puts all slots of the set at b into the set at a, both of w words.
-pub fn join(memory: &mut [u64], a: usize, b: usize, w: usize)
-    requires { ⌜ (a + w ≤ b) × (b + w ≤ length (now memory)) ⌝ }
-    ensures { λ _. ⌜ ((t : ℕ) → member (midOf a w (now (memory .exit))) t ≡ (member (midOf a w (now (memory .entry))) t || member (midOf b w (now (memory .entry))) t)) × Only (At a w) (now (memory .entry)) (now (memory .exit)) ⌝ }
+// All bits, or none.
+pub fn mask(bit: u64) -> u64
+    requires { ⌜ bit < 2 ⌝ }
+    ensures { λ r. ⌜ ((when : Bool) → bit ≡ boolByte when → r ≡ allBits when) ⌝ }
+{
+    std::num::wrapping_sub_u64(0, bit)
+}
+
+// The set at a becomes the bits of f of that at b and the bits of s of that at c, together; all are of w words.
+pub fn join(memory: &mut [u64], a: usize, b: usize, f: u64, c: usize, s: u64, w: usize)
+    requires { ⌜ (a + w ≤ b) × (b + w ≤ length (now memory)) × (a + w ≤ c) × (c + w ≤ length (now memory)) ⌝ }
+    ensures { λ _. ⌜ ((x y : Bool) → f ≡ allBits x → s ≡ allBits y → (t : ℕ) → member (midOf a w (now (memory .exit))) t ≡ ((x && member (midOf b w (now (memory .entry))) t) || (y && member (midOf c w (now (memory .entry))) t))) × Only (At a w) (now (memory .entry)) (now (memory .exit)) ⌝ }
 {
     let mut k: usize = 0;
     while k < w {
-        let x = memory[a + k];
-        memory[a + k] = x | memory[b + k];
+        memory[a + k] = (memory[b + k] & f) | (memory[c + k] & s);
         k += 1;
     }
 }

@@ -2,7 +2,11 @@
 ghost use mathlib.Core.Path.{_≡_};
 ghost use mathlib.Core.Bool.{true, false};
 ghost use Prim.Native.Nat.{_+_, _*_, _≤_, _<_};
+ghost use lib.Dec.{eqb};
 ghost use lib.ListN.{length, getD};
+ghost use Rattle.words.specs.Bits.{member};
+ghost use Rattle.instruction.specs.Class.{numberOf};
+ghost use Rattle.instruction.specs.declared.Class.{Class};
 ghost use Rattle.instruction.specs.Instruction.{ofWord, class};
 ghost use Rattle.unit.specs.declared.Metadata.{Metadata};
 ghost use Rattle.unit.specs.Entry.{metadataAt};
@@ -13,7 +17,7 @@ ghost use Rattle.effects.specs.Form.{emptyRange};
 ghost use Rattle.effects.specs.Plain.{slotOf};
 ghost use Rattle.effects.specs.Ranges.{CasesInside};
 ghost use Rattle.effects.specs.ByClass.{isOutside, readsByClass, writesByClass};
-ghost use Rattle.use_def.specs.Sets.{Put};
+ghost use Rattle.use_def.specs.Sets.{Put, Same};
 ghost use Rattle.use_def.specs.Touched.{Within, reading, writing, Fits, Before};
 ghost use Rattle.use_def.specs.Single.{isSingle, readsFirst, readsSecond, SingleFits};
 use crate::row;
@@ -178,52 +182,49 @@ pub fn field(w: u64, form: u64) -> usize
     ((w >> (16 + 16 * form)) % 65536) as usize
 }
 
-// A load, a copy or an operator? It writes slot a, and of single slots it reads b and c at most.
-pub fn is_single(c: Class) -> bool
-    ensures { λ r. ⌜ r ≡ isSingle c ⌝ }
+// A load, a copy or an operator, by the number of its class? It writes slot a, and of single slots it reads b and c at most.
+pub fn is_single(k: u64) -> bool
+    requires { ⌜ k < 15 ⌝ }
+    ensures { λ r. ⌜ ((x : Class) → k ≡ numberOf x → r ≡ isSingle x) ⌝ }
 {
-    match c {
-        Class::LoadInt | Class::LoadConst | Class::Copy | Class::Unary | Class::Binary => true,
-        _ => false,
-    }
+    (110u64 >> k) % 2 == 1
 }
 
 // Of these, does it read b?
-fn reads_first(c: Class) -> bool
-    ensures { λ r. ⌜ r ≡ readsFirst c ⌝ }
+fn reads_first(k: u64) -> bool
+    requires { ⌜ k < 15 ⌝ }
+    ensures { λ r. ⌜ ((x : Class) → k ≡ numberOf x → r ≡ readsFirst x) ⌝ }
 {
-    match c {
-        Class::Copy | Class::Unary | Class::Binary => true,
-        _ => false,
-    }
+    (104u64 >> k) % 2 == 1
 }
 
 // And c?
-fn reads_second(c: Class) -> bool
-    ensures { λ r. ⌜ r ≡ readsSecond c ⌝ }
+fn reads_second(k: u64) -> bool
+    requires { ⌜ k < 15 ⌝ }
+    ensures { λ r. ⌜ ((x : Class) → k ≡ numberOf x → r ≡ readsSecond x) ⌝ }
 {
-    match c {
-        Class::Binary => true,
-        _ => false,
-    }
+    (64u64 >> k) % 2 == 1
 }
 
 // Takes out the slot that it writes.
 pub fn take_single_write(row: &mut [u64], w: u64)
     requires { ⌜ SingleFits (length (now row)) w ⌝ }
-    ensures { λ _. ⌜ ((T : Tables) (m : Metadata) → Put false (writing T (record { instruction = ofWord w; metadata = m })) (now (row .entry)) (now (row .exit))) ⌝ }
+    ensures { λ _. ⌜ ((T : Tables) (m : Metadata) → Put false (writing T (record { instruction = ofWord w; metadata = m })) (now (row .entry)) (now (row .exit))) × Put false (λ t. eqb t (ofWord w .a)) (now (row .entry)) (now (row .exit)) ⌝ }
 {
     row::put(row, field(w, 0), false);
 }
 
-// What is live before it, of what is live after it.
-pub fn single_before(row: &mut [u64], w: u64, c: Class)
-    requires { ⌜ SingleFits (length (now row)) w × (c ≡ class (ofWord w)) ⌝ }
-    ensures { λ _. ⌜ ((T : Tables) (m : Metadata) → Before T (record { instruction = ofWord w; metadata = m }) (now (row .entry)) (now (row .exit))) ⌝ }
+// What is live before it, of what is live after it. Of a dead store, whose slot is not live, nothing is put in: so the live slots stay,
+// and the processor has no branch to predict.
+pub fn single_before(row: &mut [u64], w: u64, k: u64, live: bool)
+    requires { ⌜ SingleFits (length (now row)) w × (k ≡ numberOf (class (ofWord w))) ⌝ }
+    ensures { λ _. ⌜ (live ≡ true → (T : Tables) (m : Metadata) → Before T (record { instruction = ofWord w; metadata = m }) (now (row .entry)) (now (row .exit))) × (live ≡ false → member (now (row .entry)) (ofWord w .a) ≡ false → Same (now (row .entry)) (now (row .exit))) ⌝ }
 {
     take_single_write(row, w);
-    row::put_if(row, field(w, 1), reads_first(c), true);
-    row::put_if(row, field(w, 2), reads_second(c), true);
+    let first = reads_first(k) & live;
+    row::put_if(row, field(w, 1), first, true);
+    let second = reads_second(k) & live;
+    row::put_if(row, field(w, 2), second, true);
 }
 
 // What is live before the instruction at place p, of what is live after it.

@@ -2,6 +2,7 @@ use mathlib.Core.Path.{refl, sym, _∙_}
 use Prim.Native.Nat.{ℕ}
 use lib.ListN.{getD}
 use borrow.Author.Tests.{eq-eqb, ne-eqb}
+use Rattle.instruction.specs.Class.{number-below}
 use Rattle.instruction.specs.Instruction.{ofWord}
 use Rattle.effects.specs.Shape.{Tables, Cell, tablesOf}
 use Rattle.effects.specs.Cells.{cellOf}
@@ -24,12 +25,15 @@ word s = getD (s .args .memory .now) (s .args .p) 0
 abbrev cell : tie.Start → Cell
 cell s = cellOf (s .args .metadata .now) (s .args .p) (word s)
 
+is-single-requires : tie.Need-is-single-requires
+is-single-requires c κs = rw (c .class-number .ensures) (number-below _)
+
 -- such an instruction's slots are in the sets
 fits : (c : tie.Then2) → SingleFits (c .before .before .before .before .before .before .before .before .before .before .before .before .args .w) (word (c .before .before .before .before .before .before .before .before .before .before .before .before))
 unfolding ofWord
 fits c =
     let s = c .before .before .before .before .before .before .before .before .before .before .before .before in
-    single-fits _ _ (tables s) (cell s .metadata) (s .pre .6) (rw (← c .before .before .class-of .ensures) (sym (c .before .is-single .ensures) ∙ c .if2 .taken)) (s .pre .5)
+    single-fits _ _ (tables s) (cell s .metadata) (s .pre .6) (sym (c .before .is-single .ensures _ (c .before .before .class-number .ensures)) ∙ c .if2 .taken) (s .pre .5)
 
 take-single-write-requires : tie.Need-take-single-write-requires
 take-single-write-requires c κs = let s = c .before .before .before .before .before .before .before .before .before .before .before .before .before in rw (lent-long _ _ _ (s .pre .2)) (fits (c .before))
@@ -38,14 +42,14 @@ single-before-requires : tie.Need-single-before-requires
 unfolding ofWord
 single-before-requires c κs =
     let s = c .before .before .before .before .before .before .before .before .before .before .before .before .before .before .before .before .before in
-    rw (second-long _ _ _ _ _ (s .pre .1) (s .pre .2) (c .before .before .before .take-single-write .kept .0)) (fits (c .before .before .before .before .before), c .before .before .before .before .before .before .before .class-of .ensures)
+    rw (second-long _ _ _ _ _ (s .pre .1) (s .pre .2) (c .before .before .before .take-single-write .kept .0)) (fits (c .before .before .before .before .before), c .before .before .before .before .before .before .before .class-number .ensures)
 
 returns-2 : tie.Need-returns-2
 returns-2 c =
     let s = c .before .before .before .before .before .before .before .before .before .before .before .before .before .before .before .before .before .before .before .before in
     let v = c .before .before .before .before .before .before .take-single-write in
     let u = c .before .before .single-before in
-    lent-placed (tables s) (cell s) _ (eq-eqb _ _ (c .before .before .before .before .before .before .before .before .before .before .before .before .if1 .left)) _ _ _ _ _ _ (s .pre .1) (s .pre .2) (v .kept .0) (u .kept .0) (v .ensures _ _) (u .ensures _ _) _ refl
+    lent-placed (tables s) (cell s) _ (eq-eqb _ _ (c .before .before .before .before .before .before .before .before .before .before .before .before .if1 .left)) _ _ _ _ _ _ (s .pre .1) (s .pre .2) (v .kept .0) (u .kept .0) (v .ensures .0 _ _) (u .ensures .0 refl _ _) _ refl
 
 put-writes-requires : tie.Need-put-writes-requires
 put-writes-requires c κs =
@@ -76,7 +80,7 @@ summarize-place-spec =
     (λ c. search needs)
     (λ c. search needs)
     (λ c κs. search needs)
-    (λ c κs. search needs)
+    is-single-requires
     (λ c. search needs)
     (λ c. search needs)
     (λ c. search needs)

@@ -1,60 +1,104 @@
-use mathlib.Core.Path.{_≡_, _∙_}
-use Prim.Native.Nat.{_+_, _-_, _≤_, _<_}
-use native.Mathlib.Numerals.{add-one}
+use mathlib.Core.Path.{_≡_, refl, sym, ap, _∙_}
+use mathlib.Core.Bool.{Bool, true, cond, _&&_}
+use Prim.Native.Nat.{ℕ, _+_, _*_, _<_}
 use native.Mathlib.Omega.{arith}
-use lib.ListN.{length}
-use borrow.Author.Tests.{ltb-true}
+use lib.Dec.{ltb}
+use lib.ListN.{getD}
+use lib.Bits.{bitAnd}
 use borrow.Rule.Slice.PartMut.{midOf}
-use Rattle.words.specs.Truth.{right-true}
-use Rattle.liveness.specs.Memory.{liveOf, same-live}
-use Rattle.words.specs.Only.{lent, only-both}
-use Rattle.liveness.specs.Out.{target-inside, out-joined}
+use Rattle.instruction.specs.Class.{number-below}
+use Rattle.instruction.specs.Instruction.{class}
+use Rattle.flow.specs.Branch.{falls, branches}
+use Rattle.use_def.specs.Wordwise.{allBits}
+use Rattle.liveness.specs.Memory.{liveOf, start-inside, start-row}
+use Rattle.liveness.specs.Out.{both-bits, byte-below, place-if, next-place, target-place, target-inside, out-joined}
 use borrow.Author.Needs.{needs}
 use Rattle.liveness.proofs.out.live_out.Statement.{statement}
 use Rattle.liveness.proofs.out.live_out.Tie as tie
 
-join-if-requires : tie.Need-join-if-requires
-join-if-requires c κs =
-    let s = c .before .before .before .before .before .before .before .before .before .before .before .before in
-    let k = s .pre .0 in
-    let l = k .laid in
-    let room : s .args .sets .row + s .args .sets .width ≤ length (s .args .memory .now) = omega (arith, l .uses, l .preserved, l .live, l .end) in
-    let x = lent (s .args .memory .now) (s .args .sets .row) (s .args .sets .width) (c .before .before .before .before .fill .last .0) room (c .before .before .before .before .fill .kept .0) in
-    (rw (x .0 .long) l, λ e. let h : s .args .p + 1 < s .args .sets .code = ltb-true _ _ (right-true (c .falls .result) _ e) in (rw (k .long-blocks) h, k .rows-inside (s .args .p + 1) h))
+falls-requires : tie.Need-falls-requires
+falls-requires c κs = rw (c .class-number .ensures) (number-below _)
 
-join-if-requires-2 : tie.Need-join-if-requires-2
-join-if-requires-2 c κs =
-    let s = c .before .before .before .before .before .before .before .before .before .before .before .before .before .before .before .before .before .before in
+-- does it go on at the next place?
+abbrev goesOn : tie.After-falls → Bool
+goesOn c = let s = c .before .before .before .before .before .before in falls (class (c .before .before .from-word .result)) && ltb (s .args .p + 1) (s .args .sets .code)
+
+mask-requires : tie.Need-mask-requires
+mask-requires c κs = rw (c .falls .ensures _ (c .before .class-number .ensures), both-bits) (byte-below (goesOn c))
+
+branches-requires : tie.Need-branches-requires
+branches-requires c κs = rw (c .before .before .class-number .ensures) (number-below _)
+
+mask-requires-2 : tie.Need-mask-requires-2
+mask-requires-2 c κs = rw (c .branches .ensures _ (c .before .before .before .class-number .ensures)) (byte-below (branches (class (c .before .before .before .before .from-word .result))))
+
+-- the next place, if it goes on there, or place 0
+abbrev nextPlace : tie.After-mask → ℕ
+nextPlace c = cond (goesOn (c .before)) (c .before .before .before .before .before .before .before .args .p + 1) 0
+
+next-inside : (c : tie.After-mask) → nextPlace c < c .before .before .before .before .before .before .before .args .sets .code
+next-inside c = let s = c .before .before .before .before .before .before .before in next-place (falls (class (c .before .before .before .from-word .result))) (s .args .p) (s .args .sets .code) (s .pre .1)
+
+goes-on : (c : tie.After-mask) → c .mask .result ≡ allBits (goesOn (c .before))
+goes-on c = c .mask .ensures (goesOn (c .before)) (rw (c .before .falls .ensures _ (c .before .before .class-number .ensures)) (both-bits (falls (class (c .before .before .before .from-word .result))) (ltb (c .before .before .before .before .before .before .before .args .p + 1) (c .before .before .before .before .before .before .before .args .sets .code))))
+
+next-masked : (c : tie.After-mask) → bitAnd (c .before .before .before .before .before .before .before .args .p + 1) (c .mask .result) ≡ nextPlace c
+next-masked c =
+    let s = c .before .before .before .before .before .before .before in
+    rw (goes-on c) (place-if (s .args .p + 1) (goesOn (c .before)) (omega (arith, s .pre .1, s .pre .0 .most)))
+
+row-of-requires : tie.Need-row-of-requires
+row-of-requires c κs =
+    let s = c .before .before .before .before .before .before .before .before .before in
     let k = s .pre .0 in
-    let l = k .laid in
-    let room : s .args .sets .row + s .args .sets .width ≤ length (s .args .memory .now) = omega (arith, l .uses, l .preserved, l .live, l .end) in
-    let x = lent (s .args .memory .now) (s .args .sets .row) (s .args .sets .width) (c .before .before .before .before .before .before .before .before .before .before .fill .last .0) room (c .before .before .before .before .before .before .before .before .before .before .fill .kept .0) in
-    let long : length (c .before .before .before .before .before .join-if .last .0) ≡ length (s .args .memory .now) = c .before .before .before .before .before .join-if .kept .0 ∙ x .0 .long in (
-      rw long l,
-      λ e.
-          let h : c .target .result < s .args .sets .code = target-inside _ _ _ _ _ _ _ (c .before .before .before .before .before .before .before .before .before .before .before .before .before .before .from-word .ensures) (c .before .before .before .before .before .before .before .before .before .before .before .before .before .class .ensures) (c .before .branches .ensures) (c .target .ensures) (k .inside (s .args .p) (s .pre .1)) e in
-          (rw (k .long-blocks) h, k .rows-inside (c .target .result) h),
-    )
+    let h = next-inside (c .before .before) in
+    rw (next-masked (c .before .before)) (omega (arith, k .laid .end), rw (k .long-blocks) h, k .rows-inside _ h)
+
+-- the target, if it branches, or place 0
+abbrev branching : tie.After-target → Bool
+branching c = branches (class (c .before .before .before .before .before .before .before .from-word .result))
+
+abbrev targetPlace : tie.After-target → ℕ
+targetPlace c = cond (branching c) (c .target .result) 0
+
+branches-to : (c : tie.After-target) → c .before .before .mask2 .result ≡ allBits (branching c)
+branches-to c = c .before .before .mask2 .ensures (branching c) (c .before .before .before .branches .ensures _ (c .before .before .before .before .before .before .class-number .ensures))
+
+target-masked : (c : tie.After-target) → bitAnd (c .target .result) (c .before .before .mask2 .result) ≡ targetPlace c
+target-masked c = rw (branches-to c) (place-if (c .target .result) (branching c) (omega arith))
+
+target-inside-code : (c : tie.After-target) → targetPlace c < c .before .before .before .before .before .before .before .before .before .before .before .args .sets .code
+target-inside-code c =
+    let s = c .before .before .before .before .before .before .before .before .before .before .before in
+    target-place (branching c) (c .target .result) (s .args .sets .code) (omega (arith, s .pre .1))
+    (λ e. rw (c .target .ensures e) (target-inside _ _ _ (rw (c .before .before .before .before .before .before .before .from-word .ensures) (s .pre .0 .inside (s .args .p) (s .pre .1))) e))
+
+row-of-requires-2 : tie.Need-row-of-requires-2
+row-of-requires-2 c κs =
+    let s = c .before .before .before .before .before .before .before .before .before .before .before in
+    let k = s .pre .0 in
+    let h = target-inside-code c in
+    rw (target-masked c) (omega (arith, k .laid .end), rw (k .long-blocks) h, k .rows-inside _ h)
+
+join-requires : tie.Need-join-requires
+join-requires c κs =
+    let s = c .before .before .before .before .before .before .before .before .before .before .before .before .before in
+    let a = start-inside (s .args .sets) _ _ (s .pre .0) _ (next-inside (c .before .before .before .before .before .before)) in
+    let d = start-inside (s .args .sets) _ _ (s .pre .0) _ (target-inside-code (c .before .before)) in
+    rw (c .before .before .before .row-of .ensures, next-masked (c .before .before .before .before .before .before), c .before .row-of2 .ensures, target-masked (c .before .before)) (a .0, a .1, d .0, d .1)
 
 returns : tie.Need-returns
 returns c =
-    let s = c .before .before .before .before .before .before .before .before .before .before .before .before .before .before .before .before .before .before .before .before .before in
-    let t = s .args .sets in
+    let s = c .before .before .before .before .before .before .before .before .before .before .before .before .before .before .before .before in
+    let z = s .args .sets in
     let m = s .args .memory .now in
-    let l = s .pre .0 .laid in
-    let f = c .before .before .before .before .before .before .before .before .before .before .before .before .before .fill in
-    let i = c .before .before .before .before .before .before .before .before .before .before .before .before .before .before .before .before .before .from-word in
-    let k = c .before .before .before .before .before .before .before .before .before .before .before .before .before .before .before .before .class in
-    let j = c .before .before .before .before .before .before .before .before .join-if in
-    let room : t .row + t .width ≤ length m = omega (arith, l .uses, l .preserved, l .live, l .end) in
-    let x = lent m (t .row) (t .width) (f .last .0) room (f .kept .0) in
-    let o = only-both _ _ _ _ (x .0) (j .ensures .1) in
-    let first = rw (same-live t m _ l (x .0)) at (j .ensures .0) in
-    let second = rw (same-live t m _ l o) at (c .before .before .join-if2 .ensures .0) in (
-      rw (← i .ensures)
-          (out-joined (t .width) (liveOf t m) (s .args .blocks .now) (t .code) (s .args .p) (c .before .before .before .target .result) (s .args .p + 1) (length (midOf (t .row) (t .row + t .width - t .row) m)) (i .result) (k .result) (c .before .before .before .before .before .before .before .before .before .falls .result) (c .before .before .before .before .branches .result) _ _ _ (k .ensures) (c .before .before .before .before .before .before .before .before .before .falls .ensures) (c .before .before .before .before .branches .ensures) (add-one _) (c .before .before .before .target .ensures) (x .1 ∙ f .ensures) first second),
-      only-both _ _ _ _ o (c .before .before .join-if2 .ensures .1),
-    )
+    let g = c .before .before .before .before .before in
+    let f = c .before .before .before .before .before .before .before .before .before in
+    let i = c .before .before .before .before .before .before .before .before .before .before .before .before .from-word in
+    let a = ap (λ (j : ℕ). midOf j (z .width) m) (rw (next-masked f) at (c .before .before .before .before .before .before .row-of .ensures)) ∙ start-row z m _ (s .pre .0) (nextPlace f) (next-inside f) in
+    let d = ap (λ (j : ℕ). midOf j (z .width) m) (rw (target-masked g) at (c .before .before .before .before .row-of2 .ensures)) ∙ start-row z m _ (s .pre .0) (targetPlace g) (target-inside-code g) in
+    let j = c .before .before .join .ensures in
+    (rw (← i .ensures) (out-joined (z .width) (liveOf z m) (s .args .blocks .now) (z .code) (s .args .p) (g .target .result) (i .result) _ _ _ (goesOn (f .before)) (branching g) refl refl (g .target .ensures) a d (j .0 (goesOn (f .before)) (branching g) (goes-on f) (branches-to g))), j .1)
 
 pub live-out-spec : {M : Type 1} → statement M
 live-out-spec =
@@ -65,16 +109,14 @@ live-out-spec =
     (λ c κs. search needs)
     (λ c κs. search needs)
     (λ c. search needs)
+    falls-requires
     (λ c. search needs)
-    (λ c. search needs)
-    (λ c. search needs)
-    (λ c. search needs)
-    (λ c. search needs)
+    mask-requires
+    branches-requires
+    mask-requires-2
+    row-of-requires
     (λ c κs. search needs)
-    (λ c κs. search needs)
-    join-if-requires
-    (λ c κs. search needs)
-    (λ c κs. search needs)
-    join-if-requires-2
+    row-of-requires-2
+    join-requires
     (λ c. search needs)
     returns)

@@ -1,19 +1,19 @@
-use mathlib.Core.Path.{_≡_, sym, _∙_}
-use mathlib.Core.Bool.{true}
+use mathlib.Core.Path.{_≡_, refl, sym, _∙_}
+use mathlib.Core.Bool.{Bool, true, false, not, false≢true}
 use Prim.Native.Nat.{_+_, _*_, _-_, _%_, _≤_}
 use native.Mathlib.Omega.{arith}
 use lib.ListN.{length, getD}
 use borrow.Author.Tests.{eq-eqb, ne-eqb}
-use Rattle.instruction.specs.Class.{classOf}
+use Rattle.instruction.specs.Class.{classOf, number-below}
 use Rattle.instruction.specs.Instruction.{ofWord}
 use Rattle.unit.specs.Size.{metadataSize}
 use Rattle.effects.specs.Shape.{Tables, Cell, tablesOf}
 use Rattle.effects.specs.Cells.{cellOf}
-use Rattle.use_def.specs.Single.{isSingle, single-fits}
+use Rattle.use_def.specs.Single.{isSingle, single-fits, single-absent}
 use Rattle.use_def.specs.Free.{deadBy}
 use Rattle.liveness.specs.Memory.{rowOf, row-inside}
 use Rattle.words.specs.Only.{only-none, lent-long}
-use Rattle.liveness.specs.Sweeping.{swept-off, lent-gone, lent-on}
+use Rattle.liveness.specs.Sweeping.{swept-off, lent-gone, lent-on, lent-either}
 use borrow.Author.Needs.{needs}
 use Rattle.liveness.proofs.sweep.sweep_place.Statement.{statement}
 use Rattle.liveness.proofs.sweep.sweep_place.Tie as tie
@@ -30,8 +30,11 @@ returns c =
     let dead = deadBy (s .args .types .now) (rowOf (s .args .sets) (s .args .memory .now)) (cell s .instruction) in
     (swept-off (tables s) _ dead (cell s) (s .args .p) _ _ (ne-eqb _ _ (c .if1 .taken)), only-none _ _)
 
+is-single-requires : tie.Need-is-single-requires
+is-single-requires c κs = rw (c .class-number .ensures) (number-below _)
+
 single : (c : tie.Then2) → isSingle (classOf (getD (c .before .before .before .before .before .before .before .before .before .before .before .before .before .before .args .memory .now) (c .before .before .before .before .before .before .before .before .before .before .before .before .before .before .args .p) 0 % 256)) ≡ true
-single c = rw (← c .before .before .class-of .ensures) (sym (c .before .is-single .ensures) ∙ c .if2 .taken)
+single c = sym (c .before .is-single .ensures _ (c .before .before .class-number .ensures)) ∙ c .if2 .taken
 
 is-single-dead-requires : tie.Need-is-single-dead-requires
 is-single-dead-requires c κs =
@@ -39,22 +42,26 @@ is-single-dead-requires c κs =
     let part : s .args .sets .row + s .args .sets .width - s .args .sets .row ≡ s .args .sets .width = omega arith in
     (single (c .before .before), rw part (s .pre .4))
 
-returns-2 : tie.Need-returns-2
-returns-2 c =
-    let s = c .before .before .before .before .before .before .before .before .before .before .before .before .before .before .before .before .before .before in
-    lent-gone (tables s) (cell s) _ (eq-eqb _ _ (c .before .before .before .before .before .before .before .before .before .if1 .left)) (s .args .p) _ (s .args .types .now) _ _ _ _ (c .before .is-single-dead .ensures) (c .if3 .taken)
-
 single-before-requires : tie.Need-single-before-requires
 unfolding ofWord
 single-before-requires c κs =
-    let s = c .before .before .before .before .before .before .before .before .before .before .before .before .before .before .before .before .before .before .before in
-    rw (lent-long _ _ _ (row-inside _ _ (s .pre .0))) (single-fits _ _ (tables s) (cell s .metadata) (s .pre .6) (single (c .before .before .before .before .before)) (s .pre .5), c .before .before .before .before .before .before .before .class-of .ensures)
+    let s = c .before .before .before .before .before .before .before .before .before .before .before .before .before .before .before .before .before .before in
+    rw (lent-long _ _ _ (row-inside _ _ (s .pre .0))) (single-fits _ _ (tables s) (cell s .metadata) (s .pre .6) (single (c .before .before .before .before)) (s .pre .5), c .before .before .before .before .before .before .class-number .ensures)
 
-returns-3 : tie.Need-returns-3
-returns-3 c =
-    let s = c .before .before .before .before .before .before .before .before .before .before .before .before .before .before .before .before .before .before .before .before .before .before in
-    let b = c .before .before .single-before in
-    lent-on (tables s) (cell s) _ (eq-eqb _ _ (c .before .before .before .before .before .before .before .before .before .before .before .before .before .if1 .left)) (s .args .p) _ (s .args .types .now) _ _ _ _ (c .before .before .before .before .before .is-single-dead .ensures) (c .before .before .before .before .if3 .left) (row-inside _ _ (s .pre .0)) _ (b .kept .0) (b .ensures (tables s) (cell s .metadata))
+unnot : (r : Bool) → not r ≡ false → r ≡ true
+unnot true e = refl
+unnot false e = absurd (false≢true (sym e))
+
+returns-2 : tie.Need-returns-2
+unfolding ofWord
+returns-2 c =
+    let s = c .before .before .before .before .before .before .before .before .before .before .before .before .before .before .before .before .before .before .before .before .before in
+    let r = c .before .before .before .before .is-single-dead in
+    let v = c .before .before .single-before in
+    let one = c .before .before .before .before .before .before .before .before .before .before .before .before .if1 .left in
+    lent-either (tables s) (cell s) _ (eq-eqb _ _ one) (s .args .p) _ (s .args .types .now) _ _ _ _ (r .ensures) (not (r .result)) refl one (row-inside _ _ (s .pre .0)) _ (v .kept .0)
+    (λ l. v .ensures .0 l (tables s) (cell s .metadata))
+    (λ d. v .ensures .1 d (single-absent (s .args .types .now) _ (cell s .instruction) (single (c .before .before .before .before .before .before .before)) (sym (r .ensures) ∙ unnot (r .result) d)))
 
 is-dead-requires : tie.Need-is-dead-requires
 is-dead-requires c κs =
@@ -62,10 +69,10 @@ is-dead-requires c κs =
     let part : s .args .sets .row + s .args .sets .width - s .args .sets .row ≡ s .args .sets .width = omega arith in
     rw (part, c .before .before .from-word .ensures) (s .pre .4)
 
-returns-4 : tie.Need-returns-4
-returns-4 c =
+returns-3 : tie.Need-returns-3
+returns-3 c =
     let s = c .before .before .before .before .before .before .before .before .before .before .before .before .before .before .before .before .before .before .before in
-    lent-gone (tables s) (cell s) _ (eq-eqb _ _ (c .before .before .before .before .before .before .before .before .before .before .if1 .left)) (s .args .p) _ (s .args .types .now) _ _ _ _ (rw (c .before .before .before .before .from-word .ensures) at (c .before .is-dead .ensures)) (c .if4 .taken)
+    lent-gone (tables s) (cell s) _ (eq-eqb _ _ (c .before .before .before .before .before .before .before .before .before .before .if1 .left)) (s .args .p) _ (s .args .types .now) _ _ _ _ (rw (c .before .before .before .before .from-word .ensures) at (c .before .is-dead .ensures)) (c .if3 .taken)
 
 live-before-requires : tie.Need-live-before-requires
 live-before-requires c κs =
@@ -73,12 +80,12 @@ live-before-requires c κs =
     let room : metadataSize * s .args .p + metadataSize ≤ length (s .args .metadata .now) = omega arith in
     rw (c .before .before .before .before .before .from-word .ensures, lent-long (s .args .memory .now) (s .args .sets .row) (s .args .sets .width) (row-inside _ _ (s .pre .0))) (room, s .pre .5)
 
-returns-5 : tie.Need-returns-5
-returns-5 c =
+returns-4 : tie.Need-returns-4
+returns-4 c =
     let s = c .before .before .before .before .before .before .before .before .before .before .before .before .before .before .before .before .before .before .before .before .before .before .before in
     let i = c .before .before .before .before .before .before .before .before .from-word .ensures in
     let b = c .before .before .live-before in
-    lent-on (tables s) (cell s) _ (eq-eqb _ _ (c .before .before .before .before .before .before .before .before .before .before .before .before .before .before .if1 .left)) (s .args .p) _ (s .args .types .now) _ _ _ _ (rw i at (c .before .before .before .before .before .is-dead .ensures)) (c .before .before .before .before .if4 .left) (row-inside _ _ (s .pre .0)) _ (b .kept .0) (rw i at (b .ensures))
+    lent-on (tables s) (cell s) _ (eq-eqb _ _ (c .before .before .before .before .before .before .before .before .before .before .before .before .before .before .if1 .left)) (s .args .p) _ (s .args .types .now) _ _ _ _ (rw i at (c .before .before .before .before .before .is-dead .ensures)) (c .before .before .before .before .if3 .left) (row-inside _ _ (s .pre .0)) _ (b .kept .0) (rw i at (b .ensures))
 
 pub sweep-place-spec : {M : Type 1} → statement M
 sweep-place-spec =
@@ -92,7 +99,7 @@ sweep-place-spec =
     (λ c. search needs)
     (λ c. search needs)
     (λ c κs. search needs)
-    (λ c κs. search needs)
+    is-single-requires
     (λ c. search needs)
     (λ c. search needs)
     (λ c. search needs)
@@ -102,14 +109,13 @@ sweep-place-spec =
     (λ c. search needs)
     (λ c. search needs)
     (λ c. search needs)
-    returns-2
-    (λ c. search needs)
     (λ c. search needs)
     (λ c. search needs)
     (λ c. search needs)
     single-before-requires
     (λ c. search needs)
-    returns-3
+    (λ c. search needs)
+    returns-2
     (λ c κs. search needs)
     (λ c. search needs)
     (λ c. search needs)
@@ -120,11 +126,11 @@ sweep-place-spec =
     (λ c. search needs)
     (λ c. search needs)
     (λ c. search needs)
-    returns-4
+    returns-3
     (λ c. search needs)
     (λ c. search needs)
     (λ c. search needs)
     (λ c. search needs)
     live-before-requires
     (λ c. search needs)
-    returns-5)
+    returns-4)

@@ -5,16 +5,16 @@ use lib.ListN.{length}
 use borrow.Rule.Slice.PartMut.{midOf}
 use Rattle.words.specs.Regions.{mid-long}
 use Rattle.words.specs.Only.{At, Only, only-none}
-use Rattle.use_def.specs.Wordwise.{orWords, or-past, joined-sets, Stored, stored-begin, stored-end, part-only, part-other, part-old, part-turn}
+use Rattle.use_def.specs.Wordwise.{joinWords, join-past, joined-sets, Stored, stored-begin, stored-end, part-only, part-other, part-turn}
 use borrow.Author.Needs.{needs}
 use Rattle.use_def.proofs.row.join.Statement.{statement}
 use Rattle.use_def.proofs.row.join.Tie as tie
 
 abbrev Inv-loop : tie.InvT-loop
-Inv-loop memory₀ a b w k₀ memory k = (k ≤ w) × (length memory ≡ length memory₀) × Only (At a w) memory₀ memory × Stored (orWords (midOf a w memory₀) (midOf b w memory₀)) (midOf a w memory₀) (midOf a w memory) k
+Inv-loop memory₀ a b f c s w k₀ memory k = (k ≤ w) × (length memory ≡ length memory₀) × Only (At a w) memory₀ memory × Stored (joinWords f (midOf b w memory₀) s (midOf c w memory₀)) (midOf a w memory₀) (midOf a w memory) k
 
 abbrev μ-loop : tie.MeasureT-loop
-μ-loop memory₀ a b w k₀ memory k = w - k
+μ-loop memory₀ a b f c s w k₀ memory k = w - k
 
 loop-holds : tie.Need-loop-holds Inv-loop μ-loop
 loop-holds c = (omega arith, refl, only-none _ _, stored-begin _ _)
@@ -26,11 +26,11 @@ loop-again c =
     let m = s .args .memory .now in
     let room : s .args .a + s .args .w ≤ length m = omega arith in
     let h = c .before .before .loop-test .taken in
-    let own = part-old m (l .memory) (s .args .a) (s .args .w) (l .k) (l .inv .2) room h _ (l .inv .3) in
-    let other = part-other m (l .memory) (s .args .a) (s .args .w) (l .k) (l .inv .2) room h (s .args .b) (λ i. omega (arith, i .1)) in
+    let one = part-other m (l .memory) (s .args .a) (s .args .w) (l .k) (l .inv .2) room h (s .args .b) (λ i. omega (arith, i .1)) in
+    let other = part-other m (l .memory) (s .args .a) (s .args .w) (l .k) (l .inv .2) room h (s .args .c) (λ i. omega (arith, i .1)) in
     let more : l .k + 1 ≤ s .args .w = omega arith in
     let only = part-only m (l .memory) (s .args .a) (s .args .w) (l .k) (l .inv .2) room h _ in
-    (more, only .long, only, part-turn m (l .memory) (s .args .a) (s .args .w) (l .k) (l .inv .2) room h _ _ (l .inv .3) (rw (own, other)))
+    (more, only .long, only, part-turn m (l .memory) (s .args .a) (s .args .w) (l .k) (l .inv .2) room h _ _ (l .inv .3) (rw (one, other)))
 
 same-length : tie.Need-same-length Inv-loop μ-loop
 same-length c = c .before .loop .inv .1
@@ -40,9 +40,11 @@ returns c =
     let s = c .before .before in
     let l = c .before .loop in
     let m = s .args .memory .now in
-    let long : length (midOf (s .args .a) (s .args .w) m) ≡ s .args .w = mid-long m (s .args .a) (s .args .w) (omega arith) in
-    let same : length (midOf (s .args .b) (s .args .w) m) ≡ s .args .w = mid-long m (s .args .b) (s .args .w) (omega arith) in
-    (joined-sets _ _ _ (stored-end _ _ _ _ (l .inv .3) (omega arith) (or-past (midOf (s .args .a) (s .args .w) m) (midOf (s .args .b) (s .args .w) m) (same ∙ sym long))), l .inv .2)
+    let w = s .args .w in
+    let long : length (midOf (s .args .a) w m) ≡ w = mid-long m (s .args .a) w (omega arith) in
+    let one : length (midOf (s .args .b) w m) ≡ w = mid-long m (s .args .b) w (omega arith) in
+    let other : length (midOf (s .args .c) w m) ≡ w = mid-long m (s .args .c) w (omega arith) in
+    (joined-sets (s .args .f) (s .args .s) (midOf (s .args .b) w m) (midOf (s .args .c) w m) _ (stored-end _ _ _ _ (l .inv .3) (omega arith) (λ j h. join-past (s .args .f) (s .args .s) (midOf (s .args .b) w m) (midOf (s .args .c) w m) w one other j (omega arith))), l .inv .2)
 
 pub join-spec : {M : Type 1} → statement M
 join-spec =

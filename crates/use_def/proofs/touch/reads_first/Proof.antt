@@ -1,20 +1,14 @@
-use mathlib.Core.Path.{refl, sym}
-use mathlib.Core.Bool.{not}
-use mathlib.Core.List.{[], _∷_}
-use borrow.Author.Tests.{not-true}
-use Rattle.instruction.specs.Class.{namedClass, numberOf}
-use Rattle.flow.proofs.Classes.{by-test}
+use mathlib.Core.Path.{refl}
+use Rattle.words.specs.Lists.{every}
+use Rattle.instruction.specs.Class.{namedClass, numberOf, class-bit}
 use Rattle.use_def.specs.Single.{readsFirst}
+use borrow.Author.Needs.{needs}
 use Rattle.use_def.proofs.touch.reads_first.Statement.{statement}
 use Rattle.use_def.proofs.touch.reads_first.Tie as tie
 
 returns : tie.Need-returns
-unfolding namedClass numberOf
-returns c = sym (by-test readsFirst 3 (5 ∷ 6 ∷ []) refl (c .before .args .c) (c .match .keys1))
-
-returns-2 : tie.Need-returns-2
-unfolding namedClass numberOf
-returns-2 c = sym (not-true _ (by-test (λ x. not (readsFirst x)) 0 (1 ∷ 2 ∷ 4 ∷ 7 ∷ 8 ∷ 9 ∷ 10 ∷ 11 ∷ 12 ∷ 13 ∷ 14 ∷ []) refl (c .before .args .c) (c .match .keys2)))
+unfolding every namedClass numberOf
+returns c = λ x e. class-bit 104 readsFirst refl x _ e
 
 pub reads-first-spec : {M : Type 1} → statement M
-reads-first-spec = tie.close (tie.spec returns returns-2)
+reads-first-spec = tie.close (tie.spec (λ c. search needs) returns)

@@ -1,0 +1,16 @@
+use mathlib.Core.Path.{refl}
+use native.Mathlib.Omega.{arith}
+use Rattle.words.specs.Lists.{every}
+use Rattle.instruction.specs.Class.{namedClass, class-bit}
+use Rattle.flow.specs.Branch.{branches}
+use Rattle.liveness.specs.Out.{bit-byte}
+use borrow.Author.Needs.{needs}
+use Rattle.liveness.proofs.out.branches.Statement.{statement}
+use Rattle.liveness.proofs.out.branches.Tie as tie
+
+returns : tie.Need-returns
+unfolding every namedClass branches
+returns c = λ x e. bit-byte _ _ (omega arith) (class-bit 1920 branches refl x _ e)
+
+pub branches-spec : {M : Type 1} → statement M
+branches-spec = tie.close (tie.spec (λ c. search needs) returns)

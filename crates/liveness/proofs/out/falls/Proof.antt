@@ -1,0 +1,16 @@
+use mathlib.Core.Path.{refl}
+use native.Mathlib.Omega.{arith}
+use Rattle.words.specs.Lists.{every}
+use Rattle.instruction.specs.Class.{namedClass, class-bit}
+use Rattle.flow.specs.Branch.{falls}
+use Rattle.liveness.specs.Out.{bit-byte}
+use borrow.Author.Needs.{needs}
+use Rattle.liveness.proofs.out.falls.Statement.{statement}
+use Rattle.liveness.proofs.out.falls.Tie as tie
+
+returns : tie.Need-returns
+unfolding every namedClass falls
+returns c = λ x e. bit-byte _ _ (omega arith) (class-bit 10111 falls refl x _ e)
+
+pub falls-spec : {M : Type 1} → statement M
+falls-spec = tie.close (tie.spec (λ c. search needs) returns)
