@@ -1,7 +1,7 @@
 -- The loop of `mark_anchors`: the marks of the reached places stand first in the buffer, the ends from `at` on.
 -- Assumes nothing.
 use mathlib.Core.Path.{_≡_, refl, sym, ap, _∙_}
-use mathlib.Core.Bool.{cond, _&&_}
+use mathlib.Core.Bool.{false, cond, _&&_}
 use mathlib.Core.List.{List, [], _∷_}
 use Prim.Native.Nat.{ℕ, _+_, _≤_, _<_}
 use native.Mathlib.Nat.{zero-add}
@@ -11,11 +11,12 @@ use lib.ListN.{length, getD, replicate, length-replicate}
 use borrow.Rule.Slice.PartMut.{midOf, putMid}
 use Rattle.words.specs.Regions.{mid-long, get-mid, mid-put, put-long, Outside, outside-same, outside-part, outside-then, outside-front, outside-put}
 use Rattle.instruction.specs.declared.Instruction.{Instruction}
-use Rattle.instruction.specs.Instruction.{ofWord}
+use Rattle.instruction.specs.Instruction.{class, ofWord}
 use Rattle.unit.specs.Entry.{metadataAt}
 use Rattle.effects.specs.Cells.{cellsBy}
+use Rattle.flow.specs.Control.{isControl}
 use Rattle.flow.specs.Loop.{isLoopHint, anchors}
-use Rattle.flow.specs.Hints.{Anchoring, anchoring-begin, anchoring-turn, anchoring-end}
+use Rattle.flow.specs.Hints.{Anchoring, anchoring-begin, anchoring-turn, anchoring-idle, anchoring-end}
 use Rattle.flow.specs.Reach.{markAll}
 
 pub record Anchored (words metadata xs : List ℕ) (at : ℕ) (w : List ℕ) (p : ℕ) : Type 0 where
@@ -23,6 +24,11 @@ pub record Anchored (words metadata xs : List ℕ) (at : ℕ) (w : List ℕ) (p 
   pub within : p ≤ length words
   pub outside : Outside at (length words) xs w
   pub anchoring : Anchoring words metadata (midOf 0 (length words) xs) (midOf at (length words) w) p
+
+-- what is no control place anchors nothing
+pub anchored-idle : (words metadata xs : List ℕ) (at : ℕ) (w : List ℕ) (p : ℕ) → p < length words → isControl (class (ofWord (getD words p 0))) ≡ false
+    → Anchored words metadata xs at w p → Anchored words metadata xs at w (p + 1)
+anchored-idle words metadata xs at w p h e a = record { long = a .long; within = omega arith; outside = a .outside; anchoring = anchoring-idle words metadata _ (midOf at (length words) w) p h e (a .anchoring) }
 
 module _ (words metadata xs : List ℕ) (at : ℕ) (apart : length words ≤ at) (room : at + length words ≤ length xs) where
   -- a part as long as there are words, as the code gives its length

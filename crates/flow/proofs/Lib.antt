@@ -1,5 +1,6 @@
 mod Anchored
 pub mod Classes
+mod Controlling
 mod Numbering
 mod Pushing
 mod Walked

@@ -1,16 +1,18 @@
 -- Loops over the loop hints in lent memory.
 -- Assumes nothing.
 use mathlib.Core.Path.{_≡_, refl, sym, ap, _∙_}
-use mathlib.Core.Bool.{Bool, true, false, cond, _&&_}
+use mathlib.Core.Bool.{Bool, true, false, cond, _&&_, and-false}
 use mathlib.Core.List.{List, [], _∷_, _++_}
 use Prim.Native.Nat.{ℕ, suc, _+_, _<_}
 use native.Mathlib.Numerals.{add-one}
 use lib.Dec.{eqb}
 use lib.ListN.{length, getD, drop, replicate}
 use lib.Seq.{drop-cons, drop-length}
+use Rattle.instruction.specs.Instruction.{class, ofWord}
 use Rattle.unit.specs.Refusal.{unsoundLoop}
 use Rattle.effects.specs.Shape.{Cell, cellAt, noCell}
 use Rattle.effects.specs.Cells.{cellOf, cellsBy, cells-long, cell-at}
+use Rattle.flow.specs.Control.{isControl, no-loop-hint}
 use Rattle.flow.specs.Loop.{isLoopHint, isSound, loopEnd, loopEnds, anchors}
 use Rattle.flow.specs.Marking.{mark-append}
 use Rattle.flow.specs.Reach.{markAll}
@@ -50,6 +52,11 @@ module _ (words metadata marks : List ℕ) where
       ∙ sym (mark-append ends (anchored marks p (cellAt cells p)) (loopEnds (suc p) marks (drop (suc p) cells)))
       ∙ ap (markAll ends) (sym (ends-cons marks p (cellAt cells p) (drop (suc p) cells)))
       ∙ (rw (drop-cons cells p noCell inside) at e))
+
+  -- what is no control place anchors nothing
+  pub anchoring-idle : (ends : List ℕ) (p : ℕ) → p < length words → isControl (class (ofWord (getD words p 0))) ≡ false → Anchoring words metadata marks ends p → Anchoring words metadata marks ends (p + 1)
+  unfolding markAll
+  anchoring-idle ends p h e a = anchoring-turn ends ends p a h (rw (no-loop-hint (ofWord (getD words p 0)) e, and-false (eqb (getD marks p 0) 1)))
 
   pub anchoring-end : (ends : List ℕ) (p : ℕ) → Anchoring words metadata marks ends p → p ≡ length words → ends ≡ anchors marks (cellsBy words metadata)
   unfolding loopEnds markAll

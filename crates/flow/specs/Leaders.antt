@@ -16,7 +16,8 @@ use Rattle.instruction.specs.Instruction.{class, ofWord}
 use Rattle.effects.specs.Shape.{Cell, cellAt, noCell}
 use Rattle.effects.specs.Cells.{cellsBy, cells-long, cell-at}
 use Rattle.flow.specs.Branch.{branches, target}
-use Rattle.flow.specs.Block.{endsBlock, branchTargets, blockEnds, isLeader, leaders}
+use Rattle.flow.specs.Control.{isControl, ends-none}
+use Rattle.flow.specs.Block.{endsBlock, no-branch, branchTargets, blockEnds, isLeader, leaders}
 use Rattle.flow.specs.Reach.{markAll}
 use Rattle.flow.specs.Marks.{Marked}
 use Rattle.flow.specs.Marking.{mark-append, mark-long, mark-at, set-at-is, in-append}
@@ -135,6 +136,14 @@ module _ (words metadata : List ℕ) where
       (sym (mark-append marks (starts p i) (startsFrom (suc p) (drop (suc p) cells)))
       ∙ ap (λ (j : Instruction). markAll marks (starts p j ++ startsFrom (suc p) (drop (suc p) cells))) (sym here)
       ∙ (rw (drop-cons cells p noCell inside) at e))
+
+  -- what is no control place marks nothing
+  pub leading-idle : (marks : List ℕ) (p : ℕ) → p < length words → isControl (class (ofWord (getD words p 0))) ≡ false → Leading words metadata marks p → Leading words metadata marks (p + 1)
+  unfolding markAll
+  leading-idle marks p h e l =
+      let i = ofWord (getD words p 0) in
+      let ends : endsBlock (class i) ≡ false = ends-none (class i) e in
+      leading-turn marks marks p i l h refl (rw (no-branch (class i) ends, ends))
 
   pub leading-end : (marks : List ℕ) (p : ℕ) → Leading words metadata marks p → p ≡ length words → marks ≡ leaders (cellsBy words metadata)
   unfolding startsFrom markAll

@@ -15,3 +15,5 @@ pub mod Walking
 pub mod Stack
 pub mod Successors
 pub mod Reached
+pub mod Control
+pub mod Sweep

@@ -8,6 +8,7 @@ ghost use Rattle.unit.specs.Size.{maxInstructions};
 ghost use Rattle.effects.specs.Cells.{cellsBy};
 ghost use Rattle.flow.specs.Block.{leaders};
 ghost use Rattle.flow.specs.Blocks.{Numbered};
+ghost use Rattle.flow.specs.Control.{Controls};
 ghost use Rattle.flow.specs.Flags.{Flags};
 ghost use Rattle.flow.specs.Leaders.{starts};
 ghost use Rattle.flow.specs.Marks.{Marked};
@@ -30,18 +31,18 @@ fn mark_starts(marks: &mut [u32], p: usize, i: Instruction)
     mark::mark_if(marks, true, p as u64 + 1);
 }
 
-// Marks each place where a block starts. The metadata of the cells plays no part.
-pub fn mark_leaders(words: &[u64], marks: &mut [u32])
-    requires { ⌜ (1 ≤ length (now words)) × (length (now words) ≤ maxInstructions) × (length (now marks) ≡ length (now words)) ⌝ }
+// Marks each place where a block starts, by the list of the control places. The metadata of the cells plays no part.
+pub fn mark_leaders(words: &[u64], list: &[u64], marks: &mut [u32])
+    requires { ⌜ (1 ≤ length (now words)) × (length (now words) ≤ maxInstructions) × (length (now marks) ≡ length (now words)) × Controls (now words) (now list) (length (now words)) ⌝ }
     ensures { λ _. ⌜ ((metadata : List ℕ) → now (marks .exit) ≡ leaders (cellsBy (now (words .entry)) metadata)) ⌝ }
 {
     fill::zero_u32(marks);
     marks[0] = 1;
-    let n = words.len();
-    let mut p: usize = 0;
-    while p < n {
+    let mut k: usize = 0;
+    while k < list.len() {
+        let p = list[k] as usize;
         mark_starts(marks, p, Instruction::from_word(words[p]));
-        p += 1;
+        k += 1;
     }
 }
 

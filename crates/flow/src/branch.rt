@@ -10,6 +10,7 @@ ghost use Rattle.effects.specs.Cells.{cellsBy};
 ghost use Rattle.instruction.specs.Class.{classOf};
 ghost use Rattle.flow.specs.Branch.{falls, branches, target, branchInside, branchCheck};
 ghost use Rattle.flow.specs.Block.{endsBlock};
+ghost use Rattle.flow.specs.Control.{Controls};
 use effects::Check;
 use instruction::Class;
 use instruction::Instruction;
@@ -77,19 +78,20 @@ fn branch_refusal(n: usize, p: usize, i: Instruction) -> u32
     0
 }
 
-// Refusal 8. The metadata of the cells plays no part.
-pub fn check_branches(words: &[u64]) -> Check
-    requires { ⌜ length (now words) ≤ maxInstructions ⌝ }
+// Refusal 8, by the list of the control places. The metadata of the cells plays no part.
+pub fn check_branches(words: &[u64], list: &[u64]) -> Check
+    requires { ⌜ (length (now words) ≤ maxInstructions) × Controls (now words) (now list) (length (now words)) ⌝ }
     ensures { λ r. ⌜ ((metadata : List ℕ) → r ≡ branchCheck (cellsBy (now (words .entry)) metadata)) ⌝ }
 {
     let n = words.len();
-    let mut p: usize = 0;
-    while p < n {
+    let mut k: usize = 0;
+    while k < list.len() {
+        let p = list[k] as usize;
         let r = branch_refusal(n, p, Instruction::from_word(words[p]));
         if r != 0 {
             return Check::Refused(r, p as u32);
         }
-        p += 1;
+        k += 1;
     }
     Check::Passed
 }

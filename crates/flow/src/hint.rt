@@ -9,6 +9,7 @@ ghost use borrow.Rule.Slice.PartMut.{midOf, putMid};
 ghost use Rattle.unit.specs.Entry.{kindLoopEnd, metadataAt};
 ghost use Rattle.unit.specs.Size.{maxInstructions, metadataSize};
 ghost use Rattle.effects.specs.Cells.{cellOf, cellsBy};
+ghost use Rattle.flow.specs.Control.{Controls};
 ghost use Rattle.flow.specs.Hints.{loopTest};
 ghost use Rattle.flow.specs.Loop.{isLoopHint, loopCheck, anchors};
 ghost use Rattle.flow.specs.Reach.{markAll};
@@ -49,19 +50,19 @@ fn loop_refusal(words: &[u64], metadata: &[u8], marks: &[u32], p: usize) -> u32
     0
 }
 
-// Refusal 9, of the places that are reached.
-pub fn check_loops(words: &[u64], metadata: &[u8], marks: &[u32]) -> Check
-    requires { ⌜ (length (now words) ≤ maxInstructions) × (metadataSize * length (now words) ≤ length (now metadata)) × (length (now marks) ≡ length (now words)) ⌝ }
+// Refusal 9, of the places that are reached, by the list of the control places.
+pub fn check_loops(words: &[u64], list: &[u64], metadata: &[u8], marks: &[u32]) -> Check
+    requires { ⌜ (length (now words) ≤ maxInstructions) × (metadataSize * length (now words) ≤ length (now metadata)) × (length (now marks) ≡ length (now words)) × Controls (now words) (now list) (length (now words)) ⌝ }
     ensures { λ r. ⌜ r ≡ loopCheck (now (marks .entry)) (cellsBy (now (words .entry)) (now (metadata .entry))) ⌝ }
 {
-    let n = words.len();
-    let mut p: usize = 0;
-    while p < n {
+    let mut k: usize = 0;
+    while k < list.len() {
+        let p = list[k] as usize;
         let r = loop_refusal(words, metadata, marks, p);
         if r != 0 {
             return Check::Refused(r, p as u32);
         }
-        p += 1;
+        k += 1;
     }
     Check::Passed
 }
@@ -77,19 +78,20 @@ fn mark_end(metadata: &[u8], ends: &mut [u32], reached: u32, p: usize, i: Instru
     }
 }
 
-// Marks the ends of the reached loop hints. The marks of the reached places stand first, the ends from `at` on.
-pub fn mark_anchors(words: &[u64], metadata: &[u8], work: &mut [u32], at: usize)
-    requires { ⌜ (length (now words) ≤ maxInstructions) × (metadataSize * length (now words) ≤ length (now metadata)) × (length (now words) ≤ at) × (at + length (now words) ≤ length (now work)) ⌝ }
+// Marks the ends of the reached loop hints, by the list of the control places. The marks of the reached places stand first, the ends from `at` on.
+pub fn mark_anchors(words: &[u64], list: &[u64], metadata: &[u8], work: &mut [u32], at: usize)
+    requires { ⌜ (length (now words) ≤ maxInstructions) × (metadataSize * length (now words) ≤ length (now metadata)) × (length (now words) ≤ at) × (at + length (now words) ≤ length (now work)) × Controls (now words) (now list) (length (now words)) ⌝ }
     ensures { λ _. ⌜ now (work .exit) ≡ putMid at (length (now (words .entry))) (now (work .entry)) (anchors (midOf 0 (length (now (words .entry))) (now (work .entry))) (cellsBy (now (words .entry)) (now (metadata .entry)))) ⌝ }
 {
     let n = words.len();
     let end = at + n;
     fill::zero_u32(&mut work[at..end]);
-    let mut p: usize = 0;
-    while p < n {
+    let mut k: usize = 0;
+    while k < list.len() {
+        let p = list[k] as usize;
         let reached = work[p];
         let i = Instruction::from_word(words[p]);
         mark_end(metadata, &mut work[at..end], reached, p, i);
-        p += 1;
+        k += 1;
     }
 }

@@ -9,6 +9,7 @@ ghost use Rattle.unit.specs.declared.Metadata.{Metadata};
 ghost use Rattle.unit.specs.Size.{maxInstructions, metadataSize};
 ghost use Rattle.effects.specs.Cells.{cellOf, cellsBy};
 ghost use Rattle.flow.specs.Branch.{branches, target};
+ghost use Rattle.flow.specs.Control.{Controls};
 ghost use Rattle.flow.specs.Loop.{isLoopHint};
 ghost use Rattle.pc_map.specs.Boundary.{isKept};
 ghost use Rattle.pc_map.specs.Boundaries.{Mapped};
@@ -125,19 +126,19 @@ fn relocation_refusal(words: &[u64], metadata: &[u8], keep: &[u32], p: usize) ->
     0
 }
 
-// Refusal 10.
-pub fn check_relocation(words: &[u64], metadata: &[u8], keep: &[u32]) -> Check
-    requires { ⌜ (length (now words) ≤ maxInstructions) × (metadataSize * length (now words) ≤ length (now metadata)) × (length (now keep) ≡ length (now words)) ⌝ }
+// Refusal 10, by the list of the control places.
+pub fn check_relocation(words: &[u64], list: &[u64], metadata: &[u8], keep: &[u32]) -> Check
+    requires { ⌜ (length (now words) ≤ maxInstructions) × (metadataSize * length (now words) ≤ length (now metadata)) × (length (now keep) ≡ length (now words)) × Controls (now words) (now list) (length (now words)) ⌝ }
     ensures { λ r. ⌜ r ≡ relocationCheck (now (keep .entry)) (cellsBy (now (words .entry)) (now (metadata .entry))) ⌝ }
 {
-    let n = words.len();
-    let mut p: usize = 0;
-    while p < n {
+    let mut k: usize = 0;
+    while k < list.len() {
+        let p = list[k] as usize;
         let r = relocation_refusal(words, metadata, keep, p);
         if r != 0 {
             return Check::Refused(r, p as u32);
         }
-        p += 1;
+        k += 1;
     }
     Check::Passed
 }

@@ -1,38 +1,65 @@
 use mathlib.Core.Path.{_≡_}
-use Prim.Native.Nat.{_-_}
+use mathlib.Core.Bool.{false, and-false}
+use Prim.Native.Nat.{ℕ, _-_, _<_}
 use native.Mathlib.Omega.{arith}
+use lib.Dec.{eqb}
 use lib.ListN.{length, getD}
+use Rattle.instruction.specs.Instruction.{class, ofWord}
 use Rattle.effects.specs.Cells.{cellOf, cellsBy, cells-long}
-use Rattle.effects.specs.Laws.{Unrefused, refused-first, refused-none, refused-later, refused-here}
+use Rattle.flow.specs.Control.{isControl, control-inside, no-loop-hint}
 use Rattle.flow.specs.Hints.{loopTest}
 use Rattle.flow.specs.Loop.{loopCheck}
+use Rattle.flow.specs.Sweep.{Swept, swept-first, swept-none, swept-later, swept-here}
 use borrow.Author.Needs.{needs}
 use Rattle.flow.proofs.hint.check_loops.Statement.{statement}
 use Rattle.flow.proofs.hint.check_loops.Tie as tie
 
 abbrev Inv-loop : tie.InvT-loop
-Inv-loop words metadata marks n p₀ p = Unrefused (loopTest marks (length (cellsBy words metadata))) words metadata p
+Inv-loop words list metadata marks k₀ k = Swept (loopTest marks (length (cellsBy words metadata))) words metadata list k
 
 abbrev μ-loop : tie.MeasureT-loop
-μ-loop words metadata marks n p₀ p = length words - p
+μ-loop words list metadata marks k₀ k = length list - k
+
+abbrev start : tie.At-loop Inv-loop μ-loop → tie.Start Inv-loop μ-loop
+start h = h .before .before .before .before .before
+
+-- what is no control place is not refused
+idle : (s : tie.Start Inv-loop μ-loop) (p w : ℕ) → isControl (class (ofWord w)) ≡ false
+    → let a = s .args in
+    loopTest (a .marks .now) (length (cellsBy (a .words .now) (a .metadata .now))) p (cellOf (a .metadata .now) p w) ≡ 0
+idle s p w e = rw (no-loop-hint (ofWord w) e, and-false (eqb (getD (s .args .marks .now) p 0) 1))
+
+loop-holds : tie.Need-loop-holds Inv-loop μ-loop
+loop-holds c = let s = c .before .before .before .before in swept-first (s .pre .3) (idle s)
+
+-- a listed place is one of the words
+inside : (l : tie.In-loop Inv-loop μ-loop) → let a = start (l .before) .args in getD (a .list .now) (l .before .loop .k) 0 < length (a .words .now)
+inside l = control-inside (start (l .before) .pre .3) _ (l .loop-test .taken)
+
+loop-refusal-requires : tie.Need-loop-refusal-requires Inv-loop μ-loop
+loop-refusal-requires c κs = let l = c .before in (inside l, start (l .before) .pre .1, start (l .before) .pre .2)
+
+cast-t12 : tie.Need-cast-t12 Inv-loop μ-loop
+cast-t12 c = let l = c .before .before .before in omega (arith, inside l, start (l .before) .pre .0)
 
 -- what a turn's call answers
 tested : (c : tie.After-loop-refusal Inv-loop μ-loop)
-    → let a = c .before .before .before .before .before .before .args in
-    let p = c .before .before .loop .p in
+    → let h = c .before .before .before in
+    let a = start h .args in
+    let p = getD (a .list .now) (h .loop .k) 0 in
     c .loop-refusal .result ≡ loopTest (a .marks .now) (length (cellsBy (a .words .now) (a .metadata .now))) p (cellOf (a .metadata .now) p (getD (a .words .now) p 0))
 tested c = rw cells-long (c .loop-refusal .ensures)
 
 returns : tie.Need-returns Inv-loop μ-loop
 unfolding loopCheck
-returns c = let b = c .before in refused-here (b .before .before .loop .inv) (b .before .loop-test .taken) (tested b) (c .if1 .taken)
+returns c = let l = c .before .before .before in let s = start (l .before) in swept-here (s .pre .3) (idle s) (l .before .loop .inv) (l .loop-test .taken) (tested (c .before)) (c .if1 .taken)
 
 loop-again : tie.Need-loop-again Inv-loop μ-loop
-loop-again c = let b = c .before in refused-later (b .before .before .loop .inv) (b .before .loop-test .taken) (tested b) (c .if1 .left)
+loop-again c = let l = c .before .before .before in let s = start (l .before) in swept-later (s .pre .3) (idle s) (l .before .loop .inv) (l .loop-test .taken) (tested (c .before)) (c .if1 .left)
 
 returns-2 : tie.Need-returns-2 Inv-loop μ-loop
 unfolding loopCheck
-returns-2 c = refused-none (c .before .loop .inv) (omega arith)
+returns-2 c = let s = start (c .before) in swept-none (s .pre .3) (idle s) (c .before .loop .inv) (c .loop-test .left)
 
 pub check-loops-spec : {M : Type 1} → statement M
 check-loops-spec =
@@ -40,9 +67,11 @@ check-loops-spec =
     (tie.spec
     Inv-loop
     μ-loop
-    (λ c. refused-first)
-    (λ c κs. search needs)
+    loop-holds
     (λ c. search needs)
+    (λ c. search needs)
+    loop-refusal-requires
+    cast-t12
     returns
     (λ c. search needs)
     (λ c. search needs)
