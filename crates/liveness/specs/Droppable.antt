@@ -15,7 +15,7 @@ use Rattle.instruction.specs.declared.Instruction.{Instruction}
 use Rattle.instruction.specs.declared.Class.{Class}
 use Rattle.instruction.specs.declared.Class.the-variants.{Hint, LoadInt, LoadConst, Copy, CopyN, Unary, Binary, Jump, JumpIf, JumpIfNot, ForLoop, Return, Panic, Outside, Invalid}
 use Rattle.instruction.specs.Instruction.{ofWord, class}
-use Rattle.unit.specs.Size.{setWords, maxSetWords, work64Room, metadataSize, caseSize, maxInstructions, maxLocalSlots}
+use Rattle.unit.specs.Size.{setWords, maxSetWords, setsRoom, metadataSize, caseSize, maxInstructions, maxLocalSlots}
 use Rattle.unit.specs.Entry.{metadataAt, goodMetadata}
 use Rattle.effects.specs.declared.Range.{Range}
 use Rattle.effects.specs.Shape.{Tables, Cell, cellAt, noCell}
@@ -139,17 +139,17 @@ module _ {T : Tables} {n count : ℕ} {words metadata types leaders blocks start
       omega (arith, rw (d .long-leaders) at g)
 
   -- the words of the code, one set, and three sets for each block are inside what is lent
-  pub room-words : (m : ℕ) → work64Room n s ≤ m → 0 < w → w * count ≤ maxSetWords → n + w + 3 * (w * count) ≤ m
+  pub room-words : (m : ℕ) → setsRoom n s ≤ m → 0 < w → w * count ≤ maxSetWords → n + w + 3 * (w * count) ≤ m
   room-words m h some few =
       let most : count ≤ maxSetWords / w = le-div-iff-mul-le some .1 (rw (mul-comm count w) few) in
       let lesser : count ≤ min n (maxSetWords / w) = le-min few-blocks most in
       let product : 3 * w * count ≤ 3 * w * min n (maxSetWords / w) = mul-le-mul-left (3 * w) lesser in
       let same : 3 * w * count ≡ 3 * (w * count) = mul-assoc 3 w count in
-      let all : 24 * n + 4 * s + w + 3 * w * min n (maxSetWords / w) ≤ m = rw ew h in
-      sizes n s w (3 * w * count) (3 * (w * count)) (3 * w * min n (maxSetWords / w)) m product same all
+      let all : n + w + 3 * w * min n (maxSetWords / w) ≤ m = rw ew h in
+      sizes n w (3 * w * count) (3 * (w * count)) (3 * w * min n (maxSetWords / w)) m product same all
     where
-      sizes : (n s w a b c m : ℕ) → a ≤ c → a ≡ b → 24 * n + 4 * s + w + c ≤ m → n + w + b ≤ m
-      sizes n s w a b c m p q h = omega arith
+      sizes : (n w a b c m : ℕ) → a ≤ c → a ≡ b → n + w + c ≤ m → n + w + b ≤ m
+      sizes n w a b c m p q h = omega arith
 
   checked : (p : ℕ) → p < n → Sound s T (cellOf metadata p (getD words p 0))
   checked p h = sound s T (cellOf metadata p (getD words p 0)) (d .operands p h)

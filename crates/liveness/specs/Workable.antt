@@ -10,7 +10,7 @@ use lib.ListN.{length, getD, take, replicate, length-replicate}
 use lib.Seq.{take-take}
 use borrow.Rule.Slice.PartMut.{midOf, putMid, put-same, take-put}
 use Rattle.words.specs.Regions.{mid-long, get-mid, mid-put, put-long}
-use Rattle.unit.specs.Size.{setWords, maxSetWords, work64Room, metadataSize}
+use Rattle.unit.specs.Size.{setWords, maxSetWords, setsRoom, metadataSize}
 use Rattle.effects.specs.Shape.{Tables, Sections, Cell}
 use Rattle.effects.specs.Cells.{cellOf, cellsBy}
 use Rattle.use_def.specs.Touched.{Fits}
@@ -42,7 +42,7 @@ pub record Workable (s : Layout) (T : Tables) (memory metadata types table : Lis
   pub long-table : flagsAt (s .code) + s .code ≤ length table
 
 pub workable : {T : Tables} {n count : ℕ} {memory metadata types table : List ℕ} (d : Known T n count memory metadata types table) {w : ℕ} (ew : w ≡ setWords (length types))
-    (s : Layout) → s ≡ laidOut n w count → 0 < w → w * count ≤ maxSetWords → work64Room n (length types) ≤ length memory → 4 * n + 1 ≤ length table → Workable s T memory metadata types table
+    (s : Layout) → s ≡ laidOut n w count → 0 < w → w * count ≤ maxSetWords → setsRoom n (length types) ≤ length memory → 4 * n + 1 ≤ length table → Workable s T memory metadata types table
 workable {n = n} {count = count} {memory = memory} d {w} ew s e some few room long =
     rw e
     (record {

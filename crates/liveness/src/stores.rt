@@ -4,7 +4,7 @@ ghost use mathlib.Core.List.{List};
 ghost use Prim.Native.Nat.{ℕ, _+_, _*_, _≤_, _^_, _<_};
 ghost use lib.ListN.{length};
 ghost use borrow.Rule.Slice.PartMut.{midOf, putMid};
-ghost use Rattle.unit.specs.Size.{work64Room};
+ghost use Rattle.unit.specs.Size.{setsRoom};
 ghost use Rattle.effects.specs.Shape.{tablesOf};
 ghost use Rattle.effects.specs.Cells.{cellsBy};
 ghost use Rattle.liveness.specs.Dead.{deadStores};
@@ -101,7 +101,7 @@ pub fn drop_dead_stores(
     n: usize,
     count: usize,
 )
-    requires { ⌜ Known (tablesOf (now functions) (now externs) (now cases)) n count (now memory) (now metadata) (now types) (now table) × (work64Room n (length (now types)) ≤ length (now memory)) × (4 * n + 1 ≤ length (now table)) ⌝ }
+    requires { ⌜ Known (tablesOf (now functions) (now externs) (now cases)) n count (now memory) (now metadata) (now types) (now table) × (setsRoom n (length (now types)) ≤ length (now memory)) × (4 * n + 1 ≤ length (now table)) ⌝ }
     ensures { λ _. ⌜ ((constants : List ℕ) → now (table .exit) ≡ putMid (3 * n + 1) n (now (table .entry)) (deadStores (sections (length (now (types .entry))) (now (types .entry)) constants (tablesOf (now (functions .entry)) (now (externs .entry)) (now (cases .entry)))) (midOf 0 n (now (table .entry))) (midOf (3 * n + 1) n (now (table .entry))) (cellsBy (midOf 0 n (now (memory .entry))) (now (metadata .entry))))) × (midOf 0 n (now (memory .exit)) ≡ midOf 0 n (now (memory .entry))) ⌝ }
 {
     let w = size::set_words(types.len());
