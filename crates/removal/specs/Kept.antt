@@ -7,7 +7,7 @@ use Prim.Native.Nat.{ℕ, _+_, _*_, _/_, _≤_, _<_}
 use lib.ListN.{length, getD}
 use borrow.Rule.Slice.PartMut.{midOf}
 use Rattle.unit.specs.Entry.{metadataAt, goodMetadata}
-use Rattle.unit.specs.Size.{metadataSize, caseSize, work32Room, work64Room, maxInstructions, maxLocalSlots}
+use Rattle.unit.specs.Size.{metadataSize, caseSize, work32Room, setsRoom, maxInstructions, maxLocalSlots}
 use Rattle.effects.specs.Check.{operandRefusal}
 use Rattle.effects.specs.Shape.{Sections, Tables, Cell, tablesOf}
 use Rattle.effects.specs.Cells.{cellOf, cellsBy}
@@ -47,7 +47,7 @@ pub record Retainable (T : Tables) (n : ℕ) (words metadata types leads marks :
   pub operands : (p : ℕ) → p < n → operandRefusal (length types) T (cellOf metadata p (getD words p 0)) ≡ 0
   pub inside : BranchesInside words
   pub long32 : work32Room n ≤ room32
-  pub long64 : work64Room n (length types) ≤ room64
+  pub long64 : setsRoom n (length types) ≤ room64
 
 -- what is left after plain hints: the useful places, and the loop ends
 pub record Useful (words metadata work work′ : List ℕ) : Type 0 where

@@ -1,20 +1,25 @@
 -- The loop of `drop_hints`.
 -- Assumes nothing.
 use mathlib.Core.Path.{_≡_, refl, sym, ap, _∙_}
-use mathlib.Core.Bool.{Bool}
+use mathlib.Core.Bool.{Bool, false}
 use mathlib.Core.List.{List}
-use Prim.Native.Nat.{ℕ}
+use Prim.Native.Nat.{ℕ, _+_, _<_}
 use native.Mathlib.Omega.{arith}
 use lib.ListN.{length, getD, take}
 use lib.Seq.{take-length}
-use Rattle.instruction.specs.Instruction.{ofWord}
+use Rattle.instruction.specs.Instruction.{class, ofWord}
 use Rattle.effects.specs.Cells.{cellsBy}
+use Rattle.flow.specs.Control.{isControl, no-plain-hint}
 use Rattle.flow.specs.Loop.{isPlainHint}
 use Rattle.answer.specs.Pass.{usefulPlaces}
-use Rattle.removal.specs.Cleared.{Cleared, cleared-cells}
+use Rattle.removal.specs.Cleared.{Cleared, cleared-off, cleared-cells}
 
 abbrev pub hintAt : List ℕ → ℕ → Bool
 hintAt words p = isPlainHint (ofWord (getD words p 0))
+
+-- what is no control place is no plain hint
+pub hints-idle : (words keep₀ keep : List ℕ) (p : ℕ) → p < length words → isControl (class (ofWord (getD words p 0))) ≡ false → Cleared (hintAt words) keep₀ keep p → Cleared (hintAt words) keep₀ keep (p + 1)
+hints-idle words keep₀ keep p h e c = cleared-off (hintAt words) keep₀ keep p c (no-plain-hint (ofWord (getD words p 0)) e)
 
 pub hints-dropped : (words keep₀ keep metadata : List ℕ) → length keep₀ ≡ length words → Cleared (hintAt words) keep₀ keep (length words) → keep ≡ usefulPlaces keep₀ (cellsBy words metadata)
 unfolding usefulPlaces

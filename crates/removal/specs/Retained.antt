@@ -11,7 +11,7 @@ use lib.Seq.{take-at, drop-at, take-length}
 use borrow.Rule.Slice.PartMut.{midOf, putMid, postOf}
 use Rattle.words.specs.Only.{mid-mid, back-within, back-before, back-after}
 use Rattle.words.specs.Regions.{mid-long, put-long, mid-put}
-use Rattle.unit.specs.Size.{metadataSize, work32Room, work64Room, maxInstructions}
+use Rattle.unit.specs.Size.{metadataSize, work32Room, setsRoom, maxInstructions}
 use Rattle.effects.specs.Shape.{Tables, Cell, tablesOf}
 use Rattle.effects.specs.Cells.{cellOf, cellsBy, cells-long}
 use Rattle.flow.specs.Blocks.{Numbered, numbered-start}
@@ -177,7 +177,7 @@ module _ (T : Tables) (n k j : ℕ) (words metadata types work32 : List ℕ) (ro
 
   pub stores-asks : Droppable T n count words metadata types (midOf 0 n (midOf 0 j (putMid 0 k work32 blocked))) (midOf n n (midOf 0 j (putMid 0 k work32 blocked)))
       (midOf (2 * n) (n + 1) (midOf 0 j (putMid 0 k work32 blocked))) (midOf (3 * n + 1) n (midOf 0 j (putMid 0 k work32 blocked)))
-      × (work64Room n (length types) ≤ room64)
+      × (setsRoom n (length types) ≤ room64)
       × (4 * n + 1 ≤ length (midOf 0 j (putMid 0 k work32 blocked)))
   stores-asks = rw (e, f) (stores-known T n words metadata types work32 room64 d long count blocked size′ b′ o′, d .long64, stores-room T n words metadata types work32 room64 d long count blocked size′ b′ o′)
 

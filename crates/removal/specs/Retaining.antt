@@ -9,17 +9,18 @@ use Prim.Native.Nat.{ℕ, zero, suc, _+_, _*_, _-_, _≤_, _<_}
 use native.Mathlib.Nat.{add-zero, zero-add}
 use native.Mathlib.Omega.{arith}
 use lib.Dec.{eqb}
-use lib.ListN.{length, getD, take, set, replicate, length-set, length-replicate, length-append}
+use lib.ListN.{length, getD, take, drop, set, replicate, length-set, length-replicate, length-append}
 use lib.Seq.{take-at, drop-at, take-length}
 use borrow.Rule.Slice.PartMut.{midOf, putMid, postOf}
 use Rattle.words.specs.Lists.{mapFrom, length-mapFrom, tabulate, length-tabulate}
 use Rattle.words.specs.Only.{mid-mid, back-within, back-before}
 use Rattle.words.specs.Regions.{mid-long, put-long, mid-put}
-use Rattle.unit.specs.Size.{metadataSize, work32Room, work64Room, maxInstructions}
+use Rattle.unit.specs.Size.{metadataSize, work32Room, setsRoom, maxInstructions}
 use Rattle.effects.specs.Shape.{Tables, Sections, Cell, tablesOf}
 use Rattle.effects.specs.Cells.{cellOf, cellsBy, cells-long}
 use Rattle.flow.specs.Blocks.{Numbered, numbered-start}
 use Rattle.flow.specs.BranchLaws.{BranchesInside}
+use Rattle.flow.specs.Control.{Controls}
 use Rattle.flow.specs.Flags.{Flags}
 use Rattle.flow.specs.Loop.{anchors, loopEnds, isPlainHint}
 use Rattle.flow.specs.Reach.{markAll}
@@ -37,8 +38,21 @@ use Rattle.answer.specs.Pass.{keptPlaces, usefulPlaces}
 use Rattle.removal.specs.Jumping.{Rounds, endsIn, mapOf}
 use Rattle.removal.specs.Kept.{sectionsIn, keepAt, endsAt, Useful, Stored, Retainable, Retains}
 
-module _ (n k : ℕ) (metadata types functions externs cases work32 work64 hinted : List ℕ) (e : k ≡ n)
-    (d : Retainable (tablesOf functions externs cases) n (midOf 0 n work64) metadata types (midOf 0 n work32) (midOf (keepAt n) n work32) (length work32) (length work64))
+-- what dropping hints asks, with the parts' lengths as the code has them
+pub hints-asks : {T : Tables} {types leads marks : List ℕ} (n k at count m : ℕ) (metadata work32 work64 : List ℕ) → k ≡ n → m ≡ count
+    → Retainable T n (midOf 0 n work64) metadata types leads marks (length work32) at → at + count ≤ length work64 → Controls (midOf 0 n work64) (midOf at count work64) n
+    → (length (midOf 0 k work64) ≤ maxInstructions)
+    × (metadataSize * length (midOf 0 k work64) ≤ length metadata)
+    × (3 * length (midOf 0 k work64) + 1 ≤ length (midOf (keepAt n) (length work32 - keepAt n) work32))
+    × Controls (midOf 0 k work64) (midOf at m work64) (length (midOf 0 k work64))
+hints-asks n k at count m metadata work32 work64 e f d room c =
+    let size : length (midOf 0 n work64) ≡ n = mid-long work64 0 n (omega (arith, d .long64)) in
+    let rest : length (midOf (keepAt n) (length work32 - keepAt n) work32) ≡ length work32 - keepAt n = mid-long work32 (keepAt n) (length work32 - keepAt n) (omega (arith, d .long32)) in
+    rw (e, f, size, rest) (d .few, omega (arith, d .entries), omega (arith, d .long32), c)
+
+-- the part of the 64-bit work before that list, which dead stores are dropped in, is as long as `at` says
+module _ (n k : ℕ) (metadata types functions externs cases work32 work64 hinted : List ℕ) (at l : ℕ) (e : k ≡ n) (f : l ≡ at) (within : at ≤ length work64)
+    (d : Retainable (tablesOf functions externs cases) n (midOf 0 n work64) metadata types (midOf 0 n work32) (midOf (keepAt n) n work32) (length work32) at)
     (size : length hinted ≡ length (midOf (keepAt n) (length work32 - keepAt n) work32)) (u : Useful (midOf 0 k work64) metadata (midOf (keepAt n) (length work32 - keepAt n) work32) hinted) where
   abbrev words : List ℕ
   words = midOf 0 n work64
@@ -50,7 +64,13 @@ module _ (n k : ℕ) (metadata types functions externs cases work32 work64 hinte
   marks = midOf (keepAt n) n work32
 
   code-long : length (midOf 0 n work64) ≡ n
-  code-long = mid-long work64 0 n (omega (arith, d .long64))
+  code-long = mid-long work64 0 n (omega (arith, d .long64, within))
+
+  front-long : length (midOf 0 l work64) ≡ at
+  front-long = mid-long work64 0 l (omega (arith, f, within)) ∙ f
+
+  front-code : midOf 0 n (midOf 0 l work64) ≡ midOf 0 n work64
+  front-code = mid-mid work64 0 l 0 n (omega (arith, f, within)) (omega (arith, f, d .long64))
 
   cells-size : length cells ≡ n
   cells-size = cells-long words metadata ∙ code-long
@@ -94,9 +114,9 @@ module _ (n k : ℕ) (metadata types functions externs cases work32 work64 hinte
       back-within work32 (keepAt n) rest hinted fits hinted-long (endsAt n) n (omega (arith, d .long32))
       ∙ (rw code-long at (useful .ends)) ∙ ap (λ (l : List ℕ). anchors l cells) part-marks
 
-  pub hints-retainable : Retainable (tablesOf functions externs cases) n (midOf 0 n work64) metadata types (midOf 0 n (putMid (keepAt n) (length work32 - keepAt n) work32 hinted))
-      (midOf (keepAt n) n (putMid (keepAt n) (length work32 - keepAt n) work32 hinted)) (length (putMid (keepAt n) (length work32 - keepAt n) work32 hinted)) (length work64)
-  hints-retainable = rw (leads₁, keep₁, long₁) (record {
+  pub hints-retainable : Retainable (tablesOf functions externs cases) n (midOf 0 n (midOf 0 l work64)) metadata types (midOf 0 n (putMid (keepAt n) (length work32 - keepAt n) work32 hinted))
+      (midOf (keepAt n) n (putMid (keepAt n) (length work32 - keepAt n) work32 hinted)) (length (putMid (keepAt n) (length work32 - keepAt n) work32 hinted)) (length (midOf 0 l work64))
+  hints-retainable = rw (leads₁, keep₁, long₁, front-code, front-long) (record {
     some = d .some;
     few = d .few;
     slots = d .slots;
@@ -112,8 +132,11 @@ module _ (n k : ℕ) (metadata types functions externs cases work32 work64 hinte
   })
 
   -- after dead stores
-  module _ (work32′ work64′ : List ℕ) (long32 : length work32′ ≡ length (putMid (keepAt n) (length work32 - keepAt n) work32 hinted)) (long64 : length work64′ ≡ length work64)
-      (st : (constants : List ℕ) → Stored n metadata types constants functions externs cases (putMid (keepAt n) (length work32 - keepAt n) work32 hinted) work64 work32′ work64′) where
+  module _ (work32′ front : List ℕ) (long32 : length work32′ ≡ length (putMid (keepAt n) (length work32 - keepAt n) work32 hinted)) (long64 : length front ≡ length (midOf 0 l work64))
+      (st : (constants : List ℕ) → Stored n metadata types constants functions externs cases (putMid (keepAt n) (length work32 - keepAt n) work32 hinted) (midOf 0 l work64) work32′ front) where
+    abbrev work64′ : List ℕ
+    work64′ = putMid 0 l work64 front
+
     module _ (constants : List ℕ) where
       abbrev S : Sections
       S = sectionsIn types constants functions externs cases
@@ -122,7 +145,7 @@ module _ (n k : ℕ) (metadata types functions externs cases work32 work64 hinte
       dead = deadStores S (midOf 0 n work32) (usefulPlaces marks cells) cells
 
       keep₂ : midOf (keepAt n) n work32′ ≡ deadStores S (midOf 0 n work32) (usefulPlaces marks cells) cells
-      keep₂ = st constants .keep ∙ rw (leads₁, keep₁)
+      keep₂ = st constants .keep ∙ rw (leads₁, keep₁, front-code)
 
       dead-size : length dead ≡ n
       dead-size = dead-long S (midOf 0 n work32) (usefulPlaces marks cells) cells (useful-long marks cells) ∙ cells-size
@@ -134,22 +157,28 @@ module _ (n k : ℕ) (metadata types functions externs cases work32 work64 hinte
     ends₂ = st [] .ends ∙ ends₁
 
     code₂ : midOf 0 n work64′ ≡ midOf 0 n work64
-    code₂ = st [] .code
+    code₂ =
+        back-within work64 0 l front (omega (arith, f, within)) (long64 ∙ front-long ∙ sym f) 0 n (omega (arith, f, d .long64))
+        ∙ st [] .code ∙ front-code
 
-    long₂ : length work32′ ≡ length work32
-    long₂ = long32 ∙ long₁
+    -- what lies behind the part is as it was
+    pub behind-same : drop at (putMid 0 l work64 front) ≡ drop at work64
+    behind-same = drop-at front (postOf 0 l work64) at (long64 ∙ front-long) ∙ ap (λ (j : ℕ). drop j work64) f
+
+    pub stores-long : length work32′ ≡ length work32
+    stores-long = long32 ∙ long₁
 
     abbrev rest₂ : ℕ
     rest₂ = length work32′ - keepAt n
 
     fits₂ : keepAt n + rest₂ ≤ length work32′
-    fits₂ = omega (arith, long₂, d .long32)
+    fits₂ = omega (arith, stores-long, d .long32)
 
     rest-long : length (midOf (keepAt n) rest₂ work32′) ≡ rest₂
     rest-long = mid-long work32′ (keepAt n) rest₂ fits₂
 
     many : 3 * n + 1 ≤ rest₂
-    many = omega (arith, long₂, d .long32)
+    many = omega (arith, stores-long, d .long32)
 
     code-size : length (midOf 0 k work64′) ≡ n
     code-size = ap (λ (j : ℕ). length (midOf 0 j work64′)) e ∙ ap length code₂ ∙ code-long
@@ -163,20 +192,23 @@ module _ (n k : ℕ) (metadata types functions externs cases work32 work64 hinte
     part-ends : endsIn n (midOf (keepAt n) rest₂ work32′) ≡ anchors marks cells
     part-ends = mid-mid work32′ (keepAt n) rest₂ (endsAt n) n fits₂ (omega (arith, many)) ∙ ends₂
 
-    pub jumps-asks : Rounds (midOf 0 k work64′) (length (midOf (keepAt n) (length work32′ - keepAt n) work32′))
-        × Flags (midOf 0 (length (midOf 0 k work64′)) (midOf (keepAt n) (length work32′ - keepAt n) work32′))
-    jumps-asks = (
+    pub jumps-asks : (count m : ℕ) → m ≡ count → Controls (midOf 0 n work64) (midOf at count work64) n
+        → Rounds (midOf 0 k (putMid 0 l work64 front)) (length (midOf (keepAt n) (length work32′ - keepAt n) work32′))
+        × Controls (midOf 0 k (putMid 0 l work64 front)) (midOf at m (putMid 0 l work64 front)) (length (midOf 0 k (putMid 0 l work64 front)))
+        × Flags (midOf 0 (length (midOf 0 k (putMid 0 l work64 front))) (midOf (keepAt n) (length work32′ - keepAt n) work32′))
+    jumps-asks count m g c = (
       record { few = rw code-size (d .few); long = rw (code-size, rest-long) many; inside = rw same-code (d .inside) },
+      rw (code-size, same-code, behind-same, g) c,
       rw (code-size, part-keep, keep₂ []) (dead-ok []),
     )
 
     module _ (jumped : List ℕ) (jumped-size : length jumped ≡ length (midOf (keepAt n) (length work32′ - keepAt n) work32′))
         (j : (metadata keep : List ℕ)
         → keep
-        ≡ jumpRounds 16 (endsIn (length (midOf 0 k work64′)) (midOf (keepAt n) (length work32′ - keepAt n) work32′)) (cellsBy (midOf 0 k work64′) metadata)
-        (midOf 0 (length (midOf 0 k work64′)) (midOf (keepAt n) (length work32′ - keepAt n) work32′))
-        → jumped ≡ putMid 0 (2 * length (midOf 0 k work64′) + 1) (midOf (keepAt n) (length work32′ - keepAt n) work32′) (keep ++ mapOf keep)) where
-      pub jumps-retained : (constants : List ℕ) → Retains n metadata types constants functions externs cases work32 work64 (putMid (keepAt n) (length work32′ - keepAt n) work32′ jumped) work64′
+        ≡ jumpRounds 16 (endsIn (length (midOf 0 k (putMid 0 l work64 front))) (midOf (keepAt n) (length work32′ - keepAt n) work32′)) (cellsBy (midOf 0 k (putMid 0 l work64 front)) metadata)
+        (midOf 0 (length (midOf 0 k (putMid 0 l work64 front))) (midOf (keepAt n) (length work32′ - keepAt n) work32′))
+        → jumped ≡ putMid 0 (2 * length (midOf 0 k (putMid 0 l work64 front)) + 1) (midOf (keepAt n) (length work32′ - keepAt n) work32′) (keep ++ mapOf keep)) where
+      pub jumps-retained : (constants : List ℕ) → Retains n metadata types constants functions externs cases work32 work64 (putMid (keepAt n) (length work32′ - keepAt n) work32′ jumped) (putMid 0 l work64 front)
       unfolding keptPlaces
       jumps-retained constants =
           let keep : List ℕ = jumpRounds 16 (anchors marks cells) cells (dead constants) in

@@ -9,26 +9,28 @@ use native.Mathlib.Omega.{arith}
 use lib.Dec.{eqb}
 use lib.ListN.{length, getD, take, length-append}
 use lib.Seq.{take-at, take-all, drop-at}
-use borrow.Author.Tests.{eqb-true}
+use borrow.Author.Tests.{eqb-true, eqb-false}
 use borrow.Rule.Slice.PartMut.{putMid, midOf}
 use Rattle.words.specs.Lists.{tabulate, length-tabulate, getD-tabulate}
 use Rattle.words.specs.Only.{At, Only, only-none, only-put, only-more, only-both, put-only, same-mid, back-within}
 use Rattle.words.specs.Regions.{mid-long, get-mid, mid-add, mid-put}
 use Rattle.instruction.specs.declared.Instruction.{Instruction}
 use Rattle.instruction.specs.declared.Class.the-variants.{Jump}
-use Rattle.instruction.specs.Instruction.{ofWord}
+use Rattle.instruction.specs.Instruction.{class, ofWord}
 use Rattle.instruction.specs.Laws.{jump-class}
 use Rattle.instruction.specs.Opcode as op
 use Rattle.effects.specs.Shape.{Cell}
 use Rattle.effects.specs.Cells.{cellOf, cellsBy, cells-long}
 use Rattle.flow.specs.Branch.{branches, target, branchInside}
 use Rattle.flow.specs.BranchLaws.{BranchesInside, inside-target}
+use Rattle.flow.specs.Control.{isControl, no-jump}
 use Rattle.flow.specs.Flags.{Flags}
 use Rattle.pc_map.specs.Boundary.{boundary}
 use Rattle.answer.specs.Jump.{isIdle, dropIdle, jumpRounds}
 use Rattle.run.specs.Jumps.{round-long, round-flags}
+use Rattle.removal.specs.Jumping as jumping
 use Rattle.removal.specs.Jumping.{Rounds, endsIn, mapOf, idleIn}
-use Rattle.removal.specs.Cleared.{Cleared, cleared-cells, cleared-only}
+use Rattle.removal.specs.Cleared.{Cleared, cleared-off, cleared-cells, cleared-only}
 
 -- ---- the test of a jump
 
@@ -49,6 +51,12 @@ same-near false free jump near near′ f = refl
 -- the test at place p
 abbrev pub idleAt : List ℕ → List ℕ → ℕ → Bool
 idleAt words work p = idleIn (length words) work p (ofWord (getD words p 0))
+
+-- what is no control place is no jump
+pub none-idle : (words work₀ work : List ℕ) (p : ℕ) → p < length words → isControl (class (ofWord (getD words p 0))) ≡ false → Cleared (idleAt words work₀) work₀ work p → Cleared (idleAt words work₀) work₀ work (p + 1)
+none-idle words work₀ work p h e c =
+    let i = ofWord (getD words p 0) in
+    cleared-off (idleAt words work₀) work₀ work p c (sym (jumping.no-jump (length words) work₀ p i i refl (eqb-false (i .op) op.Jump (no-jump i e))))
 
 -- it reads nothing that the loop has written before
 pub idle-left : (words work₀ work : List ℕ) (p : ℕ) → p < length words → Cleared (idleAt words work₀) work₀ work p → idleAt words work p ≡ idleAt words work₀ p

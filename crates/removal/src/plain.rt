@@ -1,9 +1,11 @@
 // Plain hints are dropped.
 ghost use mathlib.Core.Path.{_≡_};
 ghost use mathlib.Core.List.{List};
-ghost use Prim.Native.Nat.{ℕ};
+ghost use Prim.Native.Nat.{ℕ, _≤_};
 ghost use lib.ListN.{length};
+ghost use Rattle.unit.specs.Size.{maxInstructions};
 ghost use Rattle.effects.specs.Cells.{cellsBy};
+ghost use Rattle.flow.specs.Control.{Controls};
 ghost use Rattle.flow.specs.Loop.{isPlainHint};
 ghost use Rattle.answer.specs.Pass.{usefulPlaces};
 use instruction::Instruction;
@@ -15,16 +17,17 @@ fn is_plain_hint(i: Instruction) -> bool
     (i.op == 0) & (i.flags == 0)
 }
 
-// It is not kept.
-pub fn drop_hints(words: &[u64], keep: &mut [u32])
-    requires { ⌜ length (now keep) ≡ length (now words) ⌝ }
+// It is not kept, by the list of the control places.
+pub fn drop_hints(words: &[u64], list: &[u64], keep: &mut [u32])
+    requires { ⌜ (length (now keep) ≡ length (now words)) × (length (now words) ≤ maxInstructions) × Controls (now words) (now list) (length (now words)) ⌝ }
     ensures { λ _. ⌜ ((metadata : List ℕ) → now (keep .exit) ≡ usefulPlaces (now (keep .entry)) (cellsBy (now (words .entry)) metadata)) ⌝ }
 {
-    let mut p: usize = 0;
-    while p < words.len() {
+    let mut k: usize = 0;
+    while k < list.len() {
+        let p = list[k] as usize;
         if is_plain_hint(Instruction::from_word(words[p])) {
             keep[p] = 0;
         }
-        p += 1;
+        k += 1;
     }
 }

@@ -17,7 +17,7 @@ use Rattle.instruction.specs.Opcode as op
 use Rattle.instruction.specs.declared.Instruction.{Instruction}
 use Rattle.instruction.specs.declared.Class.{Class}
 use Rattle.instruction.specs.declared.Class.the-variants.{Hint, LoadInt, LoadConst, Copy, CopyN, Unary, Binary, Jump, JumpIf, JumpIfNot, ForLoop, Return, Panic, Outside, Invalid}
-use Rattle.instruction.specs.Class.{classOf, single}
+use Rattle.instruction.specs.Class.{classOf, single, numberOf}
 use Rattle.instruction.specs.Instruction.{Fields, class, plain, withImm32}
 use Rattle.unit.specs.Refusal.{branchOutside}
 use Rattle.unit.specs.Entry.{constantAt}
@@ -30,6 +30,7 @@ use Rattle.effects.specs.Sound.{lowest-passed, passed-at}
 use Rattle.flow.specs.Branch.{branches, targetBy, target, branchInside, branchCheck}
 use Rattle.flow.specs.Loop.{isLoopHint}
 use Rattle.flow.specs.Block.{endsBlock, branchTargets, blockEnds, isLeader, leaders}
+use Rattle.flow.specs.Control.{isControl}
 use Rattle.flow.specs.Marks.{Marked}
 use Rattle.flow.specs.Leaders.{leaders-long, leaders-at, leaders-first, leaders-flags}
 use Rattle.values.specs.declared.Atom.{Atom}
@@ -148,6 +149,21 @@ module _ (S : Sections) (t : Values) (i : Instruction) where
   justified-branches (takenIfNot c e f) b = (rw c, λ p. rw c)
   justified-branches (passedIf c e f) b = absurd (false≢true b)
   justified-branches (passedIfNot c e f) b = absurd (false≢true b)
+
+  -- what is no hint and ends no block stays so
+  pub justified-control : {j : Instruction} → Justified S t i j → isControl (class i) ≡ false → isControl (class j) ≡ false
+  unfolding classOf single numberOf
+  justified-control stays n = n
+  justified-control (operand c e h) n = n
+  justified-control (operands c e f h k) n = n
+  justified-control (tested c e h) n = n
+  justified-control (returned c e f h) n = n
+  justified-control (loaded c s f h) n = refl
+  justified-control (copied c s e h) n = refl
+  justified-control (takenIf c e f) n = absurd (true≢false (rw c at n))
+  justified-control (takenIfNot c e f) n = absurd (true≢false (rw c at n))
+  justified-control (passedIf c e f) n = absurd (true≢false (rw c at n))
+  justified-control (passedIfNot c e f) n = absurd (true≢false (rw c at n))
 
   -- its fields are fields
   pub justified-fields : {j : Instruction} → S .locals ≤ 65535 → Justified S t i j → Fields i → Fields j
@@ -268,6 +284,9 @@ module _ (F : Function) (w : Well F) (some-code : 0 < length (F .cells)) (few : 
         let k : suc p < length cells = rw same-length at h in
         next-leads cells p k (branch-given p (omega arith) b .0);
   }
+
+  pub numbered-control : (p : ℕ) → p < length (F .cells) → isControl (class (cellAt (F .cells) p .instruction)) ≡ false → isControl (class (cellAt (G .cells) p .instruction)) ≡ false
+  numbered-control p h n = rw (numbered-at F (leaders cells) numberable p h) (justified-control S _ _ (numbered-justified F (leaders cells) numberable p h) n)
 
   pub numbered-fields : (p : ℕ) → p < length (G .cells) → Fields (cellAt (G .cells) p .instruction)
   numbered-fields p h =

@@ -4,10 +4,14 @@ use Rattle.removal.proofs.jump.round.Statement.{statement}
 use Rattle.removal.proofs.jump.round.Tie as tie
 
 drop-idle-requires : tie.Need-drop-idle-requires
-drop-idle-requires c κs = round-asks _ _ _ (c .before .before .before .before .before .before .before .pre .0) (c .before .before .before .boundaries .ensures .0)
+drop-idle-requires c κs =
+    let s = c .before .before .before .before .before .before .before .before in
+    let r = round-asks _ _ _ (s .pre .0) (c .before .before .before .boundaries .ensures .0) in
+    (r .0, s .pre .1, r .1)
 
 returns : tie.Need-returns
-returns c metadata = let s = c .before .before .before .before .before .before .before .before .before .before in
+returns c metadata =
+    let s = c .before .before .before .before .before .before .before .before .before .before .before in
     let d = c .before .before .drop-idle .ensures in
     round-does _ _ _ (s .pre .0) (c .before .before .before .before .before .before .boundaries .ensures .0) metadata _ (c .before .before .drop-idle .result) (d .0 metadata) (d .1)
 

@@ -32,8 +32,9 @@ same-length c = search needs
 
 returns : tie.Need-returns
 returns c =
-    let a = c .before .before .before .before .before .before .before .before .before .before .before .args in
-    hints-useful (a .words .now) (a .metadata .now) (a .work .now) (c .before .before .before .before .before .before .mark-anchors .last .1 .1 .0) (c .before .before .drop-hints .last .1 .0) (length (a .words .now) - 0) (omega arith) (c .before .before .before .before .before .before .before .before .before .before .before .pre .2)
+    let s = c .before .before .before .before .before .before .before .before .before .before .before .before in
+    let a = s .args in
+    hints-useful (a .words .now) (a .metadata .now) (a .work .now) (c .before .before .before .before .before .before .mark-anchors .last .1 .1 .1 .0) (c .before .before .drop-hints .last .1 .1 .0) (length (a .words .now) - 0) (omega arith) (s .pre .2)
     (c .before .before .before .before .before .before .mark-anchors .ensures) (c .before .before .drop-hints .ensures (a .metadata .now))
 
 pub drop-hints-spec : {M : Type 1} → statement M

@@ -1,108 +1,118 @@
-use Prim.Native.Nat.{_-_}
+use mathlib.Core.Path.{_≡_, _∙_}
+use Prim.Native.Nat.{_+_, _-_, _≤_}
 use native.Mathlib.Omega.{arith}
-use Rattle.removal.specs.Retaining.{hints-retainable, jumps-asks, jumps-retained}
+use lib.ListN.{length}
+use Rattle.words.specs.Regions.{mid-long, put-long}
+use Rattle.removal.specs.Kept.{keepAt}
+use Rattle.removal.specs.Retaining.{hints-asks, hints-retainable, stores-long, behind-same, jumps-asks, jumps-retained}
 use borrow.Author.Needs.{needs}
 use Rattle.removal.proofs.retain.retain.Statement.{statement}
 use Rattle.removal.proofs.retain.retain.Tie as tie
 
-mul-at : tie.Need-mul-at
-mul-at c = search needs
-
-add-at : tie.Need-add-at
-add-at c = search needs
-
-sub-drop-hints : tie.Need-sub-drop-hints
-sub-drop-hints c = search needs
-
-part-drop-hints-start : tie.Need-part-drop-hints-start
-part-drop-hints-start c = search needs
-
-part-drop-hints-end : tie.Need-part-drop-hints-end
-part-drop-hints-end c = search needs
-
-mul-drop-hints : tie.Need-mul-drop-hints
-mul-drop-hints c = search needs
-
-sub-drop-hints-2 : tie.Need-sub-drop-hints-2
-sub-drop-hints-2 c = search needs
-
-part-drop-hints-start-2 : tie.Need-part-drop-hints-start-2
-part-drop-hints-start-2 c = search needs
-
-part-drop-hints-end-2 : tie.Need-part-drop-hints-end-2
-part-drop-hints-end-2 c = search needs
-
 drop-hints-requires : tie.Need-drop-hints-requires
-drop-hints-requires c κs = search needs
+drop-hints-requires c κs =
+    let s = c .before .before .before .before .before .before .before .before .before .before .before in
+    let a = s .args in
+    hints-asks (a .n) (a .n - 0) (a .at) (a .count) (a .at + a .count - a .at) (a .metadata .now) (a .work32 .now) (a .work64 .now) (omega arith) (omega arith) (s .pre .0) (s .pre .1) (s .pre .2)
 
 drop-stores-requires : tie.Need-drop-stores-requires
 drop-stores-requires c κs =
-    let s = c .before .before .before .before .before .before .before .before .before .before .before .before .before .before .before in
+    let h = c .before .before .before .before in
+    let s = h .before .before .before .before .before .before .before .before .before .before .before .before in
     let a = s .args in
-    hints-retainable (a .n) (a .n - 0) (a .metadata .now) (a .types .now) (a .functions .now) (a .externs .now) (a .cases .now) (a .work32 .now) (a .work64 .now) (c .before .before .before .before .drop-hints .last .1 .1 .0) (omega arith) (s .pre) (c .before .before .before .before .drop-hints .kept .1 .1 .0) (c .before .before .before .before .drop-hints .ensures)
+    hints-retainable (a .n) (a .n - 0) (a .metadata .now) (a .types .now) (a .functions .now) (a .externs .now) (a .cases .now) (a .work32 .now) (a .work64 .now) (h .drop-hints .last .1 .1 .1 .0) (a .at) (a .at - 0) (omega arith) (omega arith) (omega (arith, s .pre .1)) (s .pre .0) (h .drop-hints .kept .1 .1 .1 .0) (h .drop-hints .ensures)
 
-sub-drop-jumps : tie.Need-sub-drop-jumps
-sub-drop-jumps c = search needs
+-- what came before the last step
+abbrev hints : tie.After-drop-stores → tie.After-drop-hints
+hints d = d .before .before .before .before .before
 
-part-drop-jumps-start : tie.Need-part-drop-jumps-start
-part-drop-jumps-start c = search needs
+abbrev start : tie.After-drop-stores → tie.Start
+start d = hints d .before .before .before .before .before .before .before .before .before .before .before .before
 
-part-drop-jumps-end : tie.Need-part-drop-jumps-end
-part-drop-jumps-end c = search needs
+long : (d : tie.After-drop-stores) → length (d .drop-stores .last .1 .1 .1 .1 .1 .0) ≡ length (start d .args .work32 .now)
+long d =
+    let h = hints d in
+    let s = start d in
+    let a = s .args in
+    stores-long (a .n) (a .n - 0) (a .metadata .now) (a .types .now) (a .functions .now) (a .externs .now) (a .cases .now) (a .work32 .now) (a .work64 .now) (h .drop-hints .last .1 .1 .1 .0) (a .at) (a .at - 0) (omega arith) (omega arith) (omega (arith, s .pre .1)) (s .pre .0) (h .drop-hints .kept .1 .1 .1 .0) (h .drop-hints .ensures) (d .drop-stores .last .1 .1 .1 .1 .1 .0) (d .drop-stores .last .1 .1 .1 .1 .1 .1 .0) (d .drop-stores .kept .1 .1 .1 .1 .1 .0) (d .drop-stores .kept .1 .1 .1 .1 .1 .1 .0) (d .drop-stores .ensures)
+
+add-drop-jumps : tie.Need-add-drop-jumps
+add-drop-jumps c = let s = start (c .before .before .before .before .before .before) in omega (arith, s .pre .1)
 
 mul-drop-jumps : tie.Need-mul-drop-jumps
-mul-drop-jumps c = search needs
+mul-drop-jumps c = let s = start (c .before .before .before .before .before .before) in omega (arith, s .pre .1)
 
-sub-drop-jumps-2 : tie.Need-sub-drop-jumps-2
-sub-drop-jumps-2 c = search needs
+mul-drop-jumps-2 : tie.Need-mul-drop-jumps-2
+mul-drop-jumps-2 c = let s = start (c .before .before .before .before .before .before .before) in omega (arith, s .pre .0 .few)
 
-part-drop-jumps-start-2 : tie.Need-part-drop-jumps-start-2
-part-drop-jumps-start-2 c = search needs
+sub-drop-jumps-3 : tie.Need-sub-drop-jumps-3
+sub-drop-jumps-3 c = let d = c .before .before .before .before .before .before .before in omega (arith, long d, start d .pre .0 .long32)
 
-part-drop-jumps-end-2 : tie.Need-part-drop-jumps-end-2
-part-drop-jumps-end-2 c = search needs
+part-drop-jumps-start-3 : tie.Need-part-drop-jumps-start-3
+part-drop-jumps-start-3 c = let d = c .before .before .before .before .before .before .before in omega (arith, long d, start d .pre .0 .long32)
 
 drop-jumps-requires : tie.Need-drop-jumps-requires
 drop-jumps-requires c κs =
-    let s = c .before .before .before .before .before .before .before .before .before .before .before .before .before .before .before .before .before .before .before .before .before .before .before in
+    let d = c .before .before .before .before .before .before .before .before in
+    let h = hints d in
+    let s = start d in
     let a = s .args in
-    jumps-asks (a .n) (a .n - 0) (a .metadata .now) (a .types .now) (a .functions .now) (a .externs .now) (a .cases .now) (a .work32 .now) (a .work64 .now) (c .before .before .before .before .before .before .before .before .before .before .before .before .drop-hints .last .1 .1 .0) (omega arith) (s .pre) (c .before .before .before .before .before .before .before .before .before .before .before .before .drop-hints .kept .1 .1 .0) (c .before .before .before .before .before .before .before .before .before .before .before .before .drop-hints .ensures) (c .before .before .before .before .before .before .before .drop-stores .last .1 .1 .1 .1 .1 .0) (c .before .before .before .before .before .before .before .drop-stores .last .1 .1 .1 .1 .1 .1 .0) (c .before .before .before .before .before .before .before .drop-stores .kept .1 .1 .1 .1 .1 .0) (c .before .before .before .before .before .before .before .drop-stores .kept .1 .1 .1 .1 .1 .1 .0) (c .before .before .before .before .before .before .before .drop-stores .ensures)
+    jumps-asks (a .n) (a .n - 0) (a .metadata .now) (a .types .now) (a .functions .now) (a .externs .now) (a .cases .now) (a .work32 .now) (a .work64 .now) (h .drop-hints .last .1 .1 .1 .0) (a .at) (a .at - 0) (omega arith) (omega arith) (omega (arith, s .pre .1)) (s .pre .0) (h .drop-hints .kept .1 .1 .1 .0) (h .drop-hints .ensures) (d .drop-stores .last .1 .1 .1 .1 .1 .0) (d .drop-stores .last .1 .1 .1 .1 .1 .1 .0) (d .drop-stores .kept .1 .1 .1 .1 .1 .0) (d .drop-stores .kept .1 .1 .1 .1 .1 .1 .0) (d .drop-stores .ensures) (a .count) (a .at + a .count - a .at) (omega arith) (s .pre .2)
 
 same-length : tie.Need-same-length
-same-length c = search needs
-
-same-length-2 : tie.Need-same-length-2
-same-length-2 c = search needs
+same-length c =
+    let d = c .before .before .before .before .before .before .before .before .before .before .before in
+    let j = c .before .before in
+    let room : keepAt (start d .args .n) + (length (d .drop-stores .last .1 .1 .1 .1 .1 .0) - keepAt (start d .args .n)) ≤ length (d .drop-stores .last .1 .1 .1 .1 .1 .0) = omega (arith, long d, start d .pre .0 .long32) in
+    put-long (d .drop-stores .last .1 .1 .1 .1 .1 .0) (keepAt (start d .args .n)) _ (j .drop-jumps .last .1 .1 .0) (j .drop-jumps .kept .1 .1 .0 ∙ mid-long (d .drop-stores .last .1 .1 .1 .1 .1 .0) (keepAt (start d .args .n)) _ room) room ∙ long d
 
 returns : tie.Need-returns
 returns c =
-    let s = c .before .before .before .before .before .before .before .before .before .before .before .before .before .before .before .before .before .before .before .before .before .before .before .before .before .before in
-    let a = s .args in
-    jumps-retained (a .n) (a .n - 0) (a .metadata .now) (a .types .now) (a .functions .now) (a .externs .now) (a .cases .now) (a .work32 .now) (a .work64 .now) (c .before .before .before .before .before .before .before .before .before .before .before .before .before .before .before .drop-hints .last .1 .1 .0) (omega arith) (s .pre) (c .before .before .before .before .before .before .before .before .before .before .before .before .before .before .before .drop-hints .kept .1 .1 .0) (c .before .before .before .before .before .before .before .before .before .before .before .before .before .before .before .drop-hints .ensures) (c .before .before .before .before .before .before .before .before .before .before .drop-stores .last .1 .1 .1 .1 .1 .0) (c .before .before .before .before .before .before .before .before .before .before .drop-stores .last .1 .1 .1 .1 .1 .1 .0) (c .before .before .before .before .before .before .before .before .before .before .drop-stores .kept .1 .1 .1 .1 .1 .0) (c .before .before .before .before .before .before .before .before .before .before .drop-stores .kept .1 .1 .1 .1 .1 .1 .0) (c .before .before .before .before .before .before .before .before .before .before .drop-stores .ensures) (c .before .before .drop-jumps .last .1 .0) (c .before .before .drop-jumps .kept .1 .0) (c .before .before .drop-jumps .ensures)
+    let d = c .before .before .before .before .before .before .before .before .before .before .before in
+    let j = c .before .before in
+    let h = hints d in
+    let s = start d in
+    let a = s .args in (
+      jumps-retained (a .n) (a .n - 0) (a .metadata .now) (a .types .now) (a .functions .now) (a .externs .now) (a .cases .now) (a .work32 .now) (a .work64 .now) (h .drop-hints .last .1 .1 .1 .0) (a .at) (a .at - 0) (omega arith) (omega arith) (omega (arith, s .pre .1)) (s .pre .0) (h .drop-hints .kept .1 .1 .1 .0) (h .drop-hints .ensures) (d .drop-stores .last .1 .1 .1 .1 .1 .0) (d .drop-stores .last .1 .1 .1 .1 .1 .1 .0) (d .drop-stores .kept .1 .1 .1 .1 .1 .0) (d .drop-stores .kept .1 .1 .1 .1 .1 .1 .0) (d .drop-stores .ensures) (j .drop-jumps .last .1 .1 .0) (j .drop-jumps .kept .1 .1 .0) (j .drop-jumps .ensures),
+      behind-same (a .n) (a .n - 0) (a .metadata .now) (a .types .now) (a .functions .now) (a .externs .now) (a .cases .now) (a .work32 .now) (a .work64 .now) (h .drop-hints .last .1 .1 .1 .0) (a .at) (a .at - 0) (omega arith) (omega arith) (omega (arith, s .pre .1)) (s .pre .0) (h .drop-hints .kept .1 .1 .1 .0) (h .drop-hints .ensures) (d .drop-stores .last .1 .1 .1 .1 .1 .0) (d .drop-stores .last .1 .1 .1 .1 .1 .1 .0) (d .drop-stores .kept .1 .1 .1 .1 .1 .0) (d .drop-stores .kept .1 .1 .1 .1 .1 .1 .0) (d .drop-stores .ensures),
+    )
 
 pub retain-spec : {M : Type 1} → statement M
 retain-spec =
     tie.close
     (tie.spec
-    mul-at
-    add-at
-    sub-drop-hints
-    part-drop-hints-start
-    part-drop-hints-end
-    mul-drop-hints
-    sub-drop-hints-2
-    part-drop-hints-start-2
-    part-drop-hints-end-2
+    (λ c. search needs)
+    (λ c. search needs)
+    (λ c. search needs)
+    (λ c. search needs)
+    (λ c. search needs)
+    (λ c. search needs)
+    (λ c. search needs)
+    (λ c. search needs)
+    (λ c. search needs)
+    (λ c. search needs)
+    (λ c. search needs)
+    (λ c. search needs)
+    (λ c. search needs)
+    (λ c. search needs)
     drop-hints-requires
+    (λ c. search needs)
+    (λ c. search needs)
+    (λ c. search needs)
     drop-stores-requires
-    sub-drop-jumps
-    part-drop-jumps-start
-    part-drop-jumps-end
+    (λ c. search needs)
+    (λ c. search needs)
+    (λ c. search needs)
+    add-drop-jumps
     mul-drop-jumps
-    sub-drop-jumps-2
-    part-drop-jumps-start-2
-    part-drop-jumps-end-2
+    (λ c. search needs)
+    (λ c. search needs)
+    (λ c. search needs)
+    mul-drop-jumps-2
+    sub-drop-jumps-3
+    part-drop-jumps-start-3
+    (λ c. search needs)
     drop-jumps-requires
     same-length
-    same-length-2
+    (λ c. search needs)
     returns)
