@@ -12,7 +12,7 @@ use lib.Dec.{eqb, leb, ltb}
 use borrow.Author.Tests.{lt-ltb, eqb-true, eqb-false, ltb-true, leb-true, not-true}
 use Rattle.words.specs.Lists.{every, every-at}
 use Rattle.instruction.specs.Opcode as op
-use Rattle.instruction.specs.Instruction.{Fields}
+use Rattle.instruction.specs.Instruction.{Fields, ofWord}
 use Rattle.instruction.specs.declared.Instruction.{Instruction}
 use Rattle.unit.specs.Refusal.{slotOutside}
 use Rattle.effects.specs.declared.Range.{Range}
@@ -71,12 +71,13 @@ plain-row o row r h e =
       free = eqb-true (demandRowOf o) 0 (right-true (leb (rowOf o % 16) 2 && leb (rowOf o / 16 % 16) 1) (eqb (demandRowOf o) 0) all);
     }
 
--- that field is a digit of all three
-pub slot-digit : (i : Instruction) → Fields i → (form : ℕ) → form < 3 → (i .a + 65536 * i .b + 4294967296 * i .c) / 2 ^ (16 * form) % 65536 ≡ slotOf form i
-slot-digit i f zero h = omega arith
-slot-digit i f (suc zero) h = omega arith
-slot-digit i f (suc (suc zero)) h = omega arith
-slot-digit i f (suc (suc (suc n))) h = absurd (omega arith)
+-- that field of an instruction's word
+pub field-slot : (w form : ℕ) → form < 3 → w / 2 ^ (16 + 16 * form) % 65536 ≡ slotOf form (ofWord w)
+unfolding ofWord
+field-slot w zero h = refl
+field-slot w (suc zero) h = refl
+field-slot w (suc (suc zero)) h = refl
+field-slot w (suc (suc (suc n))) h = absurd (omega arith)
 
 -- forms 0, 1 and 2 are one slot
 pub slot-form : (T : Tables) (x : Cell) (form : ℕ) → form < 3 → rangeOf T x (formAt form) ≡ record { start = slotOf form (x .instruction); count = 1 }

@@ -3,7 +3,7 @@ ghost use mathlib.Core.Path.{_≡_};
 ghost use mathlib.Core.Bool.{cond};
 ghost use mathlib.Core.List.{List};
 ghost use Prim.Native.Nat.{ℕ, _≤_, _<_};
-ghost use Rattle.instruction.specs.Instruction.{staticCallFuncId, callShapeStaticFuncId};
+ghost use Rattle.instruction.specs.Instruction.{ofWord, staticCallFuncId, callShapeStaticFuncId};
 ghost use Rattle.unit.specs.Entry.{functionAt};
 ghost use Rattle.unit.specs.declared.Metadata.{Metadata};
 ghost use Rattle.effects.specs.Shape.{Tables, rangeOf, tablesOf, paramSlots, returnSlots, externSlots, value, arguments};
@@ -79,13 +79,19 @@ fn asked(flag: bool, start: usize, count: usize) -> Range
     }
 }
 
-// The field that form 0, 1 or 2, one slot, names: most ranges are such, and this takes no jump by the form.
+// The field of an instruction's word that form 0, 1 or 2, one slot, names: most ranges are such, and this takes no jump by the form.
+pub fn field(w: u64, form: u64) -> usize
+    requires { ⌜ form < 3 ⌝ }
+    ensures { λ r. ⌜ r ≡ slotOf form (ofWord w) ⌝ }
+{
+    ((w >> (16 + 16 * form)) % 65536) as usize
+}
+
 pub fn slot(form: u64, i: Instruction) -> usize
     requires { ⌜ form < 3 ⌝ }
     ensures { λ r. ⌜ r ≡ slotOf form i ⌝ }
 {
-    let fields = (i.a as u64) + 65536 * (i.b as u64) + 4294967296 * (i.c as u64);
-    ((fields >> (16 * form)) % 65536) as usize
+    field(i.word(), form)
 }
 
 fn slot_range(form: u64, i: Instruction) -> Range

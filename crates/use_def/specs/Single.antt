@@ -20,7 +20,6 @@ use Rattle.effects.specs.declared.Range.{Range}
 use Rattle.effects.specs.Shape.{Tables, Cell}
 use Rattle.effects.specs.Effects.{rangeHas, rangeWithin}
 use Rattle.effects.specs.Form.{emptyRange}
-use Rattle.effects.specs.Plain.{slotOf}
 use Rattle.effects.specs.ByClass.{isOutside, readsByClass, writesByClass}
 use Rattle.unit.specs.Entry.{typeValue, typeFloat}
 use Rattle.unit.specs.declared.Metadata.{Metadata}
@@ -103,14 +102,6 @@ module _ (k : Class) (e : isSingle k ≡ true) where
     second-read = by-class (λ k. slotIf (readsSecond k) (i .c) ≡ getD (readsByClass k i) 1 emptyRange) refl refl refl refl refl k e
 
 -- ---- by the instruction's word
-
--- one of the fields a, b and c
-pub field-slot : (w form : ℕ) → form < 3 → w / 2 ^ (16 + 16 * form) % 65536 ≡ slotOf form (ofWord w)
-unfolding ofWord
-field-slot w zero h = refl
-field-slot w (suc zero) h = refl
-field-slot w (suc (suc zero)) h = refl
-field-slot w (suc (suc (suc n))) h = absurd (omega arith)
 
 abbrev cell : ℕ → Metadata → Cell
 cell w m = record { instruction = ofWord w; metadata = m }

@@ -12,6 +12,7 @@ ghost use Rattle.use_def.specs.Free.{freeSlot, freeRange, deadBy, Spans}
 ghost use Rattle.use_def.specs.Single.{isSingle};
 use crate::touch;
 use effects::Range;
+use effects::form;
 use instruction::Class;
 use instruction::Instruction;
 use words::bits;
@@ -82,5 +83,5 @@ pub fn is_single_dead(types: &[u8], row: &[u64], w: u64) -> bool
     requires { ⌜ (isSingle (classOf (w % 256)) ≡ true) × Spans (now types) (now row) (getD (writesByClass (class (ofWord w)) (ofWord w)) 0 emptyRange) ⌝ }
     ensures { λ r. ⌜ r ≡ deadBy (now (types .entry)) (now (row .entry)) (ofWord w) ⌝ }
 {
-    is_free(types, row, touch::field(w, 0))
+    is_free(types, row, form::field(w, 0))
 }

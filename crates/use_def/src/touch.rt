@@ -14,7 +14,6 @@ ghost use Rattle.unit.specs.Size.{metadataSize};
 ghost use Rattle.effects.specs.Shape.{Tables, tablesOf};
 ghost use Rattle.effects.specs.Effects.{allReads, writes};
 ghost use Rattle.effects.specs.Form.{emptyRange};
-ghost use Rattle.effects.specs.Plain.{slotOf};
 ghost use Rattle.effects.specs.Ranges.{CasesInside};
 ghost use Rattle.effects.specs.ByClass.{isOutside, readsByClass, writesByClass};
 ghost use Rattle.use_def.specs.Sets.{Put, Same};
@@ -22,6 +21,7 @@ ghost use Rattle.use_def.specs.Touched.{Within, reading, writing, Fits, 
 ghost use Rattle.use_def.specs.Single.{isSingle, readsFirst, readsSecond, SingleFits};
 use crate::row;
 use effects::Range;
+use effects::form;
 use effects::ranges;
 use instruction::Class;
 use instruction::Instruction;
@@ -174,14 +174,6 @@ pub fn put_writes(
     row::put_range(row, write(c, i), on);
 }
 
-// One of the fields a, b and c of an instruction's word.
-pub fn field(w: u64, form: u64) -> usize
-    requires { ⌜ form < 3 ⌝ }
-    ensures { λ r. ⌜ r ≡ slotOf form (ofWord w) ⌝ }
-{
-    ((w >> (16 + 16 * form)) % 65536) as usize
-}
-
 // A load, a copy or an operator, by the number of its class? It writes slot a, and of single slots it reads b and c at most.
 pub fn is_single(k: u64) -> bool
     requires { ⌜ k < 15 ⌝ }
@@ -211,7 +203,7 @@ pub fn take_single_write(row: &mut [u64], w: u64)
     requires { ⌜ SingleFits (length (now row)) w ⌝ }
     ensures { λ _. ⌜ ((T : Tables) (m : Metadata) → Put false (writing T (record { instruction = ofWord w; metadata = m })) (now (row .entry)) (now (row .exit))) × Put false (λ t. eqb t (ofWord w .a)) (now (row .entry)) (now (row .exit)) ⌝ }
 {
-    row::put(row, field(w, 0), false);
+    row::put(row, form::field(w, 0), false);
 }
 
 // What is live before it, of what is live after it. Of a dead store, whose slot is not live, nothing is put in: so the live slots stay,
@@ -222,9 +214,9 @@ pub fn single_before(row: &mut [u64], w: u64, k: u64, live: bool)
 {
     take_single_write(row, w);
     let first = reads_first(k) & live;
-    row::put_if(row, field(w, 1), first, true);
+    row::put_if(row, form::field(w, 1), first, true);
     let second = reads_second(k) & live;
-    row::put_if(row, field(w, 2), second, true);
+    row::put_if(row, form::field(w, 2), second, true);
 }
 
 // What is live before the instruction at place p, of what is live after it.

@@ -1,7 +1,7 @@
-use Rattle.use_def.specs.Single.{field-slot}
+use Rattle.effects.specs.Plain.{field-slot}
 use borrow.Author.Needs.{needs}
-use Rattle.use_def.proofs.touch.field.Statement.{statement}
-use Rattle.use_def.proofs.touch.field.Tie as tie
+use Rattle.effects.proofs.form.field.Statement.{statement}
+use Rattle.effects.proofs.form.field.Tie as tie
 
 returns : tie.Need-returns
 returns c = field-slot _ _ (c .pre)
