@@ -233,5 +233,5 @@ pub record Turns (n : ℕ) (types constants : List ℕ) (leader w p : ℕ) (t : 
 pub record Numberable (words leaders types memory : List ℕ) : Type 0 where
   pub few : length leaders ≤ 65536
   pub locals : length types ≤ 65536
-  pub long : 24 * length leaders + 4 * length types ≤ length memory
+  pub long : 13 * length leaders + 2 * length types + 4 ≤ length memory
   pub named : (p : ℕ) → p < length leaders → Named (class (ofWord (getD words p 0))) (length types) (ofWord (getD words p 0))

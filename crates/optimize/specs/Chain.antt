@@ -5,13 +5,13 @@ use mathlib.Core.Bool.{Bool, true, false, cond}
 use mathlib.Core.List.{List, [], _∷_, _++_}
 use Prim.Native.Nat.{ℕ, zero, suc, _+_, _*_, _/_, _≤_, _<_}
 use native.Mathlib.Omega.{arith}
-use lib.ListN.{length, getD, take, length-map}
+use lib.ListN.{length, getD, take, drop, length-map}
 use lib.Seq.{take-at}
 use borrow.Rule.Slice.PartMut.{midOf, postOf}
 use Rattle.words.specs.Regions.{mid-long, put-long}
 use Rattle.instruction.specs.Instruction.{class, ofWord}
 use Rattle.unit.specs.Entry.{metadataAt, goodMetadata}
-use Rattle.unit.specs.Size.{metadataSize, caseSize, maxInstructions, maxLocalSlots}
+use Rattle.unit.specs.Size.{metadataSize, caseSize, setsRoom, maxInstructions, maxLocalSlots}
 use Rattle.effects.specs.declared.Check.{Check}
 use Rattle.effects.specs.declared.Check.the-variants.{Passed, Refused}
 use Rattle.effects.specs.Check.{operandRefusal, operandCheck}
@@ -32,8 +32,8 @@ use Rattle.values.specs.Named.{Named}
 use Rattle.run.specs.Operands.{named-of}
 use Rattle.optimize.specs.Parts.{Given, Room, Checked, wordsIn, words-long, wordsOf, cellsIn, numberedCode, reachedMarks, retainedPlaces, afterLoops}
 use Rattle.removal.specs.Kept.{sectionsIn, keepAt, listAt, Retainable, Retains}
-use Rattle.optimize.specs.Numbered.{given-long, numbered-size, cells-back, numbered-operands, numbered-inside}
-use Rattle.optimize.specs.Steps.{Renumbered, Marks, Reached, Numberable, Finished}
+use Rattle.optimize.specs.Numbered.{given-long, numbered-size, cells-back, numbered-operands, numbered-none, numbered-inside}
+use Rattle.optimize.specs.Steps.{ListedControls, list-kept, Renumbered, Marks, Reached, Numberable, Finished}
 
 -- a check and what follows it
 pub checked-refused : (c : Check) (k p : ℕ) (rest : Outcome) → c ≡ Refused k p → checked c rest ≡ refused k p
@@ -60,7 +60,6 @@ module _ (n : ℕ) (code metadata : List ℕ) (S : Sections) (g : Given n code m
     few = g .few;
     slots = g .slots;
     long32 = r .room32;
-    long64 = omega (arith, r .room64);
     named = λ p h. rw e (named p h);
   }
     where
@@ -98,6 +97,14 @@ module _ (n : ℕ) (code metadata : List ℕ) (S : Sections) (g : Given n code m
           let k : p < n = rw memory-long at h in
           rw (memory-long, ap (λ (x : Cell). x .instruction) (memory-at p k)) (numbered-inside n code metadata S g c p k)
 
+      -- the list of the control places is one of it too
+      pub numbered-listed : {s at count : ℕ} {loaded : List ℕ} → midOf 0 n loaded ≡ wordsIn n code → length work64 ≡ length loaded → drop at work64 ≡ drop at loaded
+          → ListedControls n s at count loaded → ListedControls n s at count work64
+      numbered-listed e long behind l =
+          list-kept l long behind (λ p h none.
+          let given : cellAt cells p ≡ cellOf metadata p (getD (wordsIn n code) p 0) = cell-at (wordsIn n code) metadata p (rw (words-long n code) h) in
+          rw (ap (λ (x : Cell). x .instruction) (memory-at p h)) (numbered-none n code metadata S g c p h (rw (ap (λ (x : Cell). x .instruction) given) (rw e at none))))
+
       -- the reached places
       module _ (k : ℕ) (work32′ : List ℕ) (a : Check) (e : k ≡ n) (d : Reached n metadata (midOf 0 k work64) work32 work32′ a) where
         pub reached-marks : Marks S cells n work32′ work64
@@ -111,8 +118,8 @@ module _ (n : ℕ) (code metadata : List ℕ) (S : Sections) (g : Given n code m
 
     -- the retained places
     module _ (out : ℕ) (work32 work64 : List ℕ) (r : Room n (S .locals) out (length work32) (length work64)) (m : Marks S cells n work32 work64) (typed : S .locals ≡ length (S .types)) where
-      pub marks-retainable : Retainable (S .tables) n (midOf 0 n work64) metadata (S .types) (midOf 0 n work32) (midOf (keepAt n) n work32) (length work32) (length work64)
-      marks-retainable = record {
+      pub marks-retainable : (at : ℕ) → setsRoom n (S .locals) ≤ at → Retainable (S .tables) n (midOf 0 n work64) metadata (S .types) (midOf 0 n work32) (midOf (keepAt n) n work32) (length work32) at
+      marks-retainable at sets = record {
         some = g .some;
         few = g .few;
         slots = rw (← typed) (g .slots);
@@ -124,7 +131,7 @@ module _ (n : ℕ) (code metadata : List ℕ) (S : Sections) (g : Given n code m
         operands = λ p h. rw (memory-at work32 work64 (m .numbered) p h, ← typed) (numbered-operands n code metadata S g c p h);
         inside = memory-inside work32 work64 (m .numbered);
         long32 = r .room32;
-        long64 = rw (← typed) (r .room64);
+        long64 = rw (← typed) sets;
       }
 
       -- what was retained of them

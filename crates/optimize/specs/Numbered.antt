@@ -18,11 +18,12 @@ use Rattle.effects.specs.Sound.{passed-at}
 use Rattle.flow.specs.Block.{leaders}
 use Rattle.flow.specs.Branch.{branches, target, branchInside}
 use Rattle.flow.specs.BranchLaws.{BranchesInside, inside-none, inside-yes}
+use Rattle.flow.specs.Control.{isControl}
 use Rattle.flow.specs.Flags.{Flags}
 use Rattle.flow.specs.Marks.{Marked}
 use Rattle.run.specs.Program.{Function}
 use Rattle.run.specs.Numbered.{Numberable, numberedFunction, numbered-at, numbered-long}
-use Rattle.run.specs.Checked.{Well, numberable, removing, numbered-fields}
+use Rattle.run.specs.Checked.{Well, numberable, removing, numbered-control, numbered-fields}
 use Rattle.run.specs.Given.{instruction-fields, constants-below}
 use Rattle.optimize.specs.Parts.{cellsIn, cells-in, words-long, wordsIn, Given, Checked, numberedCode, wordsOf}
 
@@ -93,6 +94,10 @@ module _ (n : ℕ) (code metadata : List ℕ) (S : Sections) (g : Given n code m
     pub numbered-operands : (p : ℕ) → p < n → operandRefusal (S .locals) (S .tables) (cellAt (numberedCode S cells) p) ≡ 0
     unfolding numberedFunction
     numbered-operands p h = removing function well some-code few-code (k .operands) (k .branches) .operands p (rw numbered-size h)
+
+    pub numbered-none : (p : ℕ) → p < n → isControl (class (cellAt (cellsIn n code metadata) p .instruction)) ≡ false → isControl (class (cellAt (numberedCode S cells) p .instruction)) ≡ false
+    unfolding numberedFunction
+    numbered-none p h e = numbered-control function well some-code few-code (k .operands) (k .branches) p (rw given-long h) e
 
     pub numbered-inside : (p : ℕ) → p < n → branchInside n p (cellAt (numberedCode S cells) p .instruction) ≡ true
     unfolding numberedFunction

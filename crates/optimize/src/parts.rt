@@ -1,8 +1,9 @@
-// One pass on the parts of a unit: refusals 5 to 10, unchanged and rewritten.
+// One pass on the parts of a unit: refusals 5 to 10, unchanged and rewritten. The list of the control places stands in the 64-bit
+// work behind what numbering and liveness take: `count` of them from `at` on.
 ghost use mathlib.Core.Path.{_≡_};
 ghost use mathlib.Core.List.{List};
 ghost use Prim.Native.Nat.{ℕ, _+_, _*_, _/_, _≤_, _<_};
-ghost use lib.ListN.{length};
+ghost use lib.ListN.{length, drop};
 ghost use borrow.Rule.Slice.PartMut.{midOf};
 ghost use Rattle.unit.specs.Size.{instructionSize, metadataSize, resultSize, work32Room, maxInstructions};
 ghost use Rattle.effects.specs.declared.Check.{Check};
@@ -10,18 +11,20 @@ ghost use Rattle.effects.specs.Check.{operandCheck};
 ghost use Rattle.effects.specs.Shape.{Tables, tablesOf};
 ghost use Rattle.effects.specs.Cells.{cellsBy};
 ghost use Rattle.flow.specs.BranchLaws.{BranchesInside};
+ghost use Rattle.flow.specs.Control.{Controls};
 ghost use Rattle.pc_map.specs.Listed.{Listed};
 ghost use Rattle.answer.specs.Pass.{optimized, removal};
 ghost use Rattle.removal.specs.Kept.{sectionsIn, keepAt};
 ghost use Rattle.optimize.specs.Parts.{Tells, wordsIn, cellsIn, Given, Room, Checked, afterOperands, afterBranches, afterLoops};
 ghost use Rattle.numbering.specs.Walk.{sectionsOf};
-ghost use Rattle.optimize.specs.Steps.{Finished, Marks, Reached, Renumbered, Numberable};
+ghost use Rattle.optimize.specs.Steps.{Finished, ListedControls, Marks, Reached, Renumbered, Numberable};
 use crate::Answer;
 use crate::code;
 use effects::Check;
 use effects::operands;
 use flow::block;
 use flow::branch;
+use flow::control;
 use flow::hint;
 use flow::reach;
 use numbering::walk;
@@ -29,18 +32,20 @@ use pc_map::boundary;
 use pc_map::relocation;
 use pc_map::retained;
 use removal::retain;
+use unit::size;
 
 // "unchanged: same code, all kept", refusal 10, or rewritten.
 fn conclude(
     code: &[u8],
     metadata: &[u8],
     words: &[u64],
+    list: &[u64],
     keep: &[u32],
     bounds: &[u32],
     kept: &[u32],
     out: &mut [u8],
 ) -> Answer
-    requires { ⌜ Listed (now keep) (now bounds) (now kept) (length (now words)) × (instructionSize * length (now words) ≤ length (now code)) × (metadataSize * length (now words) ≤ length (now metadata)) × BranchesInside (now words) × (resultSize (length (now words)) ≤ length (now out)) ⌝ }
+    requires { ⌜ Listed (now keep) (now bounds) (now kept) (length (now words)) × (instructionSize * length (now words) ≤ length (now code)) × (metadataSize * length (now words) ≤ length (now metadata)) × BranchesInside (now words) × (resultSize (length (now words)) ≤ length (now out)) × Controls (now words) (now list) (length (now words)) ⌝ }
     ensures { λ r. ⌜ Tells (removal (cellsIn (length (now (words .entry))) (now (code .entry)) (now (metadata .entry))) (cellsBy (now (words .entry)) (now (metadata .entry))) (now (keep .entry))) r (now (out .entry)) (now (out .exit)) ⌝ }
 {
     let n = words.len();
@@ -48,7 +53,7 @@ fn conclude(
     if (retained as usize == n) & code::is_same(code, words) {
         return Answer::Unchanged;
     }
-    match relocation::check_relocation(words, metadata, keep) {
+    match relocation::check_relocation(words, list, metadata, keep) {
         Check::Refused(k, p) => Answer::Refused(k, p),
         Check::Passed => {
             retained::write_retained(words, metadata, bounds, kept, out);
@@ -65,19 +70,22 @@ fn finish(
     work32: &[u32],
     work64: &[u64],
     n: usize,
+    at: usize,
+    count: usize,
 ) -> Answer
-    requires { ⌜ Finished n (now code) (now metadata) (length (now out)) (now work32) (now work64) ⌝ }
+    requires { ⌜ Finished n (now code) (now metadata) (length (now out)) (now work32) (now work64) × (at + count ≤ length (now work64)) × Controls (midOf 0 n (now work64)) (midOf at count (now work64)) n ⌝ }
     ensures { λ r. ⌜ Tells (removal (cellsIn n (now (code .entry)) (now (metadata .entry))) (cellsBy (midOf 0 n (now (work64 .entry))) (now (metadata .entry))) (midOf (keepAt n) n (now (work32 .entry)))) r (now (out .entry)) (now (out .exit)) ⌝ }
 {
-    let at = 3 * n + 1;
-    let end = at + n;
+    let keep = 3 * n + 1;
+    let end = keep + n;
     let list = 6 * n + 2;
     let retained = work32[end + n] as usize;
     conclude(
         code,
         metadata,
         &work64[0..n],
-        &work32[at..end],
+        &work64[at..at + count],
+        &work32[keep..end],
         &work32[end..end + n + 1],
         &work32[list..list + retained],
         out,
@@ -97,8 +105,10 @@ fn after_loops(
     work32: &mut [u32],
     work64: &mut [u64],
     n: usize,
+    at: usize,
+    count: usize,
 ) -> Answer
-    requires { ⌜ Given n (now code) (now metadata) (sectionsIn (now types) (now constants) (now functions) (now externs) (now cases)) × Room n (length (now types)) (length (now out)) (length (now work32)) (length (now work64)) × Checked (sectionsIn (now types) (now constants) (now functions) (now externs) (now cases)) (cellsIn n (now code) (now metadata)) × Marks (sectionsIn (now types) (now constants) (now functions) (now externs) (now cases)) (cellsIn n (now code) (now metadata)) n (now work32) (now work64) ⌝ }
+    requires { ⌜ Given n (now code) (now metadata) (sectionsIn (now types) (now constants) (now functions) (now externs) (now cases)) × Room n (length (now types)) (length (now out)) (length (now work32)) (length (now work64)) × Checked (sectionsIn (now types) (now constants) (now functions) (now externs) (now cases)) (cellsIn n (now code) (now metadata)) × Marks (sectionsIn (now types) (now constants) (now functions) (now externs) (now cases)) (cellsIn n (now code) (now metadata)) n (now work32) (now work64) × ListedControls n (length (now types)) at count (now work64) ⌝ }
     ensures { λ r. ⌜ Tells (afterLoops (sectionsIn (now (types .entry)) (now (constants .entry)) (now (functions .entry)) (now (externs .entry)) (now (cases .entry))) (cellsIn n (now (code .entry)) (now (metadata .entry)))) r (now (out .entry)) (now (out .exit)) ⌝ }
 {
     retain::retain(
@@ -110,20 +120,22 @@ fn after_loops(
         work32,
         work64,
         n,
+        at,
+        count,
     );
-    let at = 3 * n + 1;
-    boundary::list_kept(&mut work32[at..], n, at);
-    finish(code, metadata, out, &work32[..], &work64[..], n)
+    let keep = 3 * n + 1;
+    boundary::list_kept(&mut work32[keep..], n, keep);
+    finish(code, metadata, out, &work32[..], &work64[..], n, at, count)
 }
 
 // Marks the reached places. Refusal 9.
-fn reach(metadata: &[u8], work32: &mut [u32], words: &[u64], n: usize) -> Check
-    requires { ⌜ (1 < n) × (length (now words) ≡ n) × (n ≤ maxInstructions) × (length (now metadata) ≡ metadataSize * n) × (work32Room n ≤ length (now work32)) ⌝ }
+fn reach(metadata: &[u8], work32: &mut [u32], words: &[u64], list: &[u64], n: usize) -> Check
+    requires { ⌜ (1 < n) × (length (now words) ≡ n) × (n ≤ maxInstructions) × (length (now metadata) ≡ metadataSize * n) × (work32Room n ≤ length (now work32)) × Controls (now words) (now list) (length (now words)) ⌝ }
     ensures { λ r. ⌜ Reached n (now (metadata .entry)) (now (words .entry)) (now (work32 .entry)) (now (work32 .exit)) r ⌝ }
 {
     let at = 3 * n + 1;
     reach::mark_reached(words, metadata, &mut work32[at..]);
-    hint::check_loops(words, metadata, &work32[at..at + n])
+    hint::check_loops(words, list, metadata, &work32[at..at + n])
 }
 
 // From refusal 9 on: the code is numbered, and its leaders are known.
@@ -139,11 +151,13 @@ fn after_branches(
     work32: &mut [u32],
     work64: &mut [u64],
     n: usize,
+    at: usize,
+    count: usize,
 ) -> Answer
-    requires { ⌜ Given n (now code) (now metadata) (sectionsIn (now types) (now constants) (now functions) (now externs) (now cases)) × Room n (length (now types)) (length (now out)) (length (now work32)) (length (now work64)) × Checked (sectionsIn (now types) (now constants) (now functions) (now externs) (now cases)) (cellsIn n (now code) (now metadata)) × Renumbered (sectionsIn (now types) (now constants) (now functions) (now externs) (now cases)) (cellsIn n (now code) (now metadata)) n (now work32) (now work64) ⌝ }
+    requires { ⌜ Given n (now code) (now metadata) (sectionsIn (now types) (now constants) (now functions) (now externs) (now cases)) × Room n (length (now types)) (length (now out)) (length (now work32)) (length (now work64)) × Checked (sectionsIn (now types) (now constants) (now functions) (now externs) (now cases)) (cellsIn n (now code) (now metadata)) × Renumbered (sectionsIn (now types) (now constants) (now functions) (now externs) (now cases)) (cellsIn n (now code) (now metadata)) n (now work32) (now work64) × ListedControls n (length (now types)) at count (now work64) ⌝ }
     ensures { λ r. ⌜ Tells (afterBranches (sectionsIn (now (types .entry)) (now (constants .entry)) (now (functions .entry)) (now (externs .entry)) (now (cases .entry))) (cellsIn n (now (code .entry)) (now (metadata .entry)))) r (now (out .entry)) (now (out .exit)) ⌝ }
 {
-    match reach(metadata, work32, &work64[0..n], n) {
+    match reach(metadata, work32, &work64[0..n], &work64[at..at + count], n) {
         Check::Refused(k, p) => Answer::Refused(k, p),
         Check::Passed => after_loops(
             code,
@@ -157,17 +171,27 @@ fn after_branches(
             work32,
             work64,
             n,
+            at,
+            count,
         ),
     }
 }
 
 // Marks the leaders and numbers the code.
-fn number(types: &[u8], constants: &[u8], work32: &mut [u32], work64: &mut [u64], n: usize)
-    requires { ⌜ Numberable n (length (now types)) (length (now work32)) (now work64) ⌝ }
-    ensures { λ _. ⌜ ((metadata : List ℕ) (locals : ℕ) (tables : Tables) → Renumbered (sectionsOf (now (types .entry)) (now (constants .entry)) locals tables) (cellsBy (midOf 0 n (now (work64 .entry))) metadata) n (now (work32 .exit)) (now (work64 .exit))) ⌝ }
+fn number(
+    types: &[u8],
+    constants: &[u8],
+    work32: &mut [u32],
+    work64: &mut [u64],
+    n: usize,
+    at: usize,
+    count: usize,
+)
+    requires { ⌜ Numberable n (length (now types)) (length (now work32)) (now work64) × ListedControls n (length (now types)) at count (now work64) ⌝ }
+    ensures { λ _. ⌜ ((metadata : List ℕ) (locals : ℕ) (tables : Tables) → Renumbered (sectionsOf (now (types .entry)) (now (constants .entry)) locals tables) (cellsBy (midOf 0 n (now (work64 .entry))) metadata) n (now (work32 .exit)) (now (work64 .exit))) × (drop at (now (work64 .exit)) ≡ drop at (now (work64 .entry))) ⌝ }
 {
-    block::mark_leaders(&work64[0..n], &mut work32[0..n]);
-    walk::number_code(work64, &work32[0..n], types, constants);
+    block::mark_leaders(&work64[0..n], &work64[at..at + count], &mut work32[0..n]);
+    walk::number_code(&mut work64[0..at], &work32[0..n], types, constants);
 }
 
 // From refusal 8 on: the code is loaded.
@@ -183,14 +207,16 @@ fn after_operands(
     work32: &mut [u32],
     work64: &mut [u64],
     n: usize,
+    at: usize,
+    count: usize,
 ) -> Answer
-    requires { ⌜ Given n (now code) (now metadata) (sectionsIn (now types) (now constants) (now functions) (now externs) (now cases)) × Room n (length (now types)) (length (now out)) (length (now work32)) (length (now work64)) × (operandCheck (length (now types)) (tablesOf (now functions) (now externs) (now cases)) (cellsIn n (now code) (now metadata)) ≡ Check.Passed) × (midOf 0 n (now work64) ≡ wordsIn n (now code)) ⌝ }
+    requires { ⌜ Given n (now code) (now metadata) (sectionsIn (now types) (now constants) (now functions) (now externs) (now cases)) × Room n (length (now types)) (length (now out)) (length (now work32)) (length (now work64)) × (operandCheck (length (now types)) (tablesOf (now functions) (now externs) (now cases)) (cellsIn n (now code) (now metadata)) ≡ Check.Passed) × (midOf 0 n (now work64) ≡ wordsIn n (now code)) × ListedControls n (length (now types)) at count (now work64) ⌝ }
     ensures { λ r. ⌜ Tells (afterOperands (sectionsIn (now (types .entry)) (now (constants .entry)) (now (functions .entry)) (now (externs .entry)) (now (cases .entry))) (cellsIn n (now (code .entry)) (now (metadata .entry)))) r (now (out .entry)) (now (out .exit)) ⌝ }
 {
-    match branch::check_branches(&work64[0..n]) {
+    match branch::check_branches(&work64[0..n], &work64[at..at + count]) {
         Check::Refused(k, p) => Answer::Refused(k, p),
         Check::Passed => {
-            number(types, constants, work32, work64, n);
+            number(types, constants, work32, work64, n, at, count);
             after_branches(
                 code,
                 metadata,
@@ -203,6 +229,8 @@ fn after_operands(
                 work32,
                 work64,
                 n,
+                at,
+                count,
             )
         }
     }
@@ -235,18 +263,24 @@ pub fn optimize(
         cases,
     ) {
         Check::Refused(k, p) => Answer::Refused(k, p),
-        Check::Passed => after_operands(
-            code,
-            metadata,
-            types,
-            constants,
-            functions,
-            externs,
-            cases,
-            out,
-            work32,
-            work64,
-            n,
-        ),
+        Check::Passed => {
+            let at = size::work64_room(n, types.len()) - n;
+            let count = control::list_control(work64, n, at);
+            after_operands(
+                code,
+                metadata,
+                types,
+                constants,
+                functions,
+                externs,
+                cases,
+                out,
+                work32,
+                work64,
+                n,
+                at,
+                count,
+            )
+        }
     }
 }

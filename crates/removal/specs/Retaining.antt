@@ -15,7 +15,7 @@ use borrow.Rule.Slice.PartMut.{midOf, putMid, postOf}
 use Rattle.words.specs.Lists.{mapFrom, length-mapFrom, tabulate, length-tabulate}
 use Rattle.words.specs.Only.{mid-mid, back-within, back-before}
 use Rattle.words.specs.Regions.{mid-long, put-long, mid-put}
-use Rattle.unit.specs.Size.{metadataSize, work32Room, setsRoom, maxInstructions}
+use Rattle.unit.specs.Size.{metadataSize, maxInstructions}
 use Rattle.effects.specs.Shape.{Tables, Sections, Cell, tablesOf}
 use Rattle.effects.specs.Cells.{cellOf, cellsBy, cells-long}
 use Rattle.flow.specs.Blocks.{Numbered, numbered-start}
@@ -37,6 +37,10 @@ use Rattle.answer.specs.Jump.{jumpRounds}
 use Rattle.answer.specs.Pass.{keptPlaces, usefulPlaces}
 use Rattle.removal.specs.Jumping.{Rounds, endsIn, mapOf}
 use Rattle.removal.specs.Kept.{sectionsIn, keepAt, endsAt, Useful, Stored, Retainable, Retains}
+
+-- what lies behind a front part that was lent is as it was
+pub drop-behind : (xs front : List ℕ) (at l : ℕ) → l ≡ at → length front ≡ at → drop at (putMid 0 l xs front) ≡ drop at xs
+drop-behind xs front at l e long = drop-at front (postOf 0 l xs) at long ∙ ap (λ (j : ℕ). drop j xs) e
 
 -- what dropping hints asks, with the parts' lengths as the code has them
 pub hints-asks : {T : Tables} {types leads marks : List ℕ} (n k at count m : ℕ) (metadata work32 work64 : List ℕ) → k ≡ n → m ≡ count
@@ -163,7 +167,7 @@ module _ (n k : ℕ) (metadata types functions externs cases work32 work64 hinte
 
     -- what lies behind the part is as it was
     pub behind-same : drop at (putMid 0 l work64 front) ≡ drop at work64
-    behind-same = drop-at front (postOf 0 l work64) at (long64 ∙ front-long) ∙ ap (λ (j : ℕ). drop j work64) f
+    behind-same = drop-behind work64 front at l f (long64 ∙ front-long)
 
     pub stores-long : length work32′ ≡ length work32
     stores-long = long32 ∙ long₁

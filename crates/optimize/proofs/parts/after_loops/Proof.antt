@@ -7,6 +7,7 @@ use Rattle.unit.specs.Size.{work32Room}
 use Rattle.removal.specs.Kept.{sectionsIn}
 use Rattle.optimize.specs.Parts.{tells-same}
 use Rattle.optimize.specs.Chain.{marks-retainable, kept-finished, kept-answer}
+use Rattle.optimize.specs.Steps.{list-still}
 use Rattle.optimize.specs.Listing.{list-asks, list-retains}
 use borrow.Author.Needs.{needs}
 use Rattle.optimize.proofs.parts.after_loops.Statement.{statement}
@@ -16,7 +17,8 @@ retain-requires : tie.Need-retain-requires
 retain-requires c κs =
     let s = c .before .before .before .before .before .before .before .before .before .before .before .before in
     let a = s .args in
-    marks-retainable (a .n) (a .code .now) (a .metadata .now) (sectionsIn (a .types .now) (a .constants .now) (a .functions .now) (a .externs .now) (a .cases .now)) (s .pre .0) (s .pre .2) (length (a .out .now)) (a .work32 .now) (a .work64 .now) (s .pre .1) (s .pre .3) refl
+    let l = s .pre .4 in
+    (marks-retainable (a .n) (a .code .now) (a .metadata .now) (sectionsIn (a .types .now) (a .constants .now) (a .functions .now) (a .externs .now) (a .cases .now)) (s .pre .0) (s .pre .2) (length (a .out .now)) (a .work32 .now) (a .work64 .now) (s .pre .1) (s .pre .3) refl (a .at) (l .sets), l .within, l .controls)
 
 abbrev start : tie.After-retain → tie.Start
 start r = r .before .before .before .before .before .before .before .before .before .before .before .before .before
@@ -35,7 +37,7 @@ list-kept-requires : tie.Need-list-kept-requires
 list-kept-requires c κs =
     let r = c .before .before .before .before .before in
     let s = start r in
-    list-asks (r .retain .ensures (s .args .constants .now)) (s .pre .0 .few) (room r)
+    list-asks (r .retain .ensures .0 (s .args .constants .now)) (s .pre .0 .few) (room r)
 
 finish-requires : tie.Need-finish-requires
 finish-requires c κs =
@@ -43,8 +45,9 @@ finish-requires c κs =
     let r = l .before .before .before .before .before .before in
     let s = start r in
     let a = s .args in
-    let w = list-retains (r .retain .ensures (a .constants .now)) (s .pre .0 .few) (room r) (l .list-kept .last .0) (l .list-kept .kept .0) (l .list-kept .ensures .0) (l .list-kept .ensures .1) in
-    kept-finished (a .n) (a .code .now) (a .metadata .now) (sectionsIn (a .types .now) (a .constants .now) (a .functions .now) (a .externs .now) (a .cases .now)) (s .pre .0) (s .pre .2) (length (a .out .now)) (a .work32 .now) (a .work64 .now) (s .pre .1) (s .pre .3) refl (w .0 ∙ long r) (r .retain .kept .1 .1 .1 .1 .1 .1 .0) refl (w .1) (w .2)
+    let w = list-retains (r .retain .ensures .0 (a .constants .now)) (s .pre .0 .few) (room r) (l .list-kept .last .0) (l .list-kept .kept .0) (l .list-kept .ensures .0) (l .list-kept .ensures .1) in
+    let l = list-still (s .pre .4) (r .retain .kept .1 .1 .1 .1 .1 .1 .0) (r .retain .ensures .1) (r .retain .ensures .0 (a .constants .now) .code) in
+    (kept-finished (a .n) (a .code .now) (a .metadata .now) (sectionsIn (a .types .now) (a .constants .now) (a .functions .now) (a .externs .now) (a .cases .now)) (s .pre .0) (s .pre .2) (length (a .out .now)) (a .work32 .now) (a .work64 .now) (s .pre .1) (s .pre .3) refl (w .0 ∙ long r) (r .retain .kept .1 .1 .1 .1 .1 .1 .0) refl (w .1) (w .2), l .within, l .controls)
 
 returns : tie.Need-returns
 returns c =
@@ -52,7 +55,7 @@ returns c =
     let r = l .before .before .before .before .before .before in
     let s = start r in
     let a = s .args in
-    let w = list-retains (r .retain .ensures (a .constants .now)) (s .pre .0 .few) (room r) (l .list-kept .last .0) (l .list-kept .kept .0) (l .list-kept .ensures .0) (l .list-kept .ensures .1) in
+    let w = list-retains (r .retain .ensures .0 (a .constants .now)) (s .pre .0 .few) (room r) (l .list-kept .last .0) (l .list-kept .kept .0) (l .list-kept .ensures .0) (l .list-kept .ensures .1) in
     tells-same _ _ _ _ _
     (kept-answer (a .n) (a .code .now) (a .metadata .now) (sectionsIn (a .types .now) (a .constants .now) (a .functions .now) (a .externs .now) (a .cases .now)) (s .pre .0) (s .pre .2) (length (a .out .now)) (a .work32 .now) (a .work64 .now) (s .pre .1) (s .pre .3) refl (w .0 ∙ long r) (r .retain .kept .1 .1 .1 .1 .1 .1 .0) refl (w .1))
     (c .before .before .finish .ensures)

@@ -11,11 +11,11 @@ use Rattle.optimize.proofs.parts.conclude.Statement.{statement}
 use Rattle.optimize.proofs.parts.conclude.Tie as tie
 
 abbrev start : tie.After-is-same → tie.Start
-start i = i .before .before .before .before .before .before .before .before .before
+start i = i .before .before .before .before .before .before .before .before .before .before
 
 known : (i : tie.After-is-same) → let a = start i .args in Known (a .code .now) (a .words .now) (a .keep .now) (a .bounds .now) (a .kept .now)
 known i =
-    let b = i .before .before .before .before .before .before in
+    let b = i .before .before .before .before .before .before .before in
     record {
       bytes = λ j. omega (arith, b .before .before .shared-slice-known .given j);
       fits = λ j. omega (arith, b .shared-slice-known3 .given j);
@@ -29,11 +29,11 @@ tested i t e = let a = start i .args in ap (λ (t : Bool). eqb (getD (a .bounds 
 
 shared-slice-read-retained : tie.Need-shared-slice-read-retained
 shared-slice-read-retained c =
-    let s = c .before .before .before .before .before .before .before .before in
+    let s = c .before .before .before .before .before .before .before .before .before in
     omega (arith, mapped-long (s .args .keep .now) (s .args .bounds .now) (s .pre .0 .mapped), s .pre .0 .long)
 
 cast-if1 : tie.Need-cast-if1
-cast-if1 c = let s = c .before .before .before .before .before .before .before .before in omega (arith, c .shared-slice-known7 .given (length (s .args .words .now)))
+cast-if1 c = let s = c .before .before .before .before .before .before .before .before .before in omega (arith, c .shared-slice-known8 .given (length (s .args .words .now)))
 
 returns : tie.Need-returns
 returns c =

@@ -1,75 +1,69 @@
-use mathlib.Core.Path.{refl}
-use mathlib.Core.Path.{_∙_}
-use Rattle.words.specs.Regions.{mid-long}
-use Prim.Native.Nat.{_-_}
+use mathlib.Core.Path.{_≡_, refl, _∙_}
+use Prim.Native.Nat.{_+_, _-_}
 use native.Mathlib.Omega.{arith}
 use lib.ListN.{length}
-use Rattle.optimize.specs.Steps.{number-asks, number-renumbered}
+use Rattle.words.specs.Regions.{mid-long}
+use Rattle.removal.specs.Retaining.{drop-behind}
+use Rattle.optimize.specs.Steps.{leaders-asks, number-asks, number-renumbered}
 use borrow.Author.Needs.{needs}
 use Rattle.optimize.proofs.parts.number.Statement.{statement}
 use Rattle.optimize.proofs.parts.number.Tie as tie
 
-sub-mark-leaders : tie.Need-sub-mark-leaders
-sub-mark-leaders c = search needs
-
-part-mark-leaders-start : tie.Need-part-mark-leaders-start
-part-mark-leaders-start c = search needs
-
-part-mark-leaders-end : tie.Need-part-mark-leaders-end
-part-mark-leaders-end c = search needs
-
-sub-mark-leaders-2 : tie.Need-sub-mark-leaders-2
-sub-mark-leaders-2 c = search needs
-
-part-mark-leaders-start-2 : tie.Need-part-mark-leaders-start-2
-part-mark-leaders-start-2 c = search needs
-
-part-mark-leaders-end-2 : tie.Need-part-mark-leaders-end-2
-part-mark-leaders-end-2 c = search needs
-
 mark-leaders-requires : tie.Need-mark-leaders-requires
-mark-leaders-requires c κs = search needs
+mark-leaders-requires c κs =
+    let s = c .before .before .before .before .before .before .before .before in
+    let a = s .args in
+    leaders-asks (a .work32 .now) (s .pre .0) (s .pre .1) (a .n - 0) (a .n - 0) (a .at + a .count - a .at) (omega arith) (omega arith) (omega arith)
 
-sub-number-code : tie.Need-sub-number-code
-sub-number-code c = search needs
+abbrev start : tie.After-mark-leaders → tie.Start
+start m = m .before .before .before .before .before .before .before .before .before
 
-part-number-code-start : tie.Need-part-number-code-start
-part-number-code-start c = search needs
-
-part-number-code-end : tie.Need-part-number-code-end
-part-number-code-end c = search needs
+size : (m : tie.After-mark-leaders) → length (m .mark-leaders .last .1 .1 .0) ≡ start m .args .n - 0
+size m = let s = start m in m .mark-leaders .kept .1 .1 .0 ∙ mid-long (s .args .work32 .now) 0 (s .args .n - 0) (omega (arith, s .pre .0 .long32))
 
 number-code-requires : tie.Need-number-code-requires
 number-code-requires c κs =
-    let s = c .before .before .before .before .before .before .before .before .before .before .before .before .before in
-    number-asks (s .args .n) (s .args .n - 0) (length (s .args .types .now)) (s .args .work32 .now) (s .args .work64 .now) (c .before .before .before .before .before .mark-leaders .last .1 .0) (omega arith) (c .before .before .before .before .before .mark-leaders .kept .1 .0 ∙ mid-long (s .args .work32 .now) 0 (s .args .n - 0) (omega (arith, s .pre .long32))) (s .pre) (s .args .types .now) refl
-
-same-length : tie.Need-same-length
-same-length c = search needs
-
-same-length-2 : tie.Need-same-length-2
-same-length-2 c = search needs
+    let m = c .before .before .before .before .before in
+    let s = start m in
+    let a = s .args in
+    number-asks (a .n) (a .n - 0) (length (a .types .now)) (a .at) (a .count) (a .at - 0) (a .work32 .now) (a .work64 .now) (m .mark-leaders .last .1 .1 .0) (omega arith) (omega arith) (size m) (s .pre .0) (s .pre .1) (a .types .now) refl
 
 returns : tie.Need-returns
-returns c = let s = c .before .before .before .before .before .before .before .before .before .before .before .before .before .before .before .before in
-    λ metadata locals tables.
-    number-renumbered (s .args .n) (s .args .n - 0) (length (s .args .types .now)) (s .args .work32 .now) (s .args .work64 .now) (c .before .before .before .before .before .before .before .before .mark-leaders .last .1 .0) (omega arith) (c .before .before .before .before .before .before .before .before .mark-leaders .kept .1 .0 ∙ mid-long (s .args .work32 .now) 0 (s .args .n - 0) (omega (arith, s .pre .long32))) (s .pre) _ metadata _ (c .before .before .before .before .before .before .before .before .mark-leaders .ensures metadata) (c .before .before .number-code .ensures metadata locals tables)
+returns c =
+    let m = c .before .before .before .before .before .before .before .before in
+    let s = start m in
+    let a = s .args in
+    let w = c .before .before in
+    let whole : a .at - 0 ≡ a .at = omega arith in (
+      λ metadata locals tables.
+          number-renumbered (a .n) (a .n - 0) (length (a .types .now)) (a .at) (a .count) (a .at - 0) (a .work32 .now) (a .work64 .now) (m .mark-leaders .last .1 .1 .0) (omega arith) (omega arith) (size m) (s .pre .0) (s .pre .1) _ metadata (w .number-code .last .0) (w .number-code .kept .0)
+          (m .mark-leaders .ensures metadata) (w .number-code .ensures metadata locals tables),
+      drop-behind (a .work64 .now) (w .number-code .last .0) (a .at) (a .at - 0) (omega arith) (w .number-code .kept .0 ∙ mid-long (a .work64 .now) 0 (a .at - 0) (omega (arith, s .pre .1 .within)) ∙ whole),
+    )
 
 pub number-spec : {M : Type 1} → statement M
 number-spec =
     tie.close
     (tie.spec
-    sub-mark-leaders
-    part-mark-leaders-start
-    part-mark-leaders-end
-    sub-mark-leaders-2
-    part-mark-leaders-start-2
-    part-mark-leaders-end-2
+    (λ c. search needs)
+    (λ c. search needs)
+    (λ c. search needs)
+    (λ c. search needs)
+    (λ c. search needs)
+    (λ c. search needs)
+    (λ c. search needs)
+    (λ c. search needs)
+    (λ c. search needs)
+    (λ c. search needs)
+    (λ c. search needs)
     mark-leaders-requires
-    sub-number-code
-    part-number-code-start
-    part-number-code-end
+    (λ c. search needs)
+    (λ c. search needs)
+    (λ c. search needs)
+    (λ c. search needs)
+    (λ c. search needs)
+    (λ c. search needs)
     number-code-requires
-    same-length
-    same-length-2
+    (λ c. search needs)
+    (λ c. search needs)
     returns)

@@ -46,7 +46,7 @@ same-length : tie.Need-same-length
 same-length c = search needs
 
 returns : tie.Need-returns
-returns c = let s = c .before .before .before .before .before .before .before .before .before .before in reach-marks (s .args .n) (s .args .metadata .now) (s .args .words .now) (s .args .work32 .now) (c .before .before .before .before .before .mark-reached .last .1 .1 .0) _ (s .pre .4) (s .pre .1) (c .before .before .before .before .before .mark-reached .kept .1 .1 .0) (c .before .before .before .before .before .mark-reached .ensures .0) (c .check-loops .ensures)
+returns c = let s = c .before .before .before .before .before .before .before .before .before .before .before in reach-marks (s .args .n) (s .args .metadata .now) (s .args .words .now) (s .args .work32 .now) (c .before .before .before .before .before .mark-reached .last .1 .1 .0) _ (s .pre .4) (s .pre .1) (c .before .before .before .before .before .mark-reached .kept .1 .1 .0) (c .before .before .before .before .before .mark-reached .ensures .0) (c .check-loops .ensures)
 
 pub reach-spec : {M : Type 1} → statement M
 reach-spec =
