@@ -10,7 +10,7 @@ ghost use Rattle.unit.specs.Entry.{metadataAt, goodMetadata};
 ghost use Rattle.effects.specs.Shape.{tablesOf};
 ghost use Rattle.effects.specs.Effects.{allReads, writes, allOf};
 ghost use Rattle.effects.specs.Check.{effectsSound, operandRefusal, operandCheck};
-ghost use Rattle.effects.specs.Cells.{cellsBy};
+ghost use Rattle.effects.specs.Cells.{cellOf, cellsBy};
 ghost use Rattle.effects.specs.Ranges.{CasesInside};
 ghost use Rattle.effects.specs.Operands.{slots, rangeHolds};
 use crate::Check;
@@ -154,10 +154,10 @@ fn ranges_refusal(
     refusal::EFFECT_ERROR
 }
 
-// The refusal of one instruction's operands, or 0. "By lowest p: Invalid; effect error; a slot at or past s".
+// The refusal of one instruction's operands, by its word, or 0. "By lowest p: Invalid; effect error; a slot at or past s".
 pub fn operand_refusal(
     locals: usize,
-    i: Instruction,
+    w: u64,
     metadata: &[u8],
     p: usize,
     functions: &[u8],
@@ -165,18 +165,19 @@ pub fn operand_refusal(
     cases: &[u8],
 ) -> u32
     requires { ⌜ (locals ≤ maxLocalSlots) × (metadataSize * p + metadataSize ≤ length (now metadata)) × (goodMetadata (length (now cases) / caseSize) (metadataAt (now metadata) p) ≡ true) ⌝ }
-    ensures { λ r. ⌜ r ≡ operandRefusal locals (tablesOf (now (functions .entry)) (now (externs .entry)) (now (cases .entry))) (record { instruction = i; metadata = metadataAt (now (metadata .entry)) p }) ⌝ }
+    ensures { λ r. ⌜ r ≡ operandRefusal locals (tablesOf (now (functions .entry)) (now (externs .entry)) (now (cases .entry))) (cellOf (now (metadata .entry)) p w) ⌝ }
 {
-    let op = i.op;
+    let op = (w % 256) as u8;
     if op > MAX_VALID {
         return refusal::INVALID_OPCODE;
     }
     let row = table::row(op);
     if !plain::is_plain(op, row) {
+        let i = Instruction::from_word(w);
         let m = entry::metadata(metadata, p);
         return ranges_refusal(locals, i, m, functions, externs, cases);
     }
-    if plain::is_within(locals, row, i) {
+    if plain::is_within(locals, row, w) {
         return 0;
     }
     refusal::SLOT_OUTSIDE
@@ -195,8 +196,7 @@ pub fn check_operands(
 {
     let mut p: usize = 0;
     while p < words.len() {
-        let i = Instruction::from_word(words[p]);
-        let number = operand_refusal(locals, i, metadata, p, functions, externs, cases);
+        let number = operand_refusal(locals, words[p], metadata, p, functions, externs, cases);
         if number != 0 {
             return Check::Refused(number, p as u32);
         }

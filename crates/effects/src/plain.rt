@@ -2,10 +2,10 @@
 // comparisons alone.
 ghost use mathlib.Core.Path.{_≡_};
 ghost use Prim.Native.Nat.{_/_, _%_, _<_};
+ghost use Rattle.instruction.specs.Instruction.{ofWord};
 ghost use Rattle.effects.specs.Plain.{isPlain, plainWithin};
 use crate::form;
 use crate::table;
-use instruction::Instruction;
 
 pub fn is_plain(op: u8, row: u64) -> bool
     ensures { λ r. ⌜ r ≡ isPlain op row ⌝ }
@@ -13,14 +13,14 @@ pub fn is_plain(op: u8, row: u64) -> bool
     (op != table::SELECT_EXEC) & (row < 0x30000) & (row / 256 % 256 < 3)
 }
 
-// Of a plain row: no slot is at or past the limit.
-pub fn is_within(limit: usize, row: u64, i: Instruction) -> bool
+// Of a plain row and an instruction's word: no slot is at or past the limit.
+pub fn is_within(limit: usize, row: u64, w: u64) -> bool
     requires { ⌜ (row < 0x30000) × (row / 256 % 256 < 3) ⌝ }
-    ensures { λ r. ⌜ r ≡ plainWithin limit row i ⌝ }
+    ensures { λ r. ⌜ r ≡ plainWithin limit row (ofWord w) ⌝ }
 {
-    let first = form::slot(row / 256 % 256, i);
-    let second = form::slot(row / 65536 % 256, i);
-    let a = i.a as usize;
+    let first = form::field(w, row / 256 % 256);
+    let second = form::field(w, row / 65536 % 256);
+    let a = form::field(w, 0);
     ((row % 16 == 0) | (first < limit))
         & ((row % 16 < 2) | (second < limit))
         & ((row / 16 % 16 == 0) | (a < limit))

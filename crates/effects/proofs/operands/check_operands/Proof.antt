@@ -18,25 +18,25 @@ abbrev μ-loop : tie.MeasureT-loop
 
 -- what a turn's call answers
 tested : (c : tie.After-operand-refusal Inv-loop μ-loop)
-    → let a = c .before .before .before .before .before .before .before .before .before .before .args in
-    let p = c .before .before .before .before .loop .p in
+    → let a = c .before .before .before .before .before .before .before .before .before .args in
+    let p = c .before .before .before .loop .p in
     c .operand-refusal .result ≡ operandRefusal (a .locals) (tablesOf (a .functions .now) (a .externs .now) (a .cases .now)) (cellOf (a .metadata .now) p (getD (a .words .now) p 0))
-tested c = rw (← c .before .from-word .ensures) (c .operand-refusal .ensures)
+tested c = c .operand-refusal .ensures
 
 operand-refusal-requires : tie.Need-operand-refusal-requires Inv-loop μ-loop
 operand-refusal-requires c κs =
-    (search needs, omega arith, c .before .before .before .before .before .before .before .before .before .pre .3 _ (c .before .before .loop-test .taken))
+    (search needs, omega arith, c .before .before .before .before .before .before .before .before .pre .3 _ (c .before .loop-test .taken))
 
 returns : tie.Need-returns Inv-loop μ-loop
 unfolding operandCheck
 returns c =
     let b = c .before in
-    refused-here (b .before .before .before .before .loop .inv) (b .before .before .before .loop-test .taken) (tested b) (c .if1 .taken)
+    refused-here (b .before .before .before .loop .inv) (b .before .before .loop-test .taken) (tested b) (c .if1 .taken)
 
 loop-again : tie.Need-loop-again Inv-loop μ-loop
 loop-again c =
     let b = c .before in
-    refused-later (b .before .before .before .before .loop .inv) (b .before .before .before .loop-test .taken) (tested b) (c .if1 .left)
+    refused-later (b .before .before .before .loop .inv) (b .before .before .loop-test .taken) (tested b) (c .if1 .left)
 
 returns-2 : tie.Need-returns-2 Inv-loop μ-loop
 unfolding operandCheck
@@ -51,7 +51,6 @@ check-operands-spec =
     (λ c. refused-first)
     (λ c. search needs)
     (λ c. search needs)
-    (λ c κs. search needs)
     operand-refusal-requires
     (λ c. search needs)
     returns
