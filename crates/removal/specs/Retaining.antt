@@ -11,10 +11,10 @@ use native.Mathlib.Omega.{arith}
 use lib.Dec.{eqb}
 use lib.ListN.{length, getD, take, drop, set, replicate, length-set, length-replicate, length-append}
 use lib.Seq.{take-at, drop-at, take-length}
-use borrow.Rule.Slice.PartMut.{midOf, putMid, postOf}
+use borrow.Rule.Slice.PartMut.{midOf, putMid}
 use Rattle.words.specs.Lists.{mapFrom, length-mapFrom, tabulate, length-tabulate}
 use Rattle.words.specs.Only.{mid-mid, back-within, back-before}
-use Rattle.words.specs.Regions.{mid-long, put-long, mid-put}
+use Rattle.words.specs.Regions.{mid-long, put-long, mid-put, drop-behind}
 use Rattle.unit.specs.Size.{metadataSize, maxInstructions}
 use Rattle.effects.specs.Shape.{Tables, Sections, Cell, tablesOf}
 use Rattle.effects.specs.Cells.{cellOf, cellsBy, cells-long}
@@ -37,10 +37,6 @@ use Rattle.answer.specs.Jump.{jumpRounds}
 use Rattle.answer.specs.Pass.{keptPlaces, usefulPlaces}
 use Rattle.removal.specs.Jumping.{Rounds, endsIn, mapOf}
 use Rattle.removal.specs.Kept.{sectionsIn, keepAt, endsAt, Useful, Stored, Retainable, Retains}
-
--- what lies behind a front part that was lent is as it was
-pub drop-behind : (xs front : List ℕ) (at l : ℕ) → l ≡ at → length front ≡ at → drop at (putMid 0 l xs front) ≡ drop at xs
-drop-behind xs front at l e long = drop-at front (postOf 0 l xs) at long ∙ ap (λ (j : ℕ). drop j xs) e
 
 -- what dropping hints asks, with the parts' lengths as the code has them
 pub hints-asks : {T : Tables} {types leads marks : List ℕ} (n k at count m : ℕ) (metadata work32 work64 : List ℕ) → k ≡ n → m ≡ count

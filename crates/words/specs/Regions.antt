@@ -137,6 +137,10 @@ module _ {X : Type 0} where
       pub outside-back : (c j : ℕ) → midOf (a + k + c) j w ≡ midOf (a + k + c) j xs
       outside-back c j = ap (take j) (sym (drop-drop c (a + k) w) ∙ ap (drop c) (o .after) ∙ drop-drop c (a + k) xs)
 
+-- what lies behind a front part that was lent is as it was
+pub drop-behind : (xs front : List ℕ) (at l : ℕ) → l ≡ at → length front ≡ at → drop at (putMid 0 l xs front) ≡ drop at xs
+drop-behind xs front at l e long = drop-at front (postOf 0 l xs) at long ∙ ap (λ (j : ℕ). drop j xs) e
+
 -- a turn of a loop that stores the values of f from a on
 pub tabulate-turn : (f : ℕ → ℕ) (xs w : List ℕ) (a k v : ℕ) → w ≡ putMid a k xs (tabulate k f) → v ≡ f k → a + k < length xs
     → set w (a + k) v ≡ putMid a (k + 1) xs (tabulate (k + 1) f)
