@@ -53,10 +53,5 @@ not-free types row start count k h e = sym (every-not count (λ k. freeSlot type
 pub all-free : (types row : List ℕ) (start count : ℕ) → ((k : ℕ) → k < count → freeSlot types row (start + k) ≡ true) → true ≡ freeRange types row (record { start = start; count = count })
 all-free types row start count f = sym (every-all count (λ k. freeSlot types row (start + k)) f)
 
-pub get-any : (l : List ℕ) (j : ℕ) → j < length l → getD l j 0 ≡ getD l j 1
-get-any [] j h = absurd (omega arith)
-get-any (x ∷ l) zero h = refl
-get-any (x ∷ l) (suc j) h = get-any l j (omega arith)
-
 pub free-more : (types row : List ℕ) (start k : ℕ) → ((j : ℕ) → j < k → freeSlot types row (start + j) ≡ true) → freeSlot types row (start + k) ≡ true → (j : ℕ) → j < k + 1 → freeSlot types row (start + j) ≡ true
 free-more types row start k f e j h = elim (ℕ-discrete j k) [ yes d ↦ rw d e | no d ↦ f j (omega arith) ]

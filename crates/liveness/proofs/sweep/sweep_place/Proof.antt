@@ -1,9 +1,9 @@
 use mathlib.Core.Path.{_≡_, refl, sym, _∙_}
-use mathlib.Core.Bool.{Bool, true, false, not, false≢true}
+use mathlib.Core.Bool.{true, not}
 use Prim.Native.Nat.{_+_, _*_, _-_, _%_, _≤_}
 use native.Mathlib.Omega.{arith}
 use lib.ListN.{length, getD}
-use borrow.Author.Tests.{eq-eqb, ne-eqb}
+use borrow.Author.Tests.{eq-eqb, ne-eqb, not-false}
 use Rattle.instruction.specs.Class.{classOf, number-below}
 use Rattle.instruction.specs.Instruction.{ofWord}
 use Rattle.unit.specs.Size.{metadataSize}
@@ -48,10 +48,6 @@ single-before-requires c κs =
     let s = c .before .before .before .before .before .before .before .before .before .before .before .before .before .before .before .before .before .before in
     rw (lent-long _ _ _ (row-inside _ _ (s .pre .0))) (single-fits _ _ (tables s) (cell s .metadata) (s .pre .6) (single (c .before .before .before .before)) (s .pre .5), c .before .before .before .before .before .before .class-number .ensures)
 
-unnot : (r : Bool) → not r ≡ false → r ≡ true
-unnot true e = refl
-unnot false e = absurd (false≢true (sym e))
-
 returns-2 : tie.Need-returns-2
 unfolding ofWord
 returns-2 c =
@@ -61,7 +57,7 @@ returns-2 c =
     let one = c .before .before .before .before .before .before .before .before .before .before .before .before .if1 .left in
     lent-either (tables s) (cell s) _ (eq-eqb _ _ one) (s .args .p) _ (s .args .types .now) _ _ _ _ (r .ensures) (not (r .result)) refl one (row-inside _ _ (s .pre .0)) _ (v .kept .0)
     (λ l. v .ensures .0 l (tables s) (cell s .metadata))
-    (λ d. v .ensures .1 d (single-absent (s .args .types .now) _ (cell s .instruction) (single (c .before .before .before .before .before .before .before)) (sym (r .ensures) ∙ unnot (r .result) d)))
+    (λ d. v .ensures .1 d (single-absent (s .args .types .now) _ (cell s .instruction) (single (c .before .before .before .before .before .before .before)) (sym (r .ensures) ∙ not-false (r .result) d)))
 
 is-dead-requires : tie.Need-is-dead-requires
 is-dead-requires c κs =
