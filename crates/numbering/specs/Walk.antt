@@ -229,9 +229,13 @@ pub record Turns (n : ℕ) (types constants : List ℕ) (leader w p : ℕ) (t : 
       → (x ≡ toWord (number (sectionsOf types constants locals tables) p (ofWord w) (cond (eqb leader 1) empty v) .instruction))
       × Holds n (length types) dest (number (sectionsOf types constants locals tables) p (ofWord w) (cond (eqb leader 1) empty v) .table) (memoryOf n (length types) t′)
 
+-- what numbering takes of the 64-bit work: the code, and the table of values behind it
+abbrev pub valuesRoom : ℕ → ℕ → ℕ
+valuesRoom n s = 13 * n + 2 * s + 4
+
 -- what the walk asks: "slots below s" is what the check of all operands shows
 pub record Numberable (words leaders types memory : List ℕ) : Type 0 where
   pub few : length leaders ≤ 65536
   pub locals : length types ≤ 65536
-  pub long : 13 * length leaders + 2 * length types + 4 ≤ length memory
+  pub long : valuesRoom (length leaders) (length types) ≤ length memory
   pub named : (p : ℕ) → p < length leaders → Named (class (ofWord (getD words p 0))) (length types) (ofWord (getD words p 0))

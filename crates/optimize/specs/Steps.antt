@@ -25,7 +25,7 @@ use Rattle.flow.specs.Control.{isControl, Controls, controls-kept}
 use Rattle.flow.specs.Loop.{reachedPlaces, loopCheck}
 use Rattle.numbering.specs.Walk as walk
 use Rattle.values.specs.Named.{Named}
-use Rattle.numbering.specs.Walk.{sectionsOf}
+use Rattle.numbering.specs.Walk.{sectionsOf, valuesRoom}
 use Rattle.pc_map.specs.Boundary.{boundary}
 use Rattle.pc_map.specs.Boundaries.{Mapped, mapped-at, boundary-most}
 use Rattle.pc_map.specs.Listed.{keptList, Listed}
@@ -37,7 +37,7 @@ use Rattle.removal.specs.Kept.{keepAt, listAt}
 -- the list of the control places stands in the 64-bit work, behind what numbering and liveness take: `count` of them from `at` on
 pub record ListedControls (n s at count : ℕ) (work64 : List ℕ) : Type 0 where
   pub sets : setsRoom n s ≤ at
-  pub values : 13 * n + 2 * s + 4 ≤ at
+  pub values : valuesRoom n s ≤ at
   pub within : at + count ≤ length work64
   pub controls : Controls (midOf 0 n work64) (midOf at count work64) n
 
