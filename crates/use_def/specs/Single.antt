@@ -1,7 +1,7 @@
 -- Loads, copies and operators: they write slot a, and of single slots they read b and c at most.
 -- Assumes nothing.
 use mathlib.Core.Path.{_≡_, refl, sym, _∙_}
-use mathlib.Core.Bool.{Bool, true, false, cond, not, _&&_, _||_, and-false, false≢true}
+use mathlib.Core.Bool.{Bool, true, false, cond, not, _&&_, _||_, and-false, false≢true, true≢false}
 use mathlib.Core.List.{List, [], _∷_}
 use Prim.Native.Nat.{ℕ, zero, suc, _+_, _*_, _/_, _%_, _^_, _<_}
 use native.Mathlib.Omega.{arith}
@@ -101,6 +101,11 @@ module _ (k : Class) (e : isSingle k ≡ true) where
     unfolding numberOf readsByClass
     second-read = by-class (λ k. slotIf (readsSecond k) (i .c) ≡ getD (readsByClass k i) 1 emptyRange) refl refl refl refl refl k e
 
+  -- what reads c reads b
+  no-second : readsFirst k ≡ false → readsSecond k ≡ false
+  unfolding numberOf
+  no-second = by-class (λ k. readsFirst k ≡ false → readsSecond k ≡ false) (λ f. refl) (λ f. refl) (λ f. refl) (λ f. refl) (λ f. absurd (true≢false f)) k e
+
 -- ---- by the instruction's word
 
 abbrev cell : ℕ → Metadata → Cell
@@ -131,13 +136,17 @@ module _ (w : ℕ) (k : Class) (same : k ≡ class (ofWord w)) (e : isSingle k �
       put-reads T (cell w m) k same (inside k e) true l l₁ l₂ (slotIf x b) (slotIf y c) (rw (f, d) (first-read k e (ofWord w))) (rw (g, h) (second-read k e (ofWord w)))
       (put-slot true x b l l₁ q) (put-slot true y c l₁ l₂ s)
 
--- the slot of a dead store is not in the set, and nothing is put in: the set stays
-pub single-stays : (l l₁ l₂ l₃ : List ℕ) (a b c : ℕ) (x y live : Bool) → live ≡ false → member l a ≡ false → Put false (λ t. eqb t a) l l₁ → Put true (λ t. (x && live) && eqb t b) l₁ l₂ → Put true (λ t. (y && live) && eqb t c) l₂ l₃ → Same l l₃
-single-stays l l₁ l₂ l₃ a b c x y live d e p q r t =
-    let none : (z s : Bool) → ((z && live) && s) ≡ false = λ z s. rw (d, and-false z) in
-    let second : member l₃ t ≡ member l₂ t = rw (none y (eqb t c)) at (r t) in
-    let first : member l₂ t ≡ member l₁ t = rw (none x (eqb t b)) at (q t) in
-    second ∙ first ∙ p t ∙ go (eqb t a) refl
+  -- a load reads nothing
+  pub no-single-reads : (l : List ℕ) → readsFirst k ≡ false → Put true (reading T (cell w m)) l l
+  no-single-reads l f = put-single-reads l l l false false (ofWord w .b) (ofWord w .c) (sym f) refl (sym (no-second k e f)) refl (λ t. refl) (λ t. refl)
+
+-- nothing is put in for a dead store
+pub none-put : (l l₁ l₂ : List ℕ) (b c : ℕ) (y live : Bool) → live ≡ false → Put true (λ t. live && eqb t b) l l₁ → Put true (λ t. (y && live) && eqb t c) l₁ l₂ → Same l l₂
+none-put l l₁ l₂ b c y live d p q t = rw (d, and-false y) at (q t) ∙ rw d at (p t)
+
+-- its slot is not in the set: the set stays
+pub single-stays : (l l₁ l₂ : List ℕ) (a : ℕ) → member l a ≡ false → Put false (λ t. eqb t a) l l₁ → Same l₁ l₂ → Same l l₂
+single-stays l l₁ l₂ a e p q t = q t ∙ p t ∙ go (eqb t a) refl
   where
     go : (s : Bool) → eqb t a ≡ s → cond s false (member l t) ≡ member l t
     go true s = rw (eqb-true t a s) (sym e)

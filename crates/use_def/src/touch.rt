@@ -206,6 +206,20 @@ pub fn take_single_write(row: &mut [u64], w: u64)
     row::put(row, form::field(w, 0), false);
 }
 
+// Puts in the slots that it reads, unless its store is dead. Whether it is follows no pattern, so that nothing is put without a branch;
+// loads read nothing, and to go past both puts there is worth one.
+fn put_single_reads(row: &mut [u64], w: u64, k: u64, live: bool)
+    requires { ⌜ SingleFits (length (now row)) w × (k ≡ numberOf (class (ofWord w))) ⌝ }
+    ensures { λ _. ⌜ (live ≡ true → (T : Tables) (m : Metadata) → Put true (reading T (record { instruction = ofWord w; metadata = m })) (now (row .entry)) (now (row .exit))) × (live ≡ false → Same (now (row .entry)) (now (row .exit))) ⌝ }
+{
+    if !reads_first(k) {
+        return;
+    }
+    row::put_if(row, form::field(w, 1), live, true);
+    let second = reads_second(k) & live;
+    row::put_if(row, form::field(w, 2), second, true);
+}
+
 // What is live before it, of what is live after it. Of a dead store, whose slot is not live, nothing is put in: so the live slots stay,
 // and the processor has no branch to predict.
 pub fn single_before(row: &mut [u64], w: u64, k: u64, live: bool)
@@ -213,10 +227,7 @@ pub fn single_before(row: &mut [u64], w: u64, k: u64, live: bool)
     ensures { λ _. ⌜ (live ≡ true → (T : Tables) (m : Metadata) → Before T (record { instruction = ofWord w; metadata = m }) (now (row .entry)) (now (row .exit))) × (live ≡ false → member (now (row .entry)) (ofWord w .a) ≡ false → Same (now (row .entry)) (now (row .exit))) ⌝ }
 {
     take_single_write(row, w);
-    let first = reads_first(k) & live;
-    row::put_if(row, form::field(w, 1), first, true);
-    let second = reads_second(k) & live;
-    row::put_if(row, form::field(w, 2), second, true);
+    put_single_reads(row, w, k, live);
 }
 
 // What is live before the instruction at place p, of what is live after it.
