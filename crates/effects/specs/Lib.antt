@@ -10,4 +10,5 @@ pub mod Ranges
 pub mod Operands
 pub mod Plain
 pub mod ByClass
+pub mod Single
 pub mod Sound

@@ -4,8 +4,9 @@ use mathlib.Core.Path.{_≡_, refl, sym, ap, _∙_}
 use mathlib.Core.Bool.{Bool, true, false, cond, _&&_, _||_, and-false}
 use mathlib.Core.List.{List, [], _∷_, _++_}
 use Prim.Native.Nat.{ℕ, zero, suc, _+_, _/_, _≤_, _<_}
+use native.Mathlib.Numerals.{add-one}
 use native.Mathlib.Omega.{arith}
-use lib.Dec.{eqb, leb}
+use lib.Dec.{eqb, leb, ltb}
 use lib.ListN.{length, getD}
 use borrow.Author.Tests.{leb-true, lt-ltb, le-ltb, le-leb, lt-leb, eq-eqb, ne-eqb}
 use Rattle.words.specs.Lists.{every, every-at, every-all}
@@ -104,6 +105,13 @@ module _ (limit : ℕ) (r : Range) where
           go false e = and-false (leb (r .start + r .count) slots)
 
 -- where the limit is all slots, a range that is no error holds
+-- one slot
+pub holds-one : (limit t : ℕ) → t < slots → limit ≤ slots → rangeHolds limit (record { start = t; count = 1 }) ≡ ltb t limit
+holds-one limit t h few =
+    let start : t ≤ 65535 = omega arith in
+    let some : _≡_ {A = ℕ} 1 0 → ⊥ = λ e. omega arith in
+    holds-sum limit (record { start = t; count = 1 }) start some (omega arith) few ∙ rw add-one
+
 pub holds-all : (r : Range) → rangeHolds slots r ≡ rangeFits r
 unfolding rangeHolds rangeFits rangeWithin
 holds-all r = go (leb (r .start) 65535) (eqb (r .count) 0) (leb (r .count) 65535) (leb (r .start + r .count) slots)

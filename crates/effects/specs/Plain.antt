@@ -23,7 +23,7 @@ use Rattle.effects.specs.Form.{forms, formAt, unpack, rowOf, demandRowOf
 use Rattle.effects.specs.Rows.{rows-read, rows-write}
 use Rattle.effects.specs.Ranges.{reads-other, writes-other, demands-row}
 use Rattle.words.specs.Truth.{left-true, right-true}
-use Rattle.effects.specs.Operands.{slots, rangeHolds, holds-sum, all-append, not-refused, refused-within}
+use Rattle.effects.specs.Operands.{slots, rangeHolds, holds-one, all-append, not-refused, refused-within}
 
 -- the field that one of the forms 0, 1 and 2 is a slot of
 abbrev pub slotOf : ℕ → Instruction → ℕ
@@ -112,12 +112,7 @@ within-all row i f =
 module _ (s : ℕ) (few : s ≤ slots) (T : Tables) (x : Cell) (f : Fields (x .instruction)) where
   -- the test of one slot
   slot-holds : (form : ℕ) → form < 3 → rangeHolds s (rangeOf T x (formAt form)) ≡ ltb (slotOf form (x .instruction)) s
-  slot-holds form h =
-      let t : ℕ = slotOf form (x .instruction) in
-      let r : Range = record { start = t; count = 1 } in
-      let start : t ≤ 65535 = omega (arith, slot-fits form (x .instruction) f) in
-      let some : _≡_ {A = ℕ} 1 0 → ⊥ = λ e. omega arith in
-      ap (rangeHolds s) (slot-form T x form h) ∙ holds-sum s r start some (omega arith) few ∙ rw add-one
+  slot-holds form h = ap (rangeHolds s) (slot-form T x form h) ∙ holds-one s (slotOf form (x .instruction)) (slot-fits form (x .instruction) f) few
 
   two : (n v : ℕ) → n ≤ 2 → v % 256 < 3 → v / 256 % 256 < 3
       → allOf (rangeHolds s) (map (rangeOf T x) (unpack n v)) ≡ ((eqb n 0 || ltb (slotOf (v % 256) (x .instruction)) s) && (ltb n 2 || ltb (slotOf (v / 256 % 256) (x .instruction)) s))

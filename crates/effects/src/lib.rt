@@ -5,6 +5,7 @@ pub mod operands;
 pub mod plain;
 pub mod ranges;
 pub mod select;
+pub mod single;
 pub mod table;
 
 // `count` slots from `start`.

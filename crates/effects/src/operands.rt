@@ -1,25 +1,26 @@
-// The check of every instruction's operands: refusals 5, 6 and 7.
+// The refusal of one instruction's operands: 5, 6 and 7.
 ghost use mathlib.Core.Path.{_≡_};
-ghost use mathlib.Core.Bool.{true, false};
+ghost use mathlib.Core.Bool.{true};
 ghost use mathlib.Core.List.{_++_};
-ghost use Prim.Native.Nat.{ℕ, _+_, _*_, _/_, _≤_, _<_};
+ghost use Prim.Native.Nat.{_+_, _*_, _/_, _≤_};
 ghost use lib.ListN.{length};
 ghost use Rattle.instruction.specs.Opcode.{maxValid};
-ghost use Rattle.unit.specs.Size.{metadataSize, caseSize, maxInstructions, maxLocalSlots};
+ghost use Rattle.unit.specs.Size.{metadataSize, caseSize, maxLocalSlots};
 ghost use Rattle.unit.specs.Entry.{metadataAt, goodMetadata};
 ghost use Rattle.effects.specs.Shape.{tablesOf};
 ghost use Rattle.effects.specs.Effects.{allReads, writes, allOf};
-ghost use Rattle.effects.specs.Check.{effectsSound, operandRefusal, operandCheck};
-ghost use Rattle.effects.specs.Cells.{cellOf, cellsBy};
+ghost use Rattle.effects.specs.Check.{effectsSound, operandRefusal};
+ghost use Rattle.effects.specs.Cells.{cellOf};
 ghost use Rattle.effects.specs.Ranges.{CasesInside};
 ghost use Rattle.effects.specs.Operands.{slots, rangeHolds};
-use crate::Check;
 use crate::Range;
 use crate::demand;
 use crate::plain;
 use crate::ranges;
+use crate::single;
 use crate::table;
 use instruction::Instruction;
+use instruction::opcode;
 use unit::Metadata;
 use unit::entry;
 use unit::refusal;
@@ -154,8 +155,8 @@ fn ranges_refusal(
     refusal::EFFECT_ERROR
 }
 
-// The refusal of one instruction's operands, by its word, or 0. "By lowest p: Invalid; effect error; a slot at or past s".
-pub fn operand_refusal(
+// The same of any instruction, by its opcode's row.
+fn row_refusal(
     locals: usize,
     w: u64,
     metadata: &[u8],
@@ -183,24 +184,25 @@ pub fn operand_refusal(
     refusal::SLOT_OUTSIDE
 }
 
-pub fn check_operands(
-    words: &[u64],
-    metadata: &[u8],
+// The refusal of one instruction's operands, by its word, or 0. "By lowest p: Invalid; effect error; a slot at or past s".
+pub fn operand_refusal(
     locals: usize,
+    w: u64,
+    metadata: &[u8],
+    p: usize,
     functions: &[u8],
     externs: &[u8],
     cases: &[u8],
-) -> Check
-    requires { ⌜ (length (now metadata) ≡ metadataSize * length (now words)) × (length (now words) ≤ maxInstructions) × (locals ≤ maxLocalSlots) × ((k : ℕ) → k < length (now words) → goodMetadata (length (now cases) / caseSize) (metadataAt (now metadata) k) ≡ true) ⌝ }
-    ensures { λ r. ⌜ r ≡ operandCheck locals (tablesOf (now (functions .entry)) (now (externs .entry)) (now (cases .entry))) (cellsBy (now (words .entry)) (now (metadata .entry))) ⌝ }
+) -> u32
+    requires { ⌜ (locals ≤ maxLocalSlots) × (metadataSize * p + metadataSize ≤ length (now metadata)) × (goodMetadata (length (now cases) / caseSize) (metadataAt (now metadata) p) ≡ true) ⌝ }
+    ensures { λ r. ⌜ r ≡ operandRefusal locals (tablesOf (now (functions .entry)) (now (externs .entry)) (now (cases .entry))) (cellOf (now (metadata .entry)) p w) ⌝ }
 {
-    let mut p: usize = 0;
-    while p < words.len() {
-        let number = operand_refusal(locals, words[p], metadata, p, functions, externs, cases);
-        if number != 0 {
-            return Check::Refused(number, p as u32);
-        }
-        p += 1;
+    let k = opcode::class_number((w % 256) as u8);
+    if !single::is_single(k) {
+        return row_refusal(locals, w, metadata, p, functions, externs, cases);
     }
-    Check::Passed
+    if single::is_within(locals, k, w) {
+        return 0;
+    }
+    refusal::SLOT_OUTSIDE
 }

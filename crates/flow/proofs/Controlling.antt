@@ -1,4 +1,4 @@
--- The loop of `list_control`: what is listed after p places. The words stand before the list.
+-- The loop of `check_operands`: what is listed after p places. The words stand before the list.
 -- Assumes nothing.
 use mathlib.Core.Path.{_≡_, refl, sym, ap, _∙_}
 use mathlib.Core.Bool.{Bool, true, false, cond}
@@ -33,11 +33,11 @@ module _ {xs : List ℕ} {n at : ℕ} {w : List ℕ} {count p : ℕ} (l : Contro
   outside = let few = l .few in outside-set at n (l .same) (at + count) p (omega arith) (omega arith)
 
   -- the words are still there
-  word : getD (set w (at + count) p) p 0 ≡ getD (midOf 0 n xs) p 0
-  word =
-      ap (λ (i : ℕ). getD (set w (at + count) p) i 0) (sym (zero-add p))
-      ∙ sym (get-mid (set w (at + count) p) 0 n p 0 h)
-      ∙ ap (λ (k : List ℕ). getD k p 0) (outside-front at n outside n after)
+  pub controlling-word : getD w p 0 ≡ getD (midOf 0 n xs) p 0
+  controlling-word =
+      ap (λ (i : ℕ). getD w i 0) (sym (zero-add p))
+      ∙ sym (get-mid w 0 n p 0 h)
+      ∙ ap (λ (k : List ℕ). getD k p 0) (outside-front at n (l .same) n after)
 
   -- the place that was stored is listed, or the next one will take its position
   more : (t : Bool) → isControl (class (ofWord (getD (midOf 0 n xs) p 0))) ≡ t → Controls (midOf 0 n xs) (midOf at (count + cond t 1 0) (set w (at + count) p)) (p + 1)
@@ -50,16 +50,16 @@ module _ {xs : List ℕ} {n at : ℕ} {w : List ℕ} {count p : ℕ} (l : Contro
       (controls-listed (midOf 0 n xs) (midOf at count w) p (l .controls))
   more false e = rw (add-zero count, mid-set-after w at count count p (omega arith), add-one p) (controls-passed (midOf 0 n xs) (midOf at count w) p (l .controls) e)
 
-  pub controlling-turn : (v : ℕ) → v ≡ cond (isControl (class (ofWord (getD (set w (at + count) p) p 0)))) 1 0
+  pub controlling-turn : (v : ℕ) → v ≡ cond (isControl (class (ofWord (getD w p 0)))) 1 0
       → Controlling xs n at (set w (at + count) p) (count + v) (p + 1)
   controlling-turn v e =
-      let bit = bit-most (isControl (class (ofWord (getD (set w (at + count) p) p 0)))) in
+      let bit = bit-most (isControl (class (ofWord (getD w p 0)))) in
       record {
         within = omega arith;
         few = omega (arith, l .few, e, bit);
         long = length-set w (at + count) p ∙ l .long;
         same = outside;
-        controls = rw (e, word) (more (isControl (class (ofWord (getD (midOf 0 n xs) p 0)))) refl);
+        controls = rw (e, controlling-word) (more (isControl (class (ofWord (getD (midOf 0 n xs) p 0)))) refl);
       }
 
 pub controlling-end : {xs : List ℕ} {n at : ℕ} {w : List ℕ} {count p : ℕ} → Controlling xs n at w count p → n ≤ p

@@ -16,4 +16,5 @@ pub mod Stack
 pub mod Successors
 pub mod Reached
 pub mod Control
+pub mod Listing
 pub mod Sweep

@@ -76,6 +76,11 @@ pub record Fields (i : Instruction) : Type 0 where
   pub b-fits : i .b < 65536
   pub c-fits : i .c < 65536
 
+-- those of a word do
+pub word-fields : (w : ℕ) → Fields (ofWord w)
+unfolding ofWord
+word-fields w = record { op-fits = omega arith; flags-fits = omega arith; a-fits = omega arith; b-fits = omega arith; c-fits = omega arith }
+
 -- the digits of an instruction's word are its fields
 record Digits (i : Instruction) : Type 0 where
   op-digit : toWord i % 256 ≡ i .op

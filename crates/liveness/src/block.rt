@@ -13,6 +13,7 @@ ghost use Rattle.words.specs.Only.{At, Either, Only};
 ghost use Rattle.liveness.specs.Through.{Placed, Summary};
 ghost use Rattle.liveness.specs.Visit.{Rising, Summed};
 use crate::Layout;
+use effects::single;
 use instruction::Instruction;
 use instruction::opcode;
 use use_def::row;
@@ -39,7 +40,7 @@ fn summarize_place(
     }
     let word = memory[p];
     let k = opcode::class_number((word % 256) as u8);
-    if touch::is_single(k) {
+    if single::is_single(k) {
         touch::take_single_write(&mut memory[preserved..preserved + w], word);
         touch::single_before(&mut memory[uses..uses + w], word, k, true);
         return;

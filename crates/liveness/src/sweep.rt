@@ -21,6 +21,7 @@ ghost use Rattle.liveness.specs.Sweeping.{Entered, Swept};
 ghost use Rattle.liveness.specs.Sweep.{Grounds, sections};
 use crate::Layout;
 use crate::out;
+use effects::single;
 use instruction::Instruction;
 use instruction::opcode;
 use use_def::dead;
@@ -69,7 +70,7 @@ fn sweep_place(
     let end = start + sets.width;
     let word = memory[p];
     let k = opcode::class_number((word % 256) as u8);
-    if touch::is_single(k) {
+    if single::is_single(k) {
         // The processor could not predict which store is dead.
         let live = !dead::is_single_dead(types, &memory[start..end], word);
         keep[p] = live as u32;

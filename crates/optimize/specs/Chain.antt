@@ -3,7 +3,7 @@
 use mathlib.Core.Path.{_≡_, refl, sym, ap, _∙_}
 use mathlib.Core.Bool.{Bool, true, false, cond}
 use mathlib.Core.List.{List, [], _∷_, _++_}
-use Prim.Native.Nat.{ℕ, zero, suc, _+_, _*_, _/_, _≤_, _<_}
+use Prim.Native.Nat.{ℕ, zero, suc, _+_, _-_, _*_, _/_, _≤_, _<_}
 use native.Mathlib.Omega.{arith}
 use lib.ListN.{length, getD, take, drop, length-map}
 use lib.Seq.{take-at}
@@ -11,7 +11,7 @@ use borrow.Rule.Slice.PartMut.{midOf, postOf}
 use Rattle.words.specs.Regions.{mid-long, put-long}
 use Rattle.instruction.specs.Instruction.{class, ofWord}
 use Rattle.unit.specs.Entry.{metadataAt, goodMetadata}
-use Rattle.unit.specs.Size.{metadataSize, caseSize, setsRoom, maxInstructions, maxLocalSlots}
+use Rattle.unit.specs.Size.{metadataSize, caseSize, setsRoom, work64Room, sets-fit, maxInstructions, maxLocalSlots}
 use Rattle.effects.specs.declared.Check.{Check}
 use Rattle.effects.specs.declared.Check.the-variants.{Passed, Refused}
 use Rattle.effects.specs.Check.{operandRefusal, operandCheck}
@@ -176,21 +176,19 @@ module _ (n k : ℕ) (code work64 words : List ℕ) (e : k ≡ n) (room : n ≤ 
   size : length words ≡ k
   size = ap length here ∙ words-long n code ∙ sym e
 
-  pub load-part : take k (words ++ postOf 0 k work64) ≡ wordsIn n code
-  load-part = take-at words (postOf 0 k work64) k size ∙ here
-
   pub load-front : midOf 0 n (words ++ postOf 0 k work64) ≡ wordsIn n code
-  load-front = ap (λ (j : ℕ). take j (words ++ postOf 0 k work64)) (sym e) ∙ load-part
+  load-front = ap (λ (j : ℕ). take j (words ++ postOf 0 k work64)) (sym e) ∙ take-at words (postOf 0 k work64) k size ∙ here
 
   pub load-long : length (words ++ postOf 0 k work64) ≡ length work64
   load-long = put-long work64 0 k words size (omega arith)
 
 module _ (n : ℕ) (code metadata words : List ℕ) (S : Sections) (g : Given n code metadata S) (e : words ≡ wordsIn n code) where
-  pub operands-asks : (length metadata ≡ metadataSize * length words)
-      × (length words ≤ maxInstructions)
-      × (S .locals ≤ maxLocalSlots)
-      × ((k : ℕ) → k < length words → goodMetadata (length (S .tables .cases) / caseSize) (metadataAt metadata k) ≡ true)
-  operands-asks = rw (e, words-long n code) (g .metadata-long, g .few, g .slots, g .good)
+  pub operands-asks : (at room : ℕ) → at ≡ work64Room n (S .locals) - n → work64Room n (S .locals) ≤ room
+      → (n ≤ maxInstructions) × (n ≤ at) × (at + n ≤ room) × (length metadata ≡ metadataSize * n) × (S .locals ≤ maxLocalSlots)
+      × ((k : ℕ) → k < n → goodMetadata (length (S .tables .cases) / caseSize) (metadataAt metadata k) ≡ true)
+  operands-asks at room f r =
+      let fit = sets-fit n (S .locals) in
+      (g .few, omega arith, omega arith, g .metadata-long, g .slots, g .good)
 
   pub operands-answer : operandCheck (S .locals) (S .tables) (cellsIn n code metadata) ≡ operandCheck (S .locals) (S .tables) (cellsBy words metadata)
   operands-answer = rw e

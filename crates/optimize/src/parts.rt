@@ -21,7 +21,7 @@ ghost use Rattle.optimize.specs.Steps.{Finished, ListedControls, Marks, 
 use crate::Answer;
 use crate::code;
 use effects::Check;
-use effects::operands;
+use flow::Listing;
 use flow::block;
 use flow::branch;
 use flow::control;
@@ -254,33 +254,32 @@ pub fn optimize(
     ensures { λ r. ⌜ Tells (optimized (sectionsIn (now (types .entry)) (now (constants .entry)) (now (functions .entry)) (now (externs .entry)) (now (cases .entry))) (cellsIn n (now (code .entry)) (now (metadata .entry)))) r (now (out .entry)) (now (out .exit)) ⌝ }
 {
     code::load(code, &mut work64[0..n]);
-    match operands::check_operands(
-        &work64[0..n],
+    let at = size::work64_room(n, types.len()) - n;
+    match control::check_operands(
+        work64,
+        n,
+        at,
         metadata,
         types.len(),
         functions,
         externs,
         cases,
     ) {
-        Check::Refused(k, p) => Answer::Refused(k, p),
-        Check::Passed => {
-            let at = size::work64_room(n, types.len()) - n;
-            let count = control::list_control(work64, n, at);
-            after_operands(
-                code,
-                metadata,
-                types,
-                constants,
-                functions,
-                externs,
-                cases,
-                out,
-                work32,
-                work64,
-                n,
-                at,
-                count,
-            )
-        }
+        Listing::Refused(k, p) => Answer::Refused(k, p),
+        Listing::Listed(count) => after_operands(
+            code,
+            metadata,
+            types,
+            constants,
+            functions,
+            externs,
+            cases,
+            out,
+            work32,
+            work64,
+            n,
+            at,
+            count,
+        ),
     }
 }

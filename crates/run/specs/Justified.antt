@@ -33,7 +33,7 @@ use Rattle.values.specs.Fold.{foldWord, foldingUnary, foldingBinary, fitsImm32}
 use Rattle.values.specs.Table.{Values, Expression, valueOf, expressionIn}
 use Rattle.values.specs.Number.{setA, setB, setBC, constantAtom}
 use Rattle.values.specs.Named.{Named}
-use Rattle.use_def.specs.Single.{isSingle}
+use Rattle.effects.specs.Single.{isSingle}
 use Rattle.run.specs.Machine.{Words, Event, World, State, at, put, goto, perform, silent, ask, stop, byReturn}
 use Rattle.run.specs.Program.{Function, hasMeaning, classIn, nodeBy, actBy, givenRanges, event, constantWord, unaryWord, binaryWord, slotsOf, slotsFrom}
 use Rattle.run.specs.Gives.{given-by-class}

@@ -26,7 +26,7 @@ use Rattle.values.specs.Table.{sameAtom, Values, Expression, Represented, empty
 use Rattle.values.specs.Number.{Numbered, setA, setB, setBC, constantAtom, foldUnary, foldBinary, loadOrStay, isScalar, stored, copyOrStay, byExpression, byValue, numberUnary, numberBinary, numberCopy, numberConstant, numberRead, decided, numberJump, numberBy, cleared, number}
 use Rattle.values.specs.Named.{Named}
 use Rattle.instruction.specs.Class.{numberOf}
-use Rattle.use_def.specs.Single.{isSingle}
+use Rattle.effects.specs.Single.{isSingle}
 use Rattle.run.specs.Machine.{Words, Event, World, put}
 use Rattle.run.specs.Program.{Function}
 use Rattle.run.specs.Small.{sign-small, fold-small}

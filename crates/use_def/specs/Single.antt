@@ -2,7 +2,7 @@
 -- Assumes nothing.
 use mathlib.Core.Path.{_≡_, refl, sym, _∙_}
 use mathlib.Core.Bool.{Bool, true, false, cond, not, _&&_, _||_, and-false, false≢true, true≢false}
-use mathlib.Core.List.{List, [], _∷_}
+use mathlib.Core.List.{List}
 use Prim.Native.Nat.{ℕ, zero, suc, _+_, _*_, _/_, _%_, _^_, _<_}
 use native.Mathlib.Omega.{arith}
 use lib.Dec.{eqb}
@@ -10,34 +10,21 @@ use lib.ListN.{length, getD}
 use borrow.Author.Tests.{eqb-true, not-true}
 use Rattle.words.specs.Truth.{right-true}
 use Rattle.words.specs.Bits.{member}
-use Rattle.words.specs.Lists.{isIn}
 use Rattle.instruction.specs.declared.Instruction.{Instruction}
 use Rattle.instruction.specs.declared.Class.{Class}
-use Rattle.instruction.specs.declared.Class.the-variants.{Hint, LoadInt, LoadConst, Copy, CopyN, Unary, Binary, Jump, JumpIf, JumpIfNot, ForLoop, Return, Panic, Outside, Invalid}
 use Rattle.instruction.specs.Class.{numberOf, isPure}
 use Rattle.instruction.specs.Instruction.{ofWord, class}
 use Rattle.effects.specs.declared.Range.{Range}
 use Rattle.effects.specs.Shape.{Tables, Cell}
 use Rattle.effects.specs.Effects.{rangeHas, rangeWithin}
 use Rattle.effects.specs.Form.{emptyRange}
-use Rattle.effects.specs.ByClass.{isOutside, readsByClass, writesByClass}
+use Rattle.effects.specs.ByClass.{readsByClass, writesByClass}
+use Rattle.effects.specs.Single.{isSingle, readsFirst, readsSecond, by-single, single-inside}
 use Rattle.unit.specs.Entry.{typeValue, typeFloat}
 use Rattle.unit.specs.declared.Metadata.{Metadata}
 use Rattle.use_def.specs.Sets.{Put, Same, range, put-as, put-one, has-none, within-end}
 use Rattle.use_def.specs.Touched.{reading, writing, Fits, put-reads, put-writes, reads-in, writes-in}
 use Rattle.use_def.specs.Free.{freeSlot, deadBy, one-free, Spans}
-
--- LoadInt, LoadConst, Copy, Unary, Binary
-abbrev pub isSingle : Class → Bool
-isSingle k = isIn (numberOf k) (1 ∷ 2 ∷ 3 ∷ 5 ∷ 6 ∷ [])
-
--- Copy, Unary, Binary
-abbrev pub readsFirst : Class → Bool
-readsFirst k = isIn (numberOf k) (3 ∷ 5 ∷ 6 ∷ [])
-
--- Binary
-abbrev pub readsSecond : Class → Bool
-readsSecond k = isIn (numberOf k) (6 ∷ [])
 
 -- such an instruction's word, whose slots all have a bit in a set of that many words
 pub record SingleFits (count w : ℕ) : Type 0 where
@@ -46,25 +33,6 @@ pub record SingleFits (count w : ℕ) : Type 0 where
   pub written : ofWord w .a < 64 * count
   pub first : readsFirst (class (ofWord w)) ≡ true → ofWord w .b < 64 * count
   pub second : readsSecond (class (ofWord w)) ≡ true → ofWord w .c < 64 * count
-
--- what holds of each of these classes, holds of one of them
-by-class : (P : Class → Type 0) → P LoadInt → P LoadConst → P Copy → P Unary → P Binary → (k : Class) → isSingle k ≡ true → P k
-unfolding numberOf
-by-class P i n c u b Hint e = absurd (false≢true e)
-by-class P i n c u b LoadInt e = i
-by-class P i n c u b LoadConst e = n
-by-class P i n c u b Copy e = c
-by-class P i n c u b CopyN e = absurd (false≢true e)
-by-class P i n c u b Unary e = u
-by-class P i n c u b Binary e = b
-by-class P i n c u b Jump e = absurd (false≢true e)
-by-class P i n c u b JumpIf e = absurd (false≢true e)
-by-class P i n c u b JumpIfNot e = absurd (false≢true e)
-by-class P i n c u b ForLoop e = absurd (false≢true e)
-by-class P i n c u b Return e = absurd (false≢true e)
-by-class P i n c u b Panic e = absurd (false≢true e)
-by-class P i n c u b Outside e = absurd (false≢true e)
-by-class P i n c u b Invalid e = absurd (false≢true e)
 
 -- one slot or none
 abbrev slotIf : Bool → ℕ → Range
@@ -80,31 +48,27 @@ put-slot on false t l l′ p = put-as on (λ k. false) (λ k. rangeHas k emptyRa
 
 -- the ranges that they read and write
 module _ (k : Class) (e : isSingle k ≡ true) where
-  inside : isOutside k ≡ false
-  unfolding isOutside
-  inside = by-class (λ k. isOutside k ≡ false) refl refl refl refl refl k e
-
   pure : isPure k ≡ true
   unfolding isPure
-  pure = by-class (λ k. isPure k ≡ true) refl refl refl refl refl k e
+  pure = by-single (λ k. isPure k ≡ true) refl refl refl refl refl k e
 
   module _ (i : Instruction) where
     slot-written : range (i .a) 1 ≡ getD (writesByClass k i) 0 emptyRange
     unfolding writesByClass
-    slot-written = by-class (λ k. range (i .a) 1 ≡ getD (writesByClass k i) 0 emptyRange) refl refl refl refl refl k e
+    slot-written = by-single (λ k. range (i .a) 1 ≡ getD (writesByClass k i) 0 emptyRange) refl refl refl refl refl k e
 
     first-read : slotIf (readsFirst k) (i .b) ≡ getD (readsByClass k i) 0 emptyRange
     unfolding numberOf readsByClass
-    first-read = by-class (λ k. slotIf (readsFirst k) (i .b) ≡ getD (readsByClass k i) 0 emptyRange) refl refl refl refl refl k e
+    first-read = by-single (λ k. slotIf (readsFirst k) (i .b) ≡ getD (readsByClass k i) 0 emptyRange) refl refl refl refl refl k e
 
     second-read : slotIf (readsSecond k) (i .c) ≡ getD (readsByClass k i) 1 emptyRange
     unfolding numberOf readsByClass
-    second-read = by-class (λ k. slotIf (readsSecond k) (i .c) ≡ getD (readsByClass k i) 1 emptyRange) refl refl refl refl refl k e
+    second-read = by-single (λ k. slotIf (readsSecond k) (i .c) ≡ getD (readsByClass k i) 1 emptyRange) refl refl refl refl refl k e
 
   -- what reads c reads b
   no-second : readsFirst k ≡ false → readsSecond k ≡ false
   unfolding numberOf
-  no-second = by-class (λ k. readsFirst k ≡ false → readsSecond k ≡ false) (λ f. refl) (λ f. refl) (λ f. refl) (λ f. refl) (λ f. absurd (true≢false f)) k e
+  no-second = by-single (λ k. readsFirst k ≡ false → readsSecond k ≡ false) (λ f. refl) (λ f. refl) (λ f. refl) (λ f. refl) (λ f. absurd (true≢false f)) k e
 
 -- ---- by the instruction's word
 
@@ -119,21 +83,21 @@ single-fits count w T m some e f =
     record {
       some = some;
       single = e;
-      written = slot-within (64 * count) (i .a) true (writes-in T x k refl (inside k e) (64 * count) 0 _ (f .writes-fit) (slot-written k e i)) refl;
-      first = slot-within (64 * count) (i .b) (readsFirst k) (reads-in T x k refl (inside k e) (64 * count) 0 _ (f .reads-fit) (first-read k e i));
-      second = slot-within (64 * count) (i .c) (readsSecond k) (reads-in T x k refl (inside k e) (64 * count) 1 _ (f .reads-fit) (second-read k e i));
+      written = slot-within (64 * count) (i .a) true (writes-in T x k refl (single-inside k e) (64 * count) 0 _ (f .writes-fit) (slot-written k e i)) refl;
+      first = slot-within (64 * count) (i .b) (readsFirst k) (reads-in T x k refl (single-inside k e) (64 * count) 0 _ (f .reads-fit) (first-read k e i));
+      second = slot-within (64 * count) (i .c) (readsSecond k) (reads-in T x k refl (single-inside k e) (64 * count) 1 _ (f .reads-fit) (second-read k e i));
     }
 
 -- the slots that are put are those that it writes and reads
 module _ (w : ℕ) (k : Class) (same : k ≡ class (ofWord w)) (e : isSingle k ≡ true) (T : Tables) (m : Metadata) where
   pub put-single-write : (l l′ : List ℕ) (a : ℕ) → a ≡ ofWord w .a → Put false (λ t. eqb t a) l l′ → Put false (writing T (cell w m)) l l′
   put-single-write l l′ a d q =
-      put-writes T (cell w m) k same (inside k e) false l l′ (range a 1) (rw d (slot-written k e (ofWord w))) (put-slot false true a l l′ q)
+      put-writes T (cell w m) k same (single-inside k e) false l l′ (range a 1) (rw d (slot-written k e (ofWord w))) (put-slot false true a l l′ q)
 
   pub put-single-reads : (l l₁ l₂ : List ℕ) (x y : Bool) (b c : ℕ) → x ≡ readsFirst k → b ≡ ofWord w .b → y ≡ readsSecond k → c ≡ ofWord w .c
       → Put true (λ t. x && eqb t b) l l₁ → Put true (λ t. y && eqb t c) l₁ l₂ → Put true (reading T (cell w m)) l l₂
   put-single-reads l l₁ l₂ x y b c f d g h q s =
-      put-reads T (cell w m) k same (inside k e) true l l₁ l₂ (slotIf x b) (slotIf y c) (rw (f, d) (first-read k e (ofWord w))) (rw (g, h) (second-read k e (ofWord w)))
+      put-reads T (cell w m) k same (single-inside k e) true l l₁ l₂ (slotIf x b) (slotIf y c) (rw (f, d) (first-read k e (ofWord w))) (rw (g, h) (second-read k e (ofWord w)))
       (put-slot true x b l l₁ q) (put-slot true y c l₁ l₂ s)
 
   -- a load reads nothing

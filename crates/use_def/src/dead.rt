@@ -9,7 +9,7 @@ ghost use Rattle.effects.specs.Form.{emptyRange};
 ghost use Rattle.effects.specs.ByClass.{writesByClass};
 ghost use Rattle.use_def.specs.Sets.{range};
 ghost use Rattle.use_def.specs.Free.{freeSlot, freeRange, deadBy, Spans};
-ghost use Rattle.use_def.specs.Single.{isSingle};
+ghost use Rattle.effects.specs.Single.{isSingle};
 use crate::touch;
 use effects::Range;
 use effects::form;

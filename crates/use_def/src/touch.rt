@@ -18,11 +18,12 @@ ghost use Rattle.effects.specs.Ranges.{CasesInside};
 ghost use Rattle.effects.specs.ByClass.{isOutside, readsByClass, writesByClass};
 ghost use Rattle.use_def.specs.Sets.{Put, Same};
 ghost use Rattle.use_def.specs.Touched.{Within, reading, writing, Fits, Before};
-ghost use Rattle.use_def.specs.Single.{isSingle, readsFirst, readsSecond, SingleFits};
+ghost use Rattle.use_def.specs.Single.{SingleFits};
 use crate::row;
 use effects::Range;
 use effects::form;
 use effects::ranges;
+use effects::single;
 use instruction::Class;
 use instruction::Instruction;
 use unit::Metadata;
@@ -174,30 +175,6 @@ pub fn put_writes(
     row::put_range(row, write(c, i), on);
 }
 
-// A load, a copy or an operator, by the number of its class? It writes slot a, and of single slots it reads b and c at most.
-pub fn is_single(k: u64) -> bool
-    requires { ⌜ k < 15 ⌝ }
-    ensures { λ r. ⌜ ((x : Class) → k ≡ numberOf x → r ≡ isSingle x) ⌝ }
-{
-    (110u64 >> k) % 2 == 1
-}
-
-// Of these, does it read b?
-fn reads_first(k: u64) -> bool
-    requires { ⌜ k < 15 ⌝ }
-    ensures { λ r. ⌜ ((x : Class) → k ≡ numberOf x → r ≡ readsFirst x) ⌝ }
-{
-    (104u64 >> k) % 2 == 1
-}
-
-// And c?
-fn reads_second(k: u64) -> bool
-    requires { ⌜ k < 15 ⌝ }
-    ensures { λ r. ⌜ ((x : Class) → k ≡ numberOf x → r ≡ readsSecond x) ⌝ }
-{
-    (64u64 >> k) % 2 == 1
-}
-
 // Takes out the slot that it writes.
 pub fn take_single_write(row: &mut [u64], w: u64)
     requires { ⌜ SingleFits (length (now row)) w ⌝ }
@@ -212,11 +189,11 @@ fn put_single_reads(row: &mut [u64], w: u64, k: u64, live: bool)
     requires { ⌜ SingleFits (length (now row)) w × (k ≡ numberOf (class (ofWord w))) ⌝ }
     ensures { λ _. ⌜ (live ≡ true → (T : Tables) (m : Metadata) → Put true (reading T (record { instruction = ofWord w; metadata = m })) (now (row .entry)) (now (row .exit))) × (live ≡ false → Same (now (row .entry)) (now (row .exit))) ⌝ }
 {
-    if !reads_first(k) {
+    if !single::reads_first(k) {
         return;
     }
     row::put_if(row, form::field(w, 1), live, true);
-    let second = reads_second(k) & live;
+    let second = single::reads_second(k) & live;
     row::put_if(row, form::field(w, 2), second, true);
 }
 

@@ -21,7 +21,7 @@ impl Shape {
 }
 
 /// No law looks like these: loads of constants alone, and the worst known of our table, whose hash is fixed: constants chosen to
-/// fall in one bucket of it.
+/// fall in one bucket of it, along one path for as long as they can.
 pub const EXTREMES: [Shape; 2] = [
     Shape { name: "constants only", draw: constants_only },
     Shape { name: "one bucket", draw: one_bucket },
@@ -142,7 +142,8 @@ fn constants_only(rng: &mut Rng, n: usize) -> Parts {
 /// The factor of a constant in the table's hash (crates/values/src/entries.rt).
 const FACTOR: u64 = 11_400_714_819_323_198_485;
 
-/// The constants are such that their products by the factor are 0, 1, 2 and so on, so the high bits never differ.
+/// The high halves are such that their products by the factor, modulo 2^32, are 0, 1, 2 and so on: the bits that choose the bucket
+/// never differ. The low halves are 0: the first 32 steps of a look-up go the same way.
 fn one_bucket(rng: &mut Rng, n: usize) -> Parts {
     // An odd number is its own inverse modulo 8, and each step doubles the bits.
     let inverse = (0..5)
@@ -150,7 +151,7 @@ fn one_bucket(rng: &mut Rng, n: usize) -> Parts {
     let mut draft = frame(rng, n);
     while draft.place() + 1 < n {
         let place = draft.place();
-        let value = inverse.wrapping_mul(place as u64);
+        let value = inverse.wrapping_mul(place as u64) << 32;
         draft.parts.constants.push(Constant::new(CONSTANT_INT, value));
         draft.op(Opcode::LoadConst, 0, (place % usize::from(HALF)) as u16, place as u16, 0);
     }

@@ -9,7 +9,8 @@ use Rattle.instruction.specs.Instruction.{ofWord}
 use Rattle.unit.specs.Size.{metadataSize}
 use Rattle.effects.specs.Shape.{Tables, Cell, tablesOf}
 use Rattle.effects.specs.Cells.{cellOf}
-use Rattle.use_def.specs.Single.{isSingle, single-fits, single-absent}
+use Rattle.effects.specs.Single.{isSingle}
+use Rattle.use_def.specs.Single.{single-fits, single-absent}
 use Rattle.use_def.specs.Free.{deadBy}
 use Rattle.liveness.specs.Memory.{rowOf, row-inside}
 use Rattle.words.specs.Only.{only-none, lent-long}

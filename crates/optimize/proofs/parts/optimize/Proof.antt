@@ -1,11 +1,12 @@
-use mathlib.Core.Path.{refl, sym, _∙_}
+use mathlib.Core.Path.{refl, sym, ap, _∙_}
 use Prim.Native.Nat.{_-_}
 use native.Mathlib.Omega.{arith}
 use lib.ListN.{length}
+use Rattle.flow.specs.Listing.{checkOf, ListedBy}
 use Rattle.answer.specs.Pass.{refused}
 use Rattle.removal.specs.Kept.{sectionsIn}
 use Rattle.optimize.specs.Parts.{tells-refused, tells-same, optimized-steps}
-use Rattle.optimize.specs.Chain.{checked-refused, checked-passed, same-room, load-part, load-front, load-long, operands-asks, operands-answer}
+use Rattle.optimize.specs.Chain.{checked-refused, checked-passed, same-room, load-front, load-long, operands-asks, operands-answer}
 use Rattle.optimize.specs.Steps.{list-made}
 use borrow.Author.Needs.{needs}
 use Rattle.optimize.proofs.parts.optimize.Statement.{statement}
@@ -19,37 +20,46 @@ check-operands-requires c κs =
     let l = c .before .before .before .before in
     let s = start l in
     let a = s .args in
-    operands-asks (a .n) (a .code .now) (a .metadata .now) _ (sectionsIn (a .types .now) (a .constants .now) (a .functions .now) (a .externs .now) (a .cases .now)) (s .pre .0) (load-part (a .n) (a .n - 0) (a .code .now) (a .work64 .now) (l .load .last .1 .0) (omega arith) (omega (arith, s .pre .1 .room64)) (l .load .ensures))
+    let front = load-front (a .n) (a .n - 0) (a .code .now) (a .work64 .now) (l .load .last .1 .0) (omega arith) (omega (arith, s .pre .1 .room64)) (l .load .ensures) in
+    let long = load-long (a .n) (a .n - 0) (a .code .now) (a .work64 .now) (l .load .last .1 .0) (omega arith) (omega (arith, s .pre .1 .room64)) (l .load .ensures) in
+    operands-asks (a .n) (a .code .now) (a .metadata .now) _ (sectionsIn (a .types .now) (a .constants .now) (a .functions .now) (a .externs .now) (a .cases .now)) (s .pre .0) front _ _ (rw (c .before .work64-room .ensures)) (rw long (s .pre .1 .room64))
 
 after-operands-requires : tie.Need-after-operands-requires
+unfolding checkOf ListedBy
 after-operands-requires c κs =
-    let l = c .before .before .before .before .before .before .before .before .before .before .before .before .before .before .before in
+    let l = c .before .before .before .before .before .before .before .before .before .before .before .before .before in
     let s = start l in
     let a = s .args in
-    let r = c .before .before .before .before .before .before .before in
-    let m = c .before .before .before .before .before in
-    let loaded = load-long (a .n) (a .n - 0) (a .code .now) (a .work64 .now) (l .load .last .1 .0) (omega arith) (omega (arith, s .pre .1 .room64)) (l .load .ensures) in
-    let made = list-made (a .n) (length (a .types .now)) (r .work64-room .result - a .n) _ _ (m .list-control .last .0) (rw (r .work64-room .ensures)) (s .pre .0 .some) (rw loaded (s .pre .1 .room64)) (m .list-control .kept .0) (m .list-control .ensures) in (
+    let m = c .before .before .before .before .before .before .before .before in
+    let told = c .before .before .before .before .count .given .1 in
+    let front = load-front (a .n) (a .n - 0) (a .code .now) (a .work64 .now) (l .load .last .1 .0) (omega arith) (omega (arith, s .pre .1 .room64)) (l .load .ensures) in
+    let long = load-long (a .n) (a .n - 0) (a .code .now) (a .work64 .now) (l .load .last .1 .0) (omega arith) (omega (arith, s .pre .1 .room64)) (l .load .ensures) in
+    let listed = rw told at (m .check-operands .ensures .1) in
+    let made = list-made (a .n) (length (a .types .now)) _ _ _ (m .check-operands .last .0) (rw (c .before .before .before .before .before .before .before .before .before .before .work64-room .ensures)) (s .pre .0 .some) (rw long (s .pre .1 .room64)) (m .check-operands .kept .0) (listed .0, listed .1, m .check-operands .ensures .2) in (
       s .pre .0,
-      same-room _ _ _ _ _ _ _ (s .pre .1) refl (m .list-control .kept .0 ∙ loaded),
-      operands-answer (a .n) (a .code .now) (a .metadata .now) _ (sectionsIn (a .types .now) (a .constants .now) (a .functions .now) (a .externs .now) (a .cases .now)) (s .pre .0) (load-part (a .n) (a .n - 0) (a .code .now) (a .work64 .now) (l .load .last .1 .0) (omega arith) (omega (arith, s .pre .1 .room64)) (l .load .ensures)) ∙ sym (c .before .before .before .before .before .before .before .before .before .before .check-operands .ensures) ∙ c .before .before .before .before .before .before .before .before .enum-told .given .1,
-      made .1 ∙ load-front (a .n) (a .n - 0) (a .code .now) (a .work64 .now) (l .load .last .1 .0) (omega arith) (omega (arith, s .pre .1 .room64)) (l .load .ensures),
+      same-room _ _ _ _ _ _ _ (s .pre .1) refl (m .check-operands .kept .0 ∙ long),
+      operands-answer (a .n) (a .code .now) (a .metadata .now) _ (sectionsIn (a .types .now) (a .constants .now) (a .functions .now) (a .externs .now) (a .cases .now)) (s .pre .0) front ∙ sym (m .check-operands .ensures .0) ∙ ap checkOf told,
+      made .1 ∙ front,
       made .0,
     )
 
 returns : tie.Need-returns
+unfolding checkOf
 returns c =
-    let l = c .before .before .before .before .before .before .before .before in
+    let l = c .before .before .before .before .before .before .before .before .before .before in
     let s = start l in
     let a = s .args in
-    tells-same _ (refused _ _) _ _ _ (optimized-steps _ _ ∙ checked-refused _ _ _ _ (operands-answer (a .n) (a .code .now) (a .metadata .now) _ (sectionsIn (a .types .now) (a .constants .now) (a .functions .now) (a .externs .now) (a .cases .now)) (s .pre .0) (load-part (a .n) (a .n - 0) (a .code .now) (a .work64 .now) (l .load .last .1 .0) (omega arith) (omega (arith, s .pre .1 .room64)) (l .load .ensures)) ∙ sym (c .before .before .before .check-operands .ensures) ∙ c .before .k .given .1)) (tells-refused _ _ _ (a .out .now) refl)
+    let front = load-front (a .n) (a .n - 0) (a .code .now) (a .work64 .now) (l .load .last .1 .0) (omega arith) (omega (arith, s .pre .1 .room64)) (l .load .ensures) in
+    tells-same _ (refused _ _) _ _ _ (optimized-steps _ _ ∙ checked-refused _ _ _ _ (operands-answer (a .n) (a .code .now) (a .metadata .now) _ (sectionsIn (a .types .now) (a .constants .now) (a .functions .now) (a .externs .now) (a .cases .now)) (s .pre .0) front ∙ sym (c .before .before .before .before .before .check-operands .ensures .0) ∙ ap checkOf (c .before .k .given .1))) (tells-refused _ _ _ (a .out .now) refl)
 
 returns-2 : tie.Need-returns-2
+unfolding checkOf
 returns-2 c =
-    let l = c .before .before .before .before .before .before .before .before .before .before .before .before .before .before .before .before .before .before .before .before .before .before in
+    let l = c .before .before .before .before .before .before .before .before .before .before .before .before .before .before .before .before .before .before .before .before in
     let s = start l in
     let a = s .args in
-    tells-same _ _ _ _ _ (optimized-steps _ _ ∙ checked-passed _ _ (operands-answer (a .n) (a .code .now) (a .metadata .now) _ (sectionsIn (a .types .now) (a .constants .now) (a .functions .now) (a .externs .now) (a .cases .now)) (s .pre .0) (load-part (a .n) (a .n - 0) (a .code .now) (a .work64 .now) (l .load .last .1 .0) (omega arith) (omega (arith, s .pre .1 .room64)) (l .load .ensures)) ∙ sym (c .before .before .before .before .before .before .before .before .before .before .before .before .before .before .before .before .before .check-operands .ensures) ∙ c .before .before .before .before .before .before .before .before .before .before .before .before .before .before .before .enum-told .given .1)) (c .before .before .before .before .before .before .after-operands .ensures)
+    let front = load-front (a .n) (a .n - 0) (a .code .now) (a .work64 .now) (l .load .last .1 .0) (omega arith) (omega (arith, s .pre .1 .room64)) (l .load .ensures) in
+    tells-same _ _ _ _ _ (optimized-steps _ _ ∙ checked-passed _ _ (operands-answer (a .n) (a .code .now) (a .metadata .now) _ (sectionsIn (a .types .now) (a .constants .now) (a .functions .now) (a .externs .now) (a .cases .now)) (s .pre .0) front ∙ sym (c .before .before .before .before .before .before .before .before .before .before .before .before .before .before .before .check-operands .ensures .0) ∙ ap checkOf (c .before .before .before .before .before .before .before .before .before .before .before .count .given .1))) (c .before .before .before .before .before .before .after-operands .ensures)
 
 pub optimize-spec : {M : Type 1} → statement M
 optimize-spec =
@@ -59,15 +69,11 @@ optimize-spec =
     (λ c. search needs)
     (λ c. search needs)
     (λ c κs. search needs)
-    (λ c. search needs)
-    (λ c. search needs)
+    (λ c κs. search needs)
     (λ c. search needs)
     check-operands-requires
     (λ c. search needs)
     (λ c. search needs)
-    (λ c κs. search needs)
-    (λ c. search needs)
-    (λ c κs. search needs)
     after-operands-requires
     (λ c. search needs)
     returns

@@ -1,10 +1,10 @@
 use mathlib.Core.Path.{refl}
 use Rattle.words.specs.Lists.{every}
 use Rattle.instruction.specs.Class.{namedClass, numberOf, class-bit}
-use Rattle.use_def.specs.Single.{readsFirst}
+use Rattle.effects.specs.Single.{readsFirst}
 use borrow.Author.Needs.{needs}
-use Rattle.use_def.proofs.touch.reads_first.Statement.{statement}
-use Rattle.use_def.proofs.touch.reads_first.Tie as tie
+use Rattle.effects.proofs.single.reads_first.Statement.{statement}
+use Rattle.effects.proofs.single.reads_first.Tie as tie
 
 returns : tie.Need-returns
 unfolding every namedClass numberOf

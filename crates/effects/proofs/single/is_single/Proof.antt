@@ -1,10 +1,10 @@
 use mathlib.Core.Path.{refl}
 use Rattle.words.specs.Lists.{every}
 use Rattle.instruction.specs.Class.{namedClass, numberOf, class-bit}
-use Rattle.use_def.specs.Single.{isSingle}
+use Rattle.effects.specs.Single.{isSingle}
 use borrow.Author.Needs.{needs}
-use Rattle.use_def.proofs.touch.is_single.Statement.{statement}
-use Rattle.use_def.proofs.touch.is_single.Tie as tie
+use Rattle.effects.proofs.single.is_single.Statement.{statement}
+use Rattle.effects.proofs.single.is_single.Tie as tie
 
 returns : tie.Need-returns
 unfolding every namedClass numberOf

@@ -1,10 +1,10 @@
 use mathlib.Core.Path.{refl}
 use Rattle.words.specs.Lists.{every}
 use Rattle.instruction.specs.Class.{namedClass, numberOf, class-bit}
-use Rattle.use_def.specs.Single.{readsSecond}
+use Rattle.effects.specs.Single.{readsSecond}
 use borrow.Author.Needs.{needs}
-use Rattle.use_def.proofs.touch.reads_second.Statement.{statement}
-use Rattle.use_def.proofs.touch.reads_second.Tie as tie
+use Rattle.effects.proofs.single.reads_second.Statement.{statement}
+use Rattle.effects.proofs.single.reads_second.Tie as tie
 
 returns : tie.Need-returns
 unfolding every namedClass numberOf

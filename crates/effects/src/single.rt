@@ -1,0 +1,42 @@
+// Loads, copies and operators, by the number of their class. Their operands are checked by comparisons alone.
+ghost use mathlib.Core.Path.{_≡_};
+ghost use Prim.Native.Nat.{_<_};
+ghost use Rattle.instruction.specs.Class.{numberOf};
+ghost use Rattle.instruction.specs.Instruction.{ofWord};
+ghost use Rattle.instruction.specs.declared.Class.{Class};
+ghost use Rattle.effects.specs.Single.{isSingle, readsFirst, readsSecond, singleWithin};
+use crate::form;
+
+// Is it one of these? It writes slot a, and of single slots it reads b and c at most.
+pub fn is_single(k: u64) -> bool
+    requires { ⌜ k < 15 ⌝ }
+    ensures { λ r. ⌜ ((x : Class) → k ≡ numberOf x → r ≡ isSingle x) ⌝ }
+{
+    (110u64 >> k) % 2 == 1
+}
+
+// Of these, does it read b?
+pub fn reads_first(k: u64) -> bool
+    requires { ⌜ k < 15 ⌝ }
+    ensures { λ r. ⌜ ((x : Class) → k ≡ numberOf x → r ≡ readsFirst x) ⌝ }
+{
+    (104u64 >> k) % 2 == 1
+}
+
+// And c?
+pub fn reads_second(k: u64) -> bool
+    requires { ⌜ k < 15 ⌝ }
+    ensures { λ r. ⌜ ((x : Class) → k ≡ numberOf x → r ≡ readsSecond x) ⌝ }
+{
+    (64u64 >> k) % 2 == 1
+}
+
+// Of an instruction's word: no slot is at or past the limit.
+pub fn is_within(limit: usize, k: u64, w: u64) -> bool
+    requires { ⌜ k < 15 ⌝ }
+    ensures { λ r. ⌜ ((x : Class) → k ≡ numberOf x → r ≡ singleWithin limit x (ofWord w)) ⌝ }
+{
+    (!reads_first(k) | (form::field(w, 1) < limit))
+        & (!reads_second(k) | (form::field(w, 2) < limit))
+        & (form::field(w, 0) < limit)
+}
