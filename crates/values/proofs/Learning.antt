@@ -11,7 +11,7 @@ use borrow.Author.Tests.{eqb-true, eqb-false, eq-eqb, ne-eqb, ltb-true, ltb-fals
 use Rattle.words.specs.Truth.{both, same-bool}
 use Rattle.values.specs.Table.{Values, Expression, slotIn, expressionIn, sameAtom, sameExpression, learn}
 use Rattle.values.specs.Entries.{Key, key, keyAt, value, newest, sameKey, Added}
-use Rattle.values.specs.Chain.{same-key, key-same, newest-le, newest-key}
+use Rattle.values.specs.Search.{same-key, key-same, newest-le, newest-key}
 use Rattle.values.specs.Memory.{Memory, numberAt, markedAt, constantOf, constantKey, expressionKey, slotFound, limit, expressionIf, expressionAt, Ordered, atomIn, atomFound, HasNumber, Holds}
 use Rattle.values.specs.declared.Atom.{Atom}
 use Rattle.values.specs.declared.Found.{Found}
