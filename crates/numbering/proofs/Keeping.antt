@@ -13,7 +13,7 @@ use Rattle.values.specs.Table.{Values, valueOf, expressionIn, recordedSlot}
 use Rattle.values.specs.Number.{copyOrStay}
 use Rattle.values.specs.Folded.{expressionOf}
 use Rattle.values.specs.Entries.{Key, value, newest}
-use Rattle.values.specs.Chain.{newest-le}
+use Rattle.values.specs.Search.{newest-le}
 use Rattle.values.specs.Memory.{memoryOf, numberAt, expressionKey, slotFound, limit, usableAt, expressionIf, expressionAt, Ready, atomIn, atomFound, Holds}
 use Rattle.values.specs.Kept.{Kept, Same}
 use Rattle.numbering.specs.Walk.{sectionsOf, Room}

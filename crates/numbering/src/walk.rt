@@ -11,13 +11,14 @@ ghost use Rattle.effects.specs.Cells.{cellsBy};
 ghost use Rattle.values.specs.Table.{Values, valueOf, expressionIn, recordedSlot, learn};
 ghost use Rattle.values.specs.Number.{loadOrStay, copyOrStay, constantAtom, stored as storedBy, byExpression, byValue, numberCopy, numberConstant, numberRead, numberJump, numberBy, number, numberCode};
 ghost use Rattle.values.specs.Folded.{expressionOf};
-ghost use Rattle.values.specs.Memory.{memoryOf, constantOf, constantKey, expressionKey, limit, atomIn, endAt, Ready, Holds};
+ghost use Rattle.values.specs.Memory.{memoryOf, constantOf, constantKey, expressionKey, limit, expressionAt, atomIn, endAt, Ready, Holds};
 ghost use Rattle.values.specs.Entries.{key, bucketOf};
 ghost use Rattle.values.specs.Kept.{Clears};
 ghost use Rattle.numbering.specs.Walk.{wordOf, Stands, Becomes, Room, Coded, Second, secondNumber, foldBy, binaryClass, operatorClass, onZero, atomOf, KindOf, operated, scalarIn, pureBy, undecidedBy, takes, otherBy, sectionsOf, Begins, Enters, Turns, Numberable};
 ghost use Rattle.values.specs.Named.{Named};
 ghost use Rattle.instruction.specs.declared.Class.the-variants.{Return};
 ghost use Rattle.values.specs.declared.Atom.the-variants.{Definition};
+ghost use Rattle.values.specs.declared.Found.the-variants.{Nothing};
 use crate::Loaded;
 use instruction::Class;
 use instruction::Instruction;
@@ -105,7 +106,7 @@ fn define(
     b: usize,
     word: u64,
 ) -> Instruction
-    requires { ⌜ Room n (length (now types)) (now t) × (i .a < length (now types)) × (p < n) × (b ≡ bucketOf n (key word 0)) × (b < n) × Coded n (length (now types)) (memoryOf n (length (now types)) (now t)) word ⌝ }
+    requires { ⌜ Room n (length (now types)) (now t) × (i .a < length (now types)) × (p < n) × (b ≡ bucketOf n (key word 0)) × (b < n) × Coded n (length (now types)) (memoryOf n (length (now types)) (now t)) word × (expressionAt n (length (now types)) (memoryOf n (length (now types)) (now t)) (key word 0) ≡ Nothing) ⌝ }
     ensures { λ r. ⌜ ((op flags left right : ℕ) → op < 256 → flags < 256 → left < limit n (length (now (types .entry))) (memoryOf n (length (now (types .entry))) (now (t .entry))) → right < limit n (length (now (types .entry))) (memoryOf n (length (now (types .entry))) (now (t .entry))) → key word 0 ≡ expressionKey op flags left right → Becomes n (now (types .entry)) 0 0 1 (now (t .entry)) r (now (t .exit)) (λ dest constants. Stands n p i dest) (λ dest S x. storedBy S i (learn x (expressionOf op flags (atomIn n (length (now (types .entry))) dest (memoryOf n (length (now (types .entry))) (now (t .entry))) left) (atomIn n (length (now (types .entry))) dest (memoryOf n (length (now (types .entry))) (now (t .entry))) right)) (Definition p (i .a))) (Definition p (i .a)))) ⌝ }
 {
     let locals = types.len();

@@ -119,7 +119,7 @@ module _ (n S : ℕ) where
         constant j e =
             let low : j < m .constants = omega arith in
             rw (e, atom-constant dest (m .constantTable) j)
-            (constant-found (keyAt (m .constantTable) n j) (suc j) (o .kinds j low) (o .not-zero j low) (o .once j low) ∙ omega arith)
+            (constant-found (keyAt (m .constantTable) n j) (suc j) (o .kinds j low) (o .not-zero j low) (o .constants .once j low) ∙ omega arith)
 
         zero : (t : Bool) → eqb d (S + n) ≡ t → S + n ≤ d → numberOf m (atomIn n S dest m d) ≡ d
         zero true e l = let z : d ≡ S + n = eqb-true d (S + n) e in rw (z, atom-zero dest (m .constantTable))

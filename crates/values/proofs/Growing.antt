@@ -13,9 +13,10 @@ use borrow.Rule.Slice.PartMut.{putMid}
 use Rattle.words.specs.Regions.{mid-long, mid-set-before, get-before}
 use Rattle.words.specs.Truth.{both}
 use Rattle.values.specs.Entries.{Key, newest, Added}
-use Rattle.values.specs.Chain.{newest-le, newest-key}
-use Rattle.values.specs.Memory.{part, marksAt, constantsAt, expressionsAt, endAt, Memory, memoryOf, constantOf, constantKey, expressionKey, limit, Ready}
+use Rattle.values.specs.Search.{newest-le, newest-key}
+use Rattle.values.specs.Memory.{part, marksAt, constantsAt, expressionsAt, endAt, Memory, memoryOf, constantOf, constantKey, expressionKey, limit, expressionIf, expressionAt, Ready}
 use Rattle.values.specs.Kept.{Interns, Learns}
+use Rattle.values.specs.declared.Found.the-variants.{Nothing}
 use Rattle.values.proofs.Atoms.{atom-zero, atom-constant}
 use Rattle.values.proofs.Parts.{put-length, part-put, part-before, part-after}
 use Rattle.values.proofs.Holding.{grown, taught}
@@ -130,6 +131,15 @@ module _ {n S : ℕ} {t : List ℕ} (g : Ready n S t) where
           is = λ dest. rw (ap (λ (y : Memory). y .constantTable) memory) (atom-next n S (few g) (g .order) (constantKey kind bits) low not-zero none room u b (λ s. getD t′ (3 + s) 0) (λ d. getD t′ (marksAt S + d) 0) (r .slots) (r .marks) dest);
           holds = λ dest v h. rw memory (more-holds n S (few g) (g .order) (constantKey kind bits) low not-zero none room u b (λ s. getD t′ (3 + s) 0) (λ d. getD t′ (marksAt S + d) 0) (r .slots) (r .marks) dest h);
         }
+
+  -- an expression that has no number has no entry
+  pub expression-new : (k : Key) → expressionAt n S (memoryOf n S t) k ≡ Nothing → newest (memoryOf n S t .expressionTable) n (memoryOf n S t .expressions) k ≡ 0
+  unfolding expressionIf
+  expression-new k = go (newest (m .expressionTable) n (m .expressions) k)
+    where
+      go : (x : ℕ) → expressionIf n S (m .expressionTable) x ≡ Nothing → x ≡ 0
+      go zero e = refl
+      go (suc j) e = let z : _≡_ {A = ℕ} 0 1 = cc in absurd (omega arith)
 
   -- a new expression
   module _ (op flags left right d : ℕ) (fop : op < 256) (fflags : flags < 256) (l : left < limit n S (memoryOf n S t)) (r : right < limit n S (memoryOf n S t)) (used : d < limit n S (memoryOf n S t))

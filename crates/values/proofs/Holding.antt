@@ -154,7 +154,6 @@ module _ (n S : ℕ) (few : n ≤ 65536) where
           values-low = o .values-low;
           lefts-low = o .lefts-low;
           rights-low = o .rights-low;
-          once = o .once;
           not-zero = o .not-zero;
           kinds = o .kinds;
         }
@@ -236,7 +235,6 @@ module _ (n S : ℕ) (few : n ≤ 65536) where
           values-low = o .values-low;
           lefts-low = o .lefts-low;
           rights-low = o .rights-low;
-          once = o .once;
           not-zero = o .not-zero;
           kinds = o .kinds;
         }
@@ -287,7 +285,6 @@ module _ (n S : ℕ) (few : n ≤ 65536) where
           values-low = λ j l. absurd (omega arith);
           lefts-low = λ j l. absurd (omega arith);
           rights-low = λ j l. absurd (omega arith);
-          once = λ j l. absurd (omega arith);
           not-zero = λ j l. absurd (omega arith);
           kinds = λ j l. absurd (omega arith);
         }

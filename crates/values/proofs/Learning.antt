@@ -11,7 +11,7 @@ use borrow.Author.Tests.{eqb-true, eqb-false, eq-eqb, ne-eqb, ltb-true, ltb-fals
 use Rattle.words.specs.Truth.{both, same-bool}
 use Rattle.values.specs.Table.{Values, Expression, slotIn, expressionIn, sameAtom, sameExpression, learn}
 use Rattle.values.specs.Entries.{Key, key, keyAt, value, newest, sameKey, Added}
-use Rattle.values.specs.Chain.{same-key, key-same, newest-le, newest-key}
+use Rattle.values.specs.Search.{same-key, key-same, newest-le, newest-key}
 use Rattle.values.specs.Memory.{Memory, numberAt, markedAt, constantOf, constantKey, expressionKey, slotFound, limit, expressionIf, expressionAt, Ordered, atomIn, atomFound, HasNumber, Holds}
 use Rattle.values.specs.declared.Atom.{Atom}
 use Rattle.values.specs.declared.Found.{Found}
@@ -55,20 +55,6 @@ module _ (n S : ℕ) (few : n ≤ 65536) where
         go true q = rw (eqb-true j (m .constants) q, g .is-key) h
         go false q = let z = eqb-false j (m .constants) q in let y : j < m .constants = omega arith in rw (g .keys j y) (f j y)
 
-    once-more : (j : ℕ) → j < m .constants + 1 → newest u n (m .constants + 1) (keyAt u n j) ≡ suc j
-    once-more =
-        entries (λ j l. newest u n (m .constants + 1) l ≡ suc j)
-        (g .answer k ∙ rw (key-same k) (omega arith))
-        (λ j l. g .answer (keyAt (m .constantTable) n j) ∙ go j l (sameKey k (keyAt (m .constantTable) n j)) refl)
-      where
-        go : (j : ℕ) → j < m .constants → (t : Bool) → sameKey k (keyAt (m .constantTable) n j) ≡ t
-            → cond t (m .constants + 1) (newest (m .constantTable) n (m .constants) (keyAt (m .constantTable) n j)) ≡ suc j
-        go j l true q =
-            let z : newest (m .constantTable) n (m .constants) k ≡ suc j
-            = ap (newest (m .constantTable) n (m .constants)) (same-key k (keyAt (m .constantTable) n j) q) ∙ o .once j l in
-            absurd (omega arith)
-        go j l false q = o .once j l
-
     pub more-ordered : Ordered n S (grown m slot mark u)
     more-ordered =
         record {
@@ -84,7 +70,6 @@ module _ (n S : ℕ) (few : n ≤ 65536) where
           values-low = λ j l. omega (arith, o .values-low j l);
           lefts-low = λ j l. omega (arith, o .lefts-low j l);
           rights-low = λ j l. omega (arith, o .rights-low j l);
-          once = once-more;
           not-zero = entries (λ j l. l ≡ constantKey 0 0 → ⊥) other (o .not-zero);
           kinds = entries (λ j l. l .right ≤ 1) kind (o .kinds);
         }
@@ -263,7 +248,6 @@ module _ (n S : ℕ) (few : n ≤ 65536) where
           values-low = terms (λ j x y. y < limit n S m) used (λ j y. o .values-low j y);
           lefts-low = terms (λ j x y. x .left / 65536 % 16777216 < limit n S m) (rw (key-left op flags left right a b big-left) l) (λ j y. o .lefts-low j y);
           rights-low = terms (λ j x y. x .left / 1099511627776 < limit n S m) (rw (key-right op flags left right a b big-left) r) (λ j y. o .rights-low j y);
-          once = o .once;
           not-zero = o .not-zero;
           kinds = o .kinds;
         }

@@ -12,7 +12,7 @@ use borrow.Author.Tests.{eq-eqb, ne-eqb, lt-ltb, le-ltb, ltb-true}
 use Rattle.words.specs.Regions.{get-mid}
 use Rattle.words.specs.Truth.{both}
 use Rattle.values.specs.Entries.{Key, keyAt, value, newest}
-use Rattle.values.specs.Chain.{newest-le}
+use Rattle.values.specs.Search.{newest-le}
 use Rattle.values.specs.Folded.{integerOf}
 use Rattle.values.specs.Memory.{constantsAt, expressionsAt, endAt, Memory, memoryOf, numberAt, markedAt, markedOr, slotOr, usableIn, usableAt, integerAt, expressionIf, expressionAt, limit, Ready}
 use Rattle.values.specs.declared.Atom.the-variants.{Integer, Float, Definition}

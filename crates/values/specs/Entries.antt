@@ -1,5 +1,6 @@
--- A table of entries in a list of words: h heads, then entries of 4 words, a key of two, a value and a link.
--- What a look-up answers, and what heads and links hold.
+-- A table of entries in a list of words: h heads, then entries of 4 words, a key of two, a value and two links of 32 bits.
+-- What a look-up answers, and what heads and links hold: each bucket is a search tree. The bits of a key's first word, the lowest
+-- first, are the path from the bucket's head to the key's entry.
 -- Assumes nothing.
 use mathlib.Core.Path.{_≡_}
 use mathlib.Core.Bool.{Bool, cond, _&&_}
@@ -26,8 +27,16 @@ keyAt w h j = keyIn w (h + 4 * j)
 abbrev pub value : List ℕ → ℕ → ℕ → ℕ
 value w h j = getD w (h + 4 * j + 2) 0
 
-abbrev pub link : List ℕ → ℕ → ℕ → ℕ
-link w h j = getD w (h + 4 * j + 3) 0
+abbrev pub links : List ℕ → ℕ → ℕ → ℕ
+links w h j = getD w (h + 4 * j + 3) 0
+
+-- the link on the side that the lowest bit of a path names: 1 + an entry, or 0
+unfoldable pub childOf : ℕ → ℕ → ℕ
+childOf x path = cond (eqb (path % 2) 0) x (x / 4294967296) % 4294967296
+
+-- the links of which this one is i and the other is 0
+unfoldable pub linkOf : ℕ → ℕ → ℕ
+linkOf i path = cond (eqb (path % 2) 0) i (4294967296 * i)
 
 -- the bucket of a key: the high 32 bits of a sum of products, scaled to h
 unfoldable pub mixed : Key → ℕ
@@ -50,28 +59,58 @@ newest w h (suc n) k =
     let r = newest w h n k in
     cond (sameKey (keyAt w h n) k) (suc n) r
 
--- 1 + the largest j below n in bucket b, or 0
-unfoldable pub latest : List ℕ → ℕ → ℕ → ℕ → ℕ
-latest w h b zero = 0
-latest w h b (suc n) =
-    let r = latest w h b n in
-    cond (eqb (bucketAt w h n) b) (suc n) r
-
 -- a head: the epoch in which it was set, and 1 + an entry
 unfoldable pub headAt : List ℕ → ℕ → ℕ → ℕ
 headAt w epoch b = cond (eqb (getD w b 0 / 4294967296) epoch) (getD w b 0 % 4294967296) 0
 
--- the invariant: each head leads to its bucket's newest entry, and each link to the newest before its own
+-- a path leads from entry p to entry q, both counted from 1: p is q, or what is left of the path leads there from p's child
+pub data Leads (w : List ℕ) (h : ℕ) : ℕ → ℕ → ℕ → Type 0 where
+  here : {path p : ℕ} → Leads w h path p p
+  down : {path j q : ℕ} → Leads w h (path / 2) (childOf (links w h j) path) q → Leads w h path (suc j) q
+
+-- each child is a later entry, so that every walk ends
+pub record Forward (w : List ℕ) (h count : ℕ) : Type 0 where
+  pub low : (j path : ℕ) → j < count → childOf (links w h j) path ≤ count
+  pub later : (j path : ℕ) → j < count → 0 < childOf (links w h j) path → suc j < childOf (links w h j) path
+
+-- the invariant: a key's bits lead from its bucket's head to its entry, and each key has one entry
 pub record Linked (w : List ℕ) (h epoch count : ℕ) : Type 0 where
   pub some : 0 < h
   pub few : h ≤ 65536
   pub fits : epoch < 4294967296
   pub room : h + 4 * count ≤ length w
   pub past : (b : ℕ) → b < h → getD w b 0 / 4294967296 ≤ epoch
-  pub heads : (b : ℕ) → b < h → headAt w epoch b ≡ latest w h b count
-  pub links : (j : ℕ) → j < count → link w h j ≡ latest w h (bucketAt w h j) j
+  pub heads : (b : ℕ) → b < h → headAt w epoch b ≤ count
+  pub forward : Forward w h count
+  pub reached : (j : ℕ) → j < count → Leads w h (keyAt w h j .left) (headAt w epoch (bucketAt w h j)) (suc j)
+  pub once : (j : ℕ) → j < count → newest w h count (keyAt w h j) ≡ suc j
 
--- what an insertion does: w before, u after
+-- a head or a link that is as it was, or was 0 and is i
+pub data Filled (i : ℕ) : ℕ → ℕ → Type 0 where
+  same : {x : ℕ} → Filled i x x
+  new : Filled i 0 i
+
+-- what an attachment of entry `count` does to the links of the others: w before, u after
+abbrev pub Extends : List ℕ → List ℕ → ℕ → ℕ → Type 0
+Extends w u h count = (j path : ℕ) → j < count → Filled (suc count) (childOf (links w h j) path) (childOf (links u h j) path)
+
+-- entry `count` attached below entry p, along a path; all words but one of the earlier links are as they were
+pub record Attached (w u : List ℕ) (h count p path : ℕ) : Type 0 where
+  pub long : length u ≡ length w
+  pub kept : (i : ℕ) → ((j : ℕ) → j < count → i ≡ h + 4 * j + 3 → ⊥) → getD u i 0 ≡ getD w i 0
+  pub extends : Extends w u h count
+  pub leads : Leads u h path p (suc count)
+
+-- what an insertion asks: room for one entry more, with a key of bucket b that has none
+pub record Addable (w : List ℕ) (h epoch count b : ℕ) (k : Key) : Type 0 where
+  pub linked : Linked w h epoch count
+  pub bucket : b ≡ bucketOf h k
+  pub low : b < h
+  pub few : count < 65536
+  pub room : h + 4 * count + 4 ≤ length w
+  pub absent : newest w h count k ≡ 0
+
+-- what it does: w before, u after
 pub record Added (w u : List ℕ) (h epoch count : ℕ) (k : Key) (v : ℕ) : Type 0 where
   pub linked : Linked u h epoch (count + 1)
   pub answer : (l : Key) → newest u h (count + 1) l ≡ cond (sameKey k l) (count + 1) (newest w h count l)

@@ -4,7 +4,8 @@ pub mod Table
 pub mod Number
 pub mod Folded
 pub mod Entries
-pub mod Chain
+pub mod Search
+pub mod Attaching
 pub mod Adding
 pub mod Memory
 pub mod Kept

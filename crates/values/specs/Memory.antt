@@ -144,8 +144,7 @@ module _ (n S : ℕ) where
     pub values-low : (j : ℕ) → j < m .expressions → value (m .expressionTable) n j < limit m
     pub lefts-low : (j : ℕ) → j < m .expressions → keyAt (m .expressionTable) n j .left / 65536 % 16777216 < limit m
     pub rights-low : (j : ℕ) → j < m .expressions → keyAt (m .expressionTable) n j .left / 1099511627776 < limit m
-    -- a constant has one entry; Integer 0 has none; a kind is 0 or 1
-    pub once : (j : ℕ) → j < m .constants → newest (m .constantTable) n (m .constants) (keyAt (m .constantTable) n j) ≡ suc j
+    -- of the constants Integer 0 has no entry; a kind is 0 or 1
     pub not-zero : (j : ℕ) → j < m .constants → keyAt (m .constantTable) n j ≡ constantKey 0 0 → ⊥
     pub kinds : (j : ℕ) → j < m .constants → keyAt (m .constantTable) n j .right ≤ 1
 

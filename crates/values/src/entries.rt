@@ -1,10 +1,12 @@
-// A table in one lent buffer `w`: `h` heads, then `count` entries of 4 words (a key of two, a value and a link to the newest
-// earlier entry of the same bucket). A head has the epoch in which it was set: to clear the table is to go on to the next epoch
-// with no entries. It stands in for the `HashMap`s of `Values`.
+// A table in one lent buffer `w`: `h` heads, then `count` entries of 4 words (a key of two, a value and two links of 32 bits). Each
+// bucket is a search tree: at an entry with another key, a look-up goes down to the side that the next bit of the key's first word
+// names, the lowest bit first. So it passes at most 64 entries with another first word, also where the keys were chosen to fall
+// into one bucket. A head has the epoch in which it was set: to clear the table is to go on to the next epoch with no entries. It
+// stands in for the `HashMap`s of `Values`.
 ghost use mathlib.Core.Path.{_≡_};
 ghost use Prim.Native.Nat.{_+_, _*_, _≤_, _<_};
 ghost use lib.ListN.{length};
-ghost use Rattle.values.specs.Entries.{key, mixed, bucketOf, headAt, sameKey, keyIn, newest, Linked, Added};
+ghost use Rattle.values.specs.Entries.{key, childOf, linkOf, mixed, bucketOf, headAt, sameKey, keyIn, newest, Forward, Linked, Attached, Addable, Added};
 use words::word;
 
 // A sum of products by odd constants: its high bits depend on all bits of the key.
@@ -25,7 +27,7 @@ pub fn bucket(h: usize, left: u64, right: u64) -> usize
     high * h / 4294967296
 }
 
-// The newest entry of a bucket, counted from 1, or 0.
+// The first entry of a bucket, counted from 1, or 0.
 fn head(w: &[u64], epoch: u64, b: usize) -> u64
     requires { ⌜ b < length (now w) ⌝ }
     ensures { λ r. ⌜ r ≡ headAt (now (w .entry)) epoch b ⌝ }
@@ -45,23 +47,60 @@ fn holds(w: &[u64], at: usize, left: u64, right: u64) -> bool
     (w[at] == left) & (w[at + 1] == right)
 }
 
-// The newest of the entries with the key, whose bucket is `b`, counted from 1, or 0.
+// The link on the side that the lowest bit of the path names.
+fn child(links: u64, path: u64) -> u64
+    ensures { λ r. ⌜ r ≡ childOf links path ⌝ }
+{
+    (links >> (32 * (path % 2))) % 4294967296
+}
+
+// An entry's number as the link on that side.
+fn link(entry: u64, path: u64) -> u64
+    requires { ⌜ entry < 4294967296 ⌝ }
+    ensures { λ r. ⌜ r ≡ linkOf entry path ⌝ }
+{
+    entry << (32 * (path % 2))
+}
+
+// The entry with the key, whose bucket is `b`, counted from 1, or 0.
 pub fn find(w: &[u64], h: usize, epoch: u64, count: usize, b: usize, left: u64, right: u64) -> usize
     requires { ⌜ Linked (now w) h epoch count × (b ≡ bucketOf h (key left right)) × (b < h) ⌝ }
     ensures { λ r. ⌜ r ≡ newest (now (w .entry)) h count (key left right) ⌝ }
 {
+    let mut path = left;
     let mut p = head(w, epoch, b) as usize;
     while p > 0 {
         let at = h + 4 * (p - 1);
         if holds(w, at, left, right) {
             return p;
         }
-        p = w[at + 3] as usize;
+        p = child(w[at + 3], path) as usize;
+        path = path / 2;
     }
     0
 }
 
-// One entry more, the newest of its bucket.
+// Entry `count` goes below the one where the walk along the path from entry `first` ends.
+fn attach(w: &mut [u64], h: usize, count: usize, first: usize, left: u64)
+    requires { ⌜ Forward (now w) h count × (0 < first) × (first ≤ count) × (count < 65536) × (h + 4 * count ≤ length (now w)) ⌝ }
+    ensures { λ _. ⌜ Attached (now (w .entry)) (now (w .exit)) h count first left ⌝ }
+{
+    let mut path = left;
+    let mut p = first;
+    loop {
+        let at = h + 4 * (p - 1) + 3;
+        let links = w[at];
+        let next = child(links, path);
+        if next == 0 {
+            w[at] = links + link((count + 1) as u64, path);
+            return;
+        }
+        p = next as usize;
+        path = path / 2;
+    }
+}
+
+// One entry more, whose key has none yet.
 pub fn insert(
     w: &mut [u64],
     h: usize,
@@ -72,14 +111,18 @@ pub fn insert(
     right: u64,
     v: u64,
 )
-    requires { ⌜ Linked (now w) h epoch count × (b ≡ bucketOf h (key left right)) × (b < h) × (count < 65536) × (h + 4 * count + 4 ≤ length (now w)) ⌝ }
+    requires { ⌜ Addable (now w) h epoch count b (key left right) ⌝ }
     ensures { λ _. ⌜ Added (now (w .entry)) (now (w .exit)) h epoch count (key left right) v ⌝ }
 {
     let at = h + 4 * count;
-    let old = head(&w[..], epoch, b);
+    let first = head(&w[..], epoch, b);
     w[at] = left;
     w[at + 1] = right;
     w[at + 2] = v;
-    w[at + 3] = old;
-    w[b] = 4294967296 * epoch + ((count + 1) as u64);
+    w[at + 3] = 0;
+    if first == 0 {
+        w[b] = 4294967296 * epoch + ((count + 1) as u64);
+        return;
+    }
+    attach(w, h, count, first as usize, left);
 }

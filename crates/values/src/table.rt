@@ -9,6 +9,7 @@ ghost use Rattle.values.specs.Entries.{key, bucketOf};
 ghost use Rattle.values.specs.Folded.{integerOf};
 ghost use Rattle.values.specs.Memory.{memoryOf, numberAt, markedAt, markedOr, slotOr, usableAt, expressionAt, expressionKey, integerAt, limit, Ready};
 ghost use Rattle.values.specs.Kept.{Clears, Represents, Stores, Interns, Learns};
+ghost use Rattle.values.specs.declared.Found.the-variants.{Nothing};
 use crate::Atom;
 use crate::Found;
 use crate::entries;
@@ -180,9 +181,9 @@ pub fn find_expression(t: &[u64], n: usize, locals: usize, b: usize, word: u64) 
     Found::At(t[start + n + 4 * (f - 1) + 2])
 }
 
-// One expression more, whose value has the number d.
+// One expression more, which is not there yet: its value has the number d.
 pub fn learn(t: &mut [u64], n: usize, locals: usize, b: usize, word: u64, d: u64)
-    requires { ⌜ Ready n locals (now t) × (memoryOf n locals (now t) .expressions < n) × (b ≡ bucketOf n (key word 0)) × (b < n) × (d < limit n locals (memoryOf n locals (now t))) ⌝ }
+    requires { ⌜ Ready n locals (now t) × (memoryOf n locals (now t) .expressions < n) × (b ≡ bucketOf n (key word 0)) × (b < n) × (d < limit n locals (memoryOf n locals (now t))) × (expressionAt n locals (memoryOf n locals (now t)) (key word 0) ≡ Nothing) ⌝ }
     ensures { λ _. ⌜ ((op flags left right : ℕ) → op < 256 → flags < 256 → left < limit n locals (memoryOf n locals (now (t .entry))) → right < limit n locals (memoryOf n locals (now (t .entry))) → key word 0 ≡ expressionKey op flags left right → Learns n locals (now (t .entry)) op flags left right d (now (t .exit))) ⌝ }
 {
     let start = 4 + 2 * locals + 7 * n;

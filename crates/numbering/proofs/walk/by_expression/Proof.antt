@@ -1,3 +1,4 @@
+use mathlib.Core.Path.{sym, _∙_}
 use Rattle.numbering.proofs.Keeping.{found-low}
 use Rattle.numbering.proofs.Walking.{expression-found, expression-none}
 use borrow.Author.Needs.{needs}
@@ -9,6 +10,9 @@ copy-or-stay-requires c κs = (c .before .before .before .before .before .before
 
 returns : tie.Need-returns
 returns c = expression-found (c .before .before .before .before .before .before .before .before .before .before .before .before .before .args .i) (c .before .before .before .before .before .before .before .before .before .before .before .before .before .args .p) (c .before .before .before .before .before .before .before .before .before .before .before .before .before .args .left) (c .before .before .before .before .before .before .before .before .before .before .before .before .before .args .right) (c .before .before .before .before .before .before .before .before .before .before .before .before .before .pre .3) (c .before .before .before .before .before .before .before .before .before .before .before .before .before .pre .4) (c .before .before .before .before .before .before .before .before .before .before .expression-word .ensures .2) _ (c .before .before .before .before .before .before .before .find-expression .ensures) (c .before .before .before .before .before .d .given .1) (c .before .before .copy-or-stay .ensures)
+
+define-requires : tie.Need-define-requires
+define-requires c κs = (search needs, search needs, search needs, search needs, search needs, search needs, sym (c .before .before .before .find-expression .ensures) ∙ c .before .enum-told .given .1)
 
 returns-2 : tie.Need-returns-2
 returns-2 c = expression-none (c .before .before .before .before .before .before .before .before .before .before .before .before .args .i) (c .before .before .before .before .before .before .before .before .before .before .before .before .args .p) (c .before .before .before .before .before .before .before .before .before .before .before .before .args .left) (c .before .before .before .before .before .before .before .before .before .before .before .before .args .right) (c .before .before .before .before .before .before .before .before .before .before .before .before .pre .3) (c .before .before .before .before .before .before .before .before .before .before .before .before .pre .4) (c .before .before .before .before .before .before .before .before .before .expression-word .ensures .2) (c .before .before .before .before .before .before .find-expression .ensures) (c .before .before .before .before .enum-told .given .1) (c .before .before .before .before .before .before .before .before .before .expression-word .ensures .0) (c .before .before .before .before .before .before .before .before .before .expression-word .ensures .1) (c .before .before .define .ensures)
@@ -23,7 +27,7 @@ by-expression-spec =
     (λ c. search needs)
     copy-or-stay-requires
     (λ c. search needs)
-    (λ c κs. search needs)
+    define-requires
     (λ c. search needs)
     returns
     (λ c. search needs)

@@ -1,7 +1,6 @@
 use native.Mathlib.Omega.{arith}
 use lib.ListN.{length-set}
-use Rattle.values.specs.Entries.{key}
-use Rattle.values.specs.Adding.{insert-adds}
+use Rattle.values.specs.Adding.{first-added, attach-asks, later-added}
 use borrow.Author.Needs.{needs}
 use Rattle.values.proofs.entries.insert.Statement.{statement}
 use Rattle.values.proofs.entries.insert.Tie as tie
@@ -19,7 +18,16 @@ slice-write-w-5 : tie.Need-slice-write-w-5
 slice-write-w-5 c = simp length-set (omega arith)
 
 returns : tie.Need-returns
-returns c = insert-adds {k = key (c .before .before .before .args .left) (c .before .before .before .args .right)} (c .before .before .before .pre .0) (c .before .before .before .pre .4) (c .before .before .before .pre .3) (c .before .before .before .pre .1) (c .before .before .before .pre .2) (c .head .ensures)
+returns c = first-added (c .before .before .before .before .args .v) (c .before .before .before .before .pre) (c .before .head .ensures) (c .if1 .taken)
+
+attach-requires : tie.Need-attach-requires
+attach-requires c κs = attach-asks (c .before .before .before .before .before .args .v) (c .before .before .before .before .before .pre) (c .before .before .head .ensures) (c .before .if1 .left)
+
+returns-2 : tie.Need-returns-2
+returns-2 c = later-added (c .before .before .before .before .before .before .before .before .args .v) (c .before .before .before .before .before .before .before .before .pre) (c .before .before .before .before .before .head .ensures) (c .before .before .attach .ensures)
+
+same-length-2 : tie.Need-same-length-2
+same-length-2 c = returns-2 c .long
 
 pub insert-spec : {M : Type 1} → statement M
 insert-spec =
@@ -45,4 +53,7 @@ insert-spec =
     (λ c. search needs)
     slice-write-w-5
     (λ c. search needs)
-    returns)
+    returns
+    attach-requires
+    same-length-2
+    returns-2)

@@ -15,7 +15,7 @@ returns-2 : tie.Need-returns-2
 returns-2 c = interns-found (c .before .before .before .before .before .before .before .before .before .pre .0) _ _ _ (c .before .find .ensures) (c .if2 .taken)
 
 insert-requires : tie.Need-insert-requires
-insert-requires c κs = let r = constants-room (c .before .before .before .before .before .before .before .before .before .before .pre .0) (c .before .before .before .before .before .before .before .before .before .before .pre .1) in (c .before .before .before .before .before .before .before .before .before .before .pre .0 .order .constants, c .before .before .before .before .before .bucket .ensures .0, c .before .before .before .before .before .bucket .ensures .1, r .0, r .1)
+insert-requires c κs = let r = constants-room (c .before .before .before .before .before .before .before .before .before .before .pre .0) (c .before .before .before .before .before .before .before .before .before .before .pre .1) in record { linked = c .before .before .before .before .before .before .before .before .before .before .pre .0 .order .constants; bucket = c .before .before .before .before .before .bucket .ensures .0; low = c .before .before .before .before .before .bucket .ensures .1; few = r .0; room = r .1; absent = search needs }
 
 returns-3 : tie.Need-returns-3
 returns-3 c = interns-new (c .before .before .before .before .before .before .before .before .before .before .before .before .before .pre .0) _ _ (c .before .before .before .before .before .before .before .before .before .before .before .before .before .pre .2) (c .before .before .before .before .before .before .before .before .before .before .before .if1 .left) (rw (← c .before .before .before .before .before .find .ensures) (c .before .before .before .before .if2 .left)) (c .before .before .before .before .before .before .before .before .before .before .before .before .before .pre .1) _ (c .before .before .insert .ensures)
