@@ -1,11 +1,13 @@
-use mathlib.Core.Path.{refl, sym, ap, _∙_}
-use Prim.Native.Nat.{_-_}
+use mathlib.Core.Path.{_≡_, refl, sym, ap, _∙_}
+use mathlib.Core.List.{List, _++_}
+use Prim.Native.Nat.{ℕ, _-_}
 use native.Mathlib.Omega.{arith}
 use lib.ListN.{length}
+use borrow.Rule.Slice.PartMut.{midOf, postOf}
 use Rattle.flow.specs.Listing.{checkOf, ListedBy}
 use Rattle.answer.specs.Pass.{refused}
 use Rattle.removal.specs.Kept.{sectionsIn}
-use Rattle.optimize.specs.Parts.{tells-refused, tells-same, optimized-steps}
+use Rattle.optimize.specs.Parts.{wordsIn, tells-refused, tells-same, optimized-steps}
 use Rattle.optimize.specs.Chain.{checked-refused, checked-passed, same-room, load-front, load-long, operands-asks, operands-answer}
 use Rattle.optimize.specs.Steps.{list-made}
 use borrow.Author.Needs.{needs}
@@ -15,14 +17,28 @@ use Rattle.optimize.proofs.parts.optimize.Tie as tie
 abbrev start : tie.After-load → tie.Start
 start l = l .before .before .before .before .before .before .before .before .before .before .before .before
 
+-- the work after it
+abbrev loaded : tie.After-load → List ℕ
+loaded l = let a = start l .args in l .load .last .1 .0 ++ postOf 0 (a .n - 0) (a .work64 .now)
+
+front : (l : tie.After-load) → let a = start l .args in midOf 0 (a .n) (loaded l) ≡ wordsIn (a .n) (a .code .now)
+front l =
+    let s = start l in
+    let a = s .args in
+    load-front (a .n) (a .n - 0) (a .code .now) (a .work64 .now) (l .load .last .1 .0) (omega arith) (omega (arith, s .pre .1 .room64)) (l .load .ensures)
+
+long : (l : tie.After-load) → length (loaded l) ≡ length (start l .args .work64 .now)
+long l =
+    let s = start l in
+    let a = s .args in
+    load-long (a .n) (a .n - 0) (a .code .now) (a .work64 .now) (l .load .last .1 .0) (omega arith) (omega (arith, s .pre .1 .room64)) (l .load .ensures)
+
 check-operands-requires : tie.Need-check-operands-requires
 check-operands-requires c κs =
     let l = c .before .before .before .before in
     let s = start l in
     let a = s .args in
-    let front = load-front (a .n) (a .n - 0) (a .code .now) (a .work64 .now) (l .load .last .1 .0) (omega arith) (omega (arith, s .pre .1 .room64)) (l .load .ensures) in
-    let long = load-long (a .n) (a .n - 0) (a .code .now) (a .work64 .now) (l .load .last .1 .0) (omega arith) (omega (arith, s .pre .1 .room64)) (l .load .ensures) in
-    operands-asks (a .n) (a .code .now) (a .metadata .now) _ (sectionsIn (a .types .now) (a .constants .now) (a .functions .now) (a .externs .now) (a .cases .now)) (s .pre .0) front _ _ (rw (c .before .work64-room .ensures)) (rw long (s .pre .1 .room64))
+    operands-asks (a .n) (a .code .now) (a .metadata .now) _ (sectionsIn (a .types .now) (a .constants .now) (a .functions .now) (a .externs .now) (a .cases .now)) (s .pre .0) (front l) _ _ (rw (c .before .work64-room .ensures)) (rw (long l) (s .pre .1 .room64))
 
 after-operands-requires : tie.Need-after-operands-requires
 unfolding checkOf ListedBy
@@ -32,14 +48,12 @@ after-operands-requires c κs =
     let a = s .args in
     let m = c .before .before .before .before .before .before .before .before in
     let told = c .before .before .before .before .count .given .1 in
-    let front = load-front (a .n) (a .n - 0) (a .code .now) (a .work64 .now) (l .load .last .1 .0) (omega arith) (omega (arith, s .pre .1 .room64)) (l .load .ensures) in
-    let long = load-long (a .n) (a .n - 0) (a .code .now) (a .work64 .now) (l .load .last .1 .0) (omega arith) (omega (arith, s .pre .1 .room64)) (l .load .ensures) in
     let listed = rw told at (m .check-operands .ensures .1) in
-    let made = list-made (a .n) (length (a .types .now)) _ _ _ (m .check-operands .last .0) (rw (c .before .before .before .before .before .before .before .before .before .before .work64-room .ensures)) (s .pre .0 .some) (rw long (s .pre .1 .room64)) (m .check-operands .kept .0) (listed .0, listed .1, m .check-operands .ensures .2) in (
+    let made = list-made (a .n) (length (a .types .now)) _ _ _ (m .check-operands .last .0) (rw (c .before .before .before .before .before .before .before .before .before .before .work64-room .ensures)) (s .pre .0 .some) (rw (long l) (s .pre .1 .room64)) (m .check-operands .kept .0) (listed .0, listed .1, m .check-operands .ensures .2) in (
       s .pre .0,
-      same-room _ _ _ _ _ _ _ (s .pre .1) refl (m .check-operands .kept .0 ∙ long),
-      operands-answer (a .n) (a .code .now) (a .metadata .now) _ (sectionsIn (a .types .now) (a .constants .now) (a .functions .now) (a .externs .now) (a .cases .now)) (s .pre .0) front ∙ sym (m .check-operands .ensures .0) ∙ ap checkOf told,
-      made .1 ∙ front,
+      same-room _ _ _ _ _ _ _ (s .pre .1) refl (m .check-operands .kept .0 ∙ long l),
+      operands-answer (a .n) (a .code .now) (a .metadata .now) _ (sectionsIn (a .types .now) (a .constants .now) (a .functions .now) (a .externs .now) (a .cases .now)) (s .pre .0) (front l) ∙ sym (m .check-operands .ensures .0) ∙ ap checkOf told,
+      made .1 ∙ front l,
       made .0,
     )
 
@@ -49,8 +63,7 @@ returns c =
     let l = c .before .before .before .before .before .before .before .before .before .before in
     let s = start l in
     let a = s .args in
-    let front = load-front (a .n) (a .n - 0) (a .code .now) (a .work64 .now) (l .load .last .1 .0) (omega arith) (omega (arith, s .pre .1 .room64)) (l .load .ensures) in
-    tells-same _ (refused _ _) _ _ _ (optimized-steps _ _ ∙ checked-refused _ _ _ _ (operands-answer (a .n) (a .code .now) (a .metadata .now) _ (sectionsIn (a .types .now) (a .constants .now) (a .functions .now) (a .externs .now) (a .cases .now)) (s .pre .0) front ∙ sym (c .before .before .before .before .before .check-operands .ensures .0) ∙ ap checkOf (c .before .k .given .1))) (tells-refused _ _ _ (a .out .now) refl)
+    tells-same _ (refused _ _) _ _ _ (optimized-steps _ _ ∙ checked-refused _ _ _ _ (operands-answer (a .n) (a .code .now) (a .metadata .now) _ (sectionsIn (a .types .now) (a .constants .now) (a .functions .now) (a .externs .now) (a .cases .now)) (s .pre .0) (front l) ∙ sym (c .before .before .before .before .before .check-operands .ensures .0) ∙ ap checkOf (c .before .k .given .1))) (tells-refused _ _ _ (a .out .now) refl)
 
 returns-2 : tie.Need-returns-2
 unfolding checkOf
@@ -58,8 +71,7 @@ returns-2 c =
     let l = c .before .before .before .before .before .before .before .before .before .before .before .before .before .before .before .before .before .before .before .before in
     let s = start l in
     let a = s .args in
-    let front = load-front (a .n) (a .n - 0) (a .code .now) (a .work64 .now) (l .load .last .1 .0) (omega arith) (omega (arith, s .pre .1 .room64)) (l .load .ensures) in
-    tells-same _ _ _ _ _ (optimized-steps _ _ ∙ checked-passed _ _ (operands-answer (a .n) (a .code .now) (a .metadata .now) _ (sectionsIn (a .types .now) (a .constants .now) (a .functions .now) (a .externs .now) (a .cases .now)) (s .pre .0) front ∙ sym (c .before .before .before .before .before .before .before .before .before .before .before .before .before .before .before .check-operands .ensures .0) ∙ ap checkOf (c .before .before .before .before .before .before .before .before .before .before .before .count .given .1))) (c .before .before .before .before .before .before .after-operands .ensures)
+    tells-same _ _ _ _ _ (optimized-steps _ _ ∙ checked-passed _ _ (operands-answer (a .n) (a .code .now) (a .metadata .now) _ (sectionsIn (a .types .now) (a .constants .now) (a .functions .now) (a .externs .now) (a .cases .now)) (s .pre .0) (front l) ∙ sym (c .before .before .before .before .before .before .before .before .before .before .before .before .before .before .before .check-operands .ensures .0) ∙ ap checkOf (c .before .before .before .before .before .before .before .before .before .before .before .count .given .1))) (c .before .before .before .before .before .before .after-operands .ensures)
 
 pub optimize-spec : {M : Type 1} → statement M
 optimize-spec =
