@@ -9,7 +9,6 @@ use lib.Dec.{eqb, ltb, leb}
 use borrow.Author.Tests.{not-true}
 use Rattle.instruction.specs.Opcode.{maxValid}
 use Rattle.instruction.specs.declared.Instruction.{Instruction}
-use Rattle.instruction.specs.declared.Class.{Class}
 use Rattle.instruction.specs.Instruction.{class, ofWord, imm32Unsigned}
 use Rattle.unit.specs.declared.Metadata.{Metadata}
 use Rattle.unit.specs.Entry.{kindLoopEnd, metadataAt}
@@ -21,9 +20,9 @@ use Rattle.flow.specs.Stack.{Pushed, push-none, push-then}
 use Rattle.flow.specs.Successors.{nearSuccessors, loopSuccessorsOf}
 
 module _ (n sp p : ℕ) (i : Instruction) (st : List ℕ) where
-  pub push-near : (t : ℕ) (x : Class) (a b : Bool) {st₁ st₂ : List ℕ} {r₁ r₂ : ℕ} → x ≡ class i → a ≡ falls x → Pushed n sp (cond a ((p + 1) ∷ []) []) st st₁ r₁
-      → b ≡ branches x → t ≡ target p i → Pushed n r₁ (cond b (t ∷ []) []) st₁ st₂ r₂ → Pushed n sp (nearSuccessors p i) st st₂ r₂
-  push-near t x a b e f one g h two = push-then n sp st (rw (f, e, add-one p) at one) (rw (g, e, h) at two)
+  pub push-near : (t : ℕ) (a b : Bool) {st₁ st₂ : List ℕ} {r₁ r₂ : ℕ} → a ≡ falls (class i) → Pushed n sp (cond a ((p + 1) ∷ []) []) st st₁ r₁
+      → b ≡ branches (class i) → t ≡ target p i → Pushed n r₁ (cond b (t ∷ []) []) st₁ st₂ r₂ → Pushed n sp (nearSuccessors p i) st st₂ r₂
+  push-near t a b f one g h two = push-then n sp st (rw (f, add-one p) at one) (rw (g, h) at two)
 
   -- the block goes on: no branch
   pub push-next : (e : Bool) {st₁ : List ℕ} {r₁ : ℕ} → e ≡ endsBlock (class i) → not e ≡ true → Pushed n sp (cond (leb (i .op) maxValid) ((p + 1) ∷ []) []) st st₁ r₁

@@ -1,16 +1,21 @@
 -- Branches by their class.
 -- Assumes nothing.
 use mathlib.Core.Path.{_≡_, refl}
-use mathlib.Core.Bool.{Bool, true, false, cond}
+use mathlib.Core.Bool.{Bool, true, false, cond, false≢true}
 use mathlib.Core.List.{List}
-use Prim.Native.Nat.{ℕ, suc, _≤_, _<_}
+use Prim.Native.Nat.{ℕ, zero, suc, _+_, _%_, _^_, _≤_, _<_}
+use native.Mathlib.Nat.{add-zero}
+use native.Mathlib.Numerals.{add-one}
 use native.Mathlib.Omega.{arith}
+use mir.Val.{boolByte}
+use lib.Dec.{eqb}
 use lib.ListN.{length, getD}
 use borrow.Author.Tests.{lt-ltb, le-ltb, ltb-true}
 use Rattle.instruction.specs.declared.Instruction.{Instruction}
 use Rattle.instruction.specs.declared.Class.{Class}
 use Rattle.instruction.specs.declared.Class.the-variants.{Hint, LoadInt, LoadConst, Copy, CopyN, Unary, Binary, Jump, JumpIf, JumpIfNot, ForLoop, Return, Panic, Outside, Invalid}
-use Rattle.instruction.specs.Instruction.{class, ofWord}
+use Rattle.instruction.specs.Class.{numberOf}
+use Rattle.instruction.specs.Instruction.{class, ofWord, imm32, forLoopDistance}
 use Rattle.unit.specs.Refusal.{branchOutside}
 use Rattle.effects.specs.declared.Check.the-variants.{Passed}
 use Rattle.effects.specs.Cells.{cellsBy, cells-long}
@@ -35,6 +40,47 @@ next-target Return p i e = refl
 next-target Panic p i e = refl
 next-target Outside p i e = refl
 next-target Invalid p i e = refl
+
+-- a branch's target, by whether it is ForLoop
+pub loop-target : (x : Class) (p : ℕ) (i : Instruction) → branches x ≡ true → (p + boolByte (eqb (numberOf x) 10) + cond (eqb (numberOf x) 10) (forLoopDistance i) (imm32 i)) % 2 ^ 64 ≡ targetBy x p i
+unfolding branches numberOf targetBy
+loop-target Hint p i e = absurd (false≢true e)
+loop-target LoadInt p i e = absurd (false≢true e)
+loop-target LoadConst p i e = absurd (false≢true e)
+loop-target Copy p i e = absurd (false≢true e)
+loop-target CopyN p i e = absurd (false≢true e)
+loop-target Unary p i e = absurd (false≢true e)
+loop-target Binary p i e = absurd (false≢true e)
+loop-target Jump p i e = rw (add-zero p)
+loop-target JumpIf p i e = rw (add-zero p)
+loop-target JumpIfNot p i e = rw (add-zero p)
+loop-target ForLoop p i e = rw (add-one p)
+loop-target Return p i e = absurd (false≢true e)
+loop-target Panic p i e = absurd (false≢true e)
+loop-target Outside p i e = absurd (false≢true e)
+loop-target Invalid p i e = absurd (false≢true e)
+
+-- a bit of a constant, as a truth value
+pub bit-byte : (v : ℕ) (b : Bool) → v < 2 → eqb v 1 ≡ b → v ≡ boolByte b
+bit-byte zero b h e = rw (← e)
+bit-byte (suc zero) b h e = rw (← e)
+bit-byte (suc (suc v)) b h e = absurd (omega arith)
+
+pub byte-below : (x : Bool) → boolByte x < 2
+byte-below true = omega arith
+byte-below false = omega arith
+
+pub bit-one : {r : ℕ} (x : Bool) → r ≡ boolByte x → eqb r 1 ≡ x
+bit-one true e = rw e
+bit-one false e = rw e
+
+pub bit-set : {r : ℕ} (x : Bool) → r ≡ boolByte x → r ≡ 1 → x ≡ true
+bit-set true e f = refl
+bit-set false e f = absurd (omega (arith, e))
+
+pub bit-clear : {r : ℕ} (x : Bool) → r ≡ boolByte x → (r ≡ 1 → ⊥) → x ≡ false
+bit-clear true e f = absurd (f e)
+bit-clear false e f = refl
 
 -- the three cases of `branchInside`
 module _ (n p : ℕ) (i : Instruction) where

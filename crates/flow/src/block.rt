@@ -16,6 +16,7 @@ ghost use Rattle.flow.specs.Reach.{markAll};
 use crate::branch;
 use crate::mark;
 use instruction::Instruction;
+use instruction::opcode;
 use words::fill;
 
 // Marks the leaders that the instruction at place p makes: its target, and the place after it. A branch ends its block.
@@ -26,8 +27,8 @@ fn mark_starts(marks: &mut [u32], p: usize, i: Instruction)
     if !branch::ends_block(i.op) {
         return;
     }
-    let c = i.class();
-    mark::mark_if(marks, branch::branches(c), branch::target(p, i));
+    let k = opcode::class_number(i.op);
+    mark::mark_if(marks, branch::branches(k) == 1, branch::target(p, i));
     mark::mark_if(marks, true, p as u64 + 1);
 }
 

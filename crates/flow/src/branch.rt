@@ -1,40 +1,23 @@
 // Branches and their targets.
 ghost use mathlib.Core.Path.{_≡_};
-ghost use mathlib.Core.Bool.{cond};
+ghost use mathlib.Core.Bool.{true, cond};
 ghost use mathlib.Core.List.{List};
 ghost use Prim.Native.Nat.{ℕ, _≤_, _<_};
 ghost use lib.ListN.{length};
 ghost use Rattle.unit.specs.Refusal.{branchOutside};
 ghost use Rattle.unit.specs.Size.{maxInstructions};
 ghost use Rattle.effects.specs.Cells.{cellsBy};
-ghost use Rattle.instruction.specs.Class.{classOf};
+ghost use mir.Val.{boolByte};
+ghost use Rattle.instruction.specs.Class.{classOf, numberOf};
+ghost use Rattle.instruction.specs.Instruction.{class, imm32, forLoopDistance};
+ghost use Rattle.instruction.specs.declared.Class.{Class};
 ghost use Rattle.flow.specs.Branch.{falls, branches, target, branchInside, branchCheck};
 ghost use Rattle.flow.specs.Block.{endsBlock};
 ghost use Rattle.flow.specs.Control.{Controls};
 use effects::Check;
-use instruction::Class;
 use instruction::Instruction;
+use instruction::opcode;
 use unit::refusal;
-
-// May the next step be at the next place?
-pub fn falls(c: Class) -> bool
-    ensures { λ r. ⌜ r ≡ falls c ⌝ }
-{
-    match c {
-        Class::Jump | Class::Return | Class::Panic | Class::Invalid => false,
-        _ => true,
-    }
-}
-
-// May it be at a branch's target?
-pub fn branches(c: Class) -> bool
-    ensures { λ r. ⌜ r ≡ branches c ⌝ }
-{
-    match c {
-        Class::Jump | Class::JumpIf | Class::JumpIfNot | Class::ForLoop => true,
-        _ => false,
-    }
-}
 
 // Does a block end after an instruction of that opcode? Most end none, and the number tells it fastest: Jump, JumpIf, JumpIfNot,
 // Return, Panic and ForLoop do.
@@ -47,19 +30,52 @@ pub fn ends_block(op: u8) -> bool
     }
 }
 
-// The target of a branch at place p; of what is no branch, the next place.
+// 1 if the next step may be at the next place, by the number of the class: a bit of a constant, so that the processor has no branch to
+// predict.
+pub fn falls(k: u64) -> u64
+    requires { ⌜ k < 15 ⌝ }
+    ensures { λ r. ⌜ ((x : Class) → k ≡ numberOf x → r ≡ boolByte (falls x)) ⌝ }
+{
+    (10111u64 >> k) % 2
+}
+
+// 1 if it may be at a branch's target.
+pub fn branches(k: u64) -> u64
+    requires { ⌜ k < 15 ⌝ }
+    ensures { λ r. ⌜ ((x : Class) → k ≡ numberOf x → r ≡ boolByte (branches x)) ⌝ }
+{
+    (1920u64 >> k) % 2
+}
+
+// The distance of a branch from its place, or of ForLoop from the next place.
+fn distance(i: Instruction, looped: bool) -> u64
+    ensures { λ r. ⌜ r ≡ cond looped (forLoopDistance i) (imm32 i) ⌝ }
+{
+    let near = i.for_loop_distance();
+    let far = i.imm32();
+    if looped { near } else { far }
+}
+
+// The target of a branch at place p, by the number of its class.
+pub fn branch_target(p: usize, i: Instruction, k: u64) -> u64
+    requires { ⌜ (p ≤ maxInstructions) × (k ≡ numberOf (class i)) ⌝ }
+    ensures { λ r. ⌜ (branches (class i) ≡ true → r ≡ target p i) ⌝ }
+{
+    let looped = k == 10;
+    let from = (p as u64) + (looped as u64);
+    std::num::wrapping_add_u64(from, distance(i, looped))
+}
+
+// Of what is no branch, the next place.
 pub fn target(p: usize, i: Instruction) -> u64
     requires { ⌜ p ≤ maxInstructions ⌝ }
     ensures { λ r. ⌜ r ≡ target p i ⌝ }
 {
-    let c = i.class();
-    match c {
-        Class::Jump | Class::JumpIf | Class::JumpIfNot => {
-            std::num::wrapping_add_u64(p as u64, i.imm32())
-        }
-        Class::ForLoop => std::num::wrapping_add_u64(p as u64 + 1, i.for_loop_distance()),
-        _ => p as u64 + 1,
+    let k = opcode::class_number(i.op);
+    if branches(k) == 1 {
+        return branch_target(p, i, k);
     }
+    p as u64 + 1
 }
 
 // The refusal of a branch at place p of n, or 0.
@@ -70,8 +86,9 @@ fn branch_refusal(n: usize, p: usize, i: Instruction) -> u32
     if !ends_block(i.op) {
         return 0;
     }
-    if branches(i.class()) {
-        if target(p, i) >= n as u64 {
+    let k = opcode::class_number(i.op);
+    if branches(k) == 1 {
+        if branch_target(p, i, k) >= n as u64 {
             return refusal::BRANCH_OUTSIDE;
         }
     }

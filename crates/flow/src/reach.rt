@@ -14,6 +14,7 @@ use crate::branch;
 use crate::hint;
 use effects::operands::MAX_VALID;
 use instruction::Instruction;
+use instruction::opcode;
 use unit::entry;
 use words::fill;
 
@@ -39,9 +40,15 @@ fn push_near(stack: &mut [u32], n: usize, sp: usize, p: usize, i: Instruction) -
     if !branch::ends_block(i.op) {
         return push_if(stack, n, sp, i.op <= MAX_VALID, p as u64 + 1);
     }
-    let c = i.class();
-    let next = push_if(stack, n, sp, branch::falls(c), p as u64 + 1);
-    push_if(stack, n, next, branch::branches(c), branch::target(p, i))
+    let k = opcode::class_number(i.op);
+    let next = push_if(stack, n, sp, branch::falls(k) == 1, p as u64 + 1);
+    push_if(
+        stack,
+        n,
+        next,
+        branch::branches(k) == 1,
+        branch::target(p, i),
+    )
 }
 
 // A sound loop hint's end and exit.

@@ -1,13 +1,13 @@
 -- What is live at a block's end, of the blocks' rows in lent words.
 -- Assumes nothing.
 use mathlib.Core.Path.{_≡_, refl, sym, ap, _∙_}
-use mathlib.Core.Bool.{Bool, true, false, cond, not, _&&_, _||_, or-false, false≢true}
+use mathlib.Core.Bool.{Bool, true, false, cond, not, _&&_, _||_, or-false}
 use mathlib.Core.List.{List, [], _∷_, _++_}
 use Prim.Native.Nat.{ℕ, zero, suc, _+_, _*_, _-_, _%_, _^_, _≤_, _<_}
-use native.Mathlib.Nat.{add-zero, mod-eq-of-lt}
+use native.Mathlib.Nat.{mod-eq-of-lt}
 use native.Mathlib.Numerals.{add-one}
 use native.Mathlib.Omega.{arith}
-use lib.Dec.{eqb, ltb}
+use lib.Dec.{ltb}
 use lib.ListN.{length, getD, replicate}
 use lib.Bits.{bitAnd, and-mask, and-zero-r}
 use mir.Val.{boolByte}
@@ -15,12 +15,9 @@ use borrow.Author.Tests.{ltb-true}
 use Rattle.words.specs.Bits.{member}
 use Rattle.words.specs.Lists.{tabulate, getD-tabulate}
 use Rattle.instruction.specs.declared.Instruction.{Instruction}
-use Rattle.instruction.specs.declared.Class.{Class}
-use Rattle.instruction.specs.declared.Class.the-variants.{Hint, LoadInt, LoadConst, Copy, CopyN, Unary, Binary, Jump, JumpIf, JumpIfNot, ForLoop, Return, Panic, Outside, Invalid}
-use Rattle.instruction.specs.Class.{numberOf}
-use Rattle.instruction.specs.Instruction.{class, imm32, forLoopDistance}
+use Rattle.instruction.specs.Instruction.{class}
 use Rattle.effects.specs.Shape.{Sections, Cell}
-use Rattle.flow.specs.Branch.{falls, branches, target, targetBy, branchInside}
+use Rattle.flow.specs.Branch.{falls, branches, target, branchInside}
 use Rattle.flow.specs.Block.{blockOf, blockCount}
 use Rattle.flow.specs.Blocks.{block-below}
 use Rattle.flow.specs.Marks.{Marked}
@@ -61,21 +58,12 @@ out-joined w live blocks n p k i l m out x y ex ey ek el em e t =
     first true false c q = q
     first false b c q = q
 
--- a bit of a constant, and what masks make of a place
-pub bit-byte : (v : ℕ) (b : Bool) → v < 2 → eqb v 1 ≡ b → v ≡ boolByte b
-bit-byte zero b h e = rw (← e)
-bit-byte (suc zero) b h e = rw (← e)
-bit-byte (suc (suc v)) b h e = absurd (omega arith)
-
+-- what masks make of a place
 pub both-bits : (x y : Bool) → bitAnd (boolByte x) (boolByte y) ≡ boolByte (x && y)
 both-bits true true = refl
 both-bits true false = refl
 both-bits false true = refl
 both-bits false false = refl
-
-pub byte-below : (x : Bool) → boolByte x < 2
-byte-below true = omega arith
-byte-below false = omega arith
 
 pub place-if : (q : ℕ) (x : Bool) → q < 2 ^ 64 → bitAnd q (allBits x) ≡ cond x q 0
 place-if q true h = and-mask q 64 ∙ mod-eq-of-lt h
@@ -93,25 +81,6 @@ next-place x p n h = go x (ltb (p + 1) n) refl
 pub target-place : (y : Bool) (k n : ℕ) → 0 < n → (y ≡ true → k < n) → cond y k 0 < n
 target-place true k n h f = f refl
 target-place false k n h f = h
-
--- a branch's target, by whether it is ForLoop
-pub loop-target : (x : Class) (p : ℕ) (i : Instruction) → branches x ≡ true → (p + boolByte (eqb (numberOf x) 10) + cond (eqb (numberOf x) 10) (forLoopDistance i) (imm32 i)) % 2 ^ 64 ≡ targetBy x p i
-unfolding branches numberOf targetBy
-loop-target Hint p i e = absurd (false≢true e)
-loop-target LoadInt p i e = absurd (false≢true e)
-loop-target LoadConst p i e = absurd (false≢true e)
-loop-target Copy p i e = absurd (false≢true e)
-loop-target CopyN p i e = absurd (false≢true e)
-loop-target Unary p i e = absurd (false≢true e)
-loop-target Binary p i e = absurd (false≢true e)
-loop-target Jump p i e = rw (add-zero p)
-loop-target JumpIf p i e = rw (add-zero p)
-loop-target JumpIfNot p i e = rw (add-zero p)
-loop-target ForLoop p i e = rw (add-one p)
-loop-target Return p i e = absurd (false≢true e)
-loop-target Panic p i e = absurd (false≢true e)
-loop-target Outside p i e = absurd (false≢true e)
-loop-target Invalid p i e = absurd (false≢true e)
 
 -- ---- the same of rows
 

@@ -13,44 +13,10 @@ ghost use Rattle.liveness.specs.Memory.{Coded, rowOf, liveOf};
 ghost use Rattle.words.specs.Only.{At, Only};
 ghost use Rattle.liveness.specs.Out.{OutOf};
 use crate::Layout;
+use flow::branch;
 use instruction::Instruction;
 use instruction::opcode;
 use use_def::row;
-
-// 1 if the next step may be at the next place, by the number of the class.
-fn falls(k: u64) -> u64
-    requires { ⌜ k < 15 ⌝ }
-    ensures { λ r. ⌜ ((x : Class) → k ≡ numberOf x → r ≡ boolByte (falls x)) ⌝ }
-{
-    (10111u64 >> k) % 2
-}
-
-// 1 if it may be at a branch's target.
-fn branches(k: u64) -> u64
-    requires { ⌜ k < 15 ⌝ }
-    ensures { λ r. ⌜ ((x : Class) → k ≡ numberOf x → r ≡ boolByte (branches x)) ⌝ }
-{
-    (1920u64 >> k) % 2
-}
-
-// The distance of a branch from its place, or of ForLoop from the next place.
-fn distance(i: Instruction, looped: bool) -> u64
-    ensures { λ r. ⌜ r ≡ cond looped (forLoopDistance i) (imm32 i) ⌝ }
-{
-    let near = i.for_loop_distance();
-    let far = i.imm32();
-    if looped { near } else { far }
-}
-
-// The target of a branch at place p, by the number of its class.
-fn target(p: usize, i: Instruction, k: u64) -> u64
-    requires { ⌜ (p ≤ maxInstructions) × (k ≡ numberOf (class i)) ⌝ }
-    ensures { λ r. ⌜ (branches (class i) ≡ true → r ≡ target p i) ⌝ }
-{
-    let looped = k == 10;
-    let from = (p as u64) + (looped as u64);
-    std::num::wrapping_add_u64(from, distance(i, looped))
-}
 
 // Where the live slots at the start of the block of place q stand.
 fn row_of(blocks: &[u32], sets: Layout, q: u64) -> usize
@@ -69,9 +35,9 @@ pub fn live_out(memory: &mut [u64], blocks: &[u32], sets: Layout, p: usize)
     let i = Instruction::from_word(memory[p]);
     let k = opcode::class_number(i.op);
     let next = p as u64 + 1;
-    let first = row::mask(falls(k) & ((next < sets.code as u64) as u64));
-    let second = row::mask(branches(k));
+    let first = row::mask(branch::falls(k) & ((next < sets.code as u64) as u64));
+    let second = row::mask(branch::branches(k));
     let a = row_of(blocks, sets, next & first);
-    let b = row_of(blocks, sets, target(p, i, k) & second);
+    let b = row_of(blocks, sets, branch::branch_target(p, i, k) & second);
     row::join(memory, sets.row, a, first, b, second, sets.width);
 }

@@ -11,7 +11,8 @@ use Rattle.instruction.specs.Instruction.{class}
 use Rattle.flow.specs.Branch.{falls, branches}
 use Rattle.use_def.specs.Wordwise.{allBits}
 use Rattle.liveness.specs.Memory.{liveOf, start-inside, start-row}
-use Rattle.liveness.specs.Out.{both-bits, byte-below, place-if, next-place, target-place, target-inside, out-joined}
+use Rattle.flow.specs.BranchLaws.{byte-below}
+use Rattle.liveness.specs.Out.{both-bits, place-if, next-place, target-place, target-inside, out-joined}
 use borrow.Author.Needs.{needs}
 use Rattle.liveness.proofs.out.live_out.Statement.{statement}
 use Rattle.liveness.proofs.out.live_out.Tie as tie
@@ -55,23 +56,23 @@ row-of-requires c κs =
     rw (next-masked (c .before .before)) (omega (arith, k .laid .end), rw (k .long-blocks) h, k .rows-inside _ h)
 
 -- the target, if it branches, or place 0
-abbrev branching : tie.After-target → Bool
+abbrev branching : tie.After-branch-target → Bool
 branching c = branches (class (c .before .before .before .before .before .before .before .from-word .result))
 
-abbrev targetPlace : tie.After-target → ℕ
-targetPlace c = cond (branching c) (c .target .result) 0
+abbrev targetPlace : tie.After-branch-target → ℕ
+targetPlace c = cond (branching c) (c .branch-target .result) 0
 
-branches-to : (c : tie.After-target) → c .before .before .mask2 .result ≡ allBits (branching c)
+branches-to : (c : tie.After-branch-target) → c .before .before .mask2 .result ≡ allBits (branching c)
 branches-to c = c .before .before .mask2 .ensures (branching c) (c .before .before .before .branches .ensures _ (c .before .before .before .before .before .before .class-number .ensures))
 
-target-masked : (c : tie.After-target) → bitAnd (c .target .result) (c .before .before .mask2 .result) ≡ targetPlace c
-target-masked c = rw (branches-to c) (place-if (c .target .result) (branching c) (omega arith))
+target-masked : (c : tie.After-branch-target) → bitAnd (c .branch-target .result) (c .before .before .mask2 .result) ≡ targetPlace c
+target-masked c = rw (branches-to c) (place-if (c .branch-target .result) (branching c) (omega arith))
 
-target-inside-code : (c : tie.After-target) → targetPlace c < c .before .before .before .before .before .before .before .before .before .before .before .args .sets .code
+target-inside-code : (c : tie.After-branch-target) → targetPlace c < c .before .before .before .before .before .before .before .before .before .before .before .args .sets .code
 target-inside-code c =
     let s = c .before .before .before .before .before .before .before .before .before .before .before in
-    target-place (branching c) (c .target .result) (s .args .sets .code) (omega (arith, s .pre .1))
-    (λ e. rw (c .target .ensures e) (target-inside _ _ _ (rw (c .before .before .before .before .before .before .before .from-word .ensures) (s .pre .0 .inside (s .args .p) (s .pre .1))) e))
+    target-place (branching c) (c .branch-target .result) (s .args .sets .code) (omega (arith, s .pre .1))
+    (λ e. rw (c .branch-target .ensures e) (target-inside _ _ _ (rw (c .before .before .before .before .before .before .before .from-word .ensures) (s .pre .0 .inside (s .args .p) (s .pre .1))) e))
 
 row-of-requires-2 : tie.Need-row-of-requires-2
 row-of-requires-2 c κs =
@@ -98,7 +99,7 @@ returns c =
     let a = ap (λ (j : ℕ). midOf j (z .width) m) (rw (next-masked f) at (c .before .before .before .before .before .before .row-of .ensures)) ∙ start-row z m _ (s .pre .0) (nextPlace f) (next-inside f) in
     let d = ap (λ (j : ℕ). midOf j (z .width) m) (rw (target-masked g) at (c .before .before .before .before .row-of2 .ensures)) ∙ start-row z m _ (s .pre .0) (targetPlace g) (target-inside-code g) in
     let j = c .before .before .join .ensures in
-    (rw (← i .ensures) (out-joined (z .width) (liveOf z m) (s .args .blocks .now) (z .code) (s .args .p) (g .target .result) (i .result) _ _ _ (goesOn (f .before)) (branching g) refl refl (g .target .ensures) a d (j .0 (goesOn (f .before)) (branching g) (goes-on f) (branches-to g))), j .1)
+    (rw (← i .ensures) (out-joined (z .width) (liveOf z m) (s .args .blocks .now) (z .code) (s .args .p) (g .branch-target .result) (i .result) _ _ _ (goesOn (f .before)) (branching g) refl refl (g .branch-target .ensures) a d (j .0 (goesOn (f .before)) (branching g) (goes-on f) (branches-to g))), j .1)
 
 pub live-out-spec : {M : Type 1} → statement M
 live-out-spec =

@@ -1,6 +1,6 @@
 use borrow.Author.Needs.{needs}
-use Rattle.liveness.proofs.out.distance.Statement.{statement}
-use Rattle.liveness.proofs.out.distance.Tie as tie
+use Rattle.flow.proofs.branch.distance.Statement.{statement}
+use Rattle.flow.proofs.branch.distance.Tie as tie
 
 returns : tie.Need-returns
 returns c = rw (c .if1 .taken) (c .before .before .for-loop-distance .ensures)
