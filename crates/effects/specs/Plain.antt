@@ -6,7 +6,6 @@ use mathlib.Core.Bool.{Bool, true, false, cond, not, _&&_, _||_, and-true, or-tr
 use mathlib.Core.List.{_++_, map}
 use Prim.Native.Nat.{ℕ, zero, suc, _+_, _*_, _/_, _%_, _^_, _≤_, _<_}
 use native.Mathlib.Nat.{add-zero, div-div-eq-div-mul}
-use native.Mathlib.Numerals.{add-one}
 use native.Mathlib.Omega.{arith}
 use lib.Dec.{eqb, leb, ltb}
 use borrow.Author.Tests.{lt-ltb, eqb-true, eqb-false, ltb-true, leb-true, not-true}
@@ -15,7 +14,6 @@ use Rattle.instruction.specs.Opcode as op
 use Rattle.instruction.specs.Instruction.{Fields, ofWord}
 use Rattle.instruction.specs.declared.Instruction.{Instruction}
 use Rattle.unit.specs.Refusal.{slotOutside}
-use Rattle.effects.specs.declared.Range.{Range}
 use Rattle.effects.specs.Shape.{Tables, Cell, applies, value, rangeOf, met}
 use Rattle.effects.specs.Effects.{allReads, writes, demandsMet, allOf}
 use Rattle.effects.specs.Check.{operandRefusal}

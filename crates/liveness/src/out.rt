@@ -1,14 +1,8 @@
 // What is live at a block's end.
 ghost use mathlib.Core.Path.{_≡_};
-ghost use mathlib.Core.Bool.{true, cond};
-ghost use Prim.Native.Nat.{ℕ, _+_, _*_, _^_, _≤_, _<_};
+ghost use Prim.Native.Nat.{_+_, _*_, _^_, _≤_, _<_};
 ghost use lib.ListN.{length, getD};
-ghost use mir.Val.{boolByte};
-ghost use Rattle.instruction.specs.Class.{numberOf};
-ghost use Rattle.instruction.specs.declared.Class.{Class};
-ghost use Rattle.instruction.specs.Instruction.{ofWord, class, imm32, forLoopDistance};
-ghost use Rattle.unit.specs.Size.{maxInstructions};
-ghost use Rattle.flow.specs.Branch.{falls, branches, target};
+ghost use Rattle.instruction.specs.Instruction.{ofWord};
 ghost use Rattle.liveness.specs.Memory.{Coded, rowOf, liveOf};
 ghost use Rattle.words.specs.Only.{At, Only};
 ghost use Rattle.liveness.specs.Out.{OutOf};
