@@ -11,4 +11,5 @@ pub mod Operands
 pub mod Plain
 pub mod ByClass
 pub mod Single
+pub mod Branching
 pub mod Sound

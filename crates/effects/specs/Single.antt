@@ -2,19 +2,20 @@
 -- operands are checked by comparisons alone.
 -- Assumes nothing.
 use mathlib.Core.Path.{_≡_, refl, sym, _∙_}
-use mathlib.Core.Bool.{Bool, true, false, not, _&&_, _||_, and-true, and-assoc, or-true, false≢true}
+use mathlib.Core.Bool.{Bool, true, false, not, _&&_, _||_, and-true, and-assoc, or-true}
 use mathlib.Core.List.{[], _∷_, _++_}
+use Prim.{tt}
 use Prim.Native.Nat.{ℕ, _≤_, _<_}
 use native.Mathlib.Omega.{arith}
 use lib.Dec.{ltb}
 use borrow.Author.Tests.{lt-ltb}
 use Rattle.words.specs.Lists.{isIn}
 use Rattle.instruction.specs.Opcode as op
-use Rattle.instruction.specs.Class.{numberOf}
+use Rattle.instruction.specs.Class.{numberOf, namedClass, Each, by-number}
 use Rattle.instruction.specs.Instruction.{Fields, class}
 use Rattle.instruction.specs.declared.Instruction.{Instruction}
 use Rattle.instruction.specs.declared.Class.{Class}
-use Rattle.instruction.specs.declared.Class.the-variants.{Hint, LoadInt, LoadConst, Copy, CopyN, Unary, Binary, Jump, JumpIf, JumpIfNot, ForLoop, Return, Panic, Outside, Invalid}
+use Rattle.instruction.specs.declared.Class.the-variants.{LoadInt, LoadConst, Copy, Unary, Binary}
 use Rattle.unit.specs.Refusal.{slotOutside}
 use Rattle.effects.specs.Shape.{Tables, Cell}
 use Rattle.effects.specs.Effects.{allReads, writes, allOf}
@@ -36,22 +37,8 @@ readsSecond k = isIn (numberOf k) (6 ∷ [])
 
 -- what holds of each of these classes, holds of one of them
 pub by-single : (P : Class → Type 0) → P LoadInt → P LoadConst → P Copy → P Unary → P Binary → (k : Class) → isSingle k ≡ true → P k
-unfolding numberOf
-by-single P i n c u b Hint e = absurd (false≢true e)
-by-single P i n c u b LoadInt e = i
-by-single P i n c u b LoadConst e = n
-by-single P i n c u b Copy e = c
-by-single P i n c u b CopyN e = absurd (false≢true e)
-by-single P i n c u b Unary e = u
-by-single P i n c u b Binary e = b
-by-single P i n c u b Jump e = absurd (false≢true e)
-by-single P i n c u b JumpIf e = absurd (false≢true e)
-by-single P i n c u b JumpIfNot e = absurd (false≢true e)
-by-single P i n c u b ForLoop e = absurd (false≢true e)
-by-single P i n c u b Return e = absurd (false≢true e)
-by-single P i n c u b Panic e = absurd (false≢true e)
-by-single P i n c u b Outside e = absurd (false≢true e)
-by-single P i n c u b Invalid e = absurd (false≢true e)
+unfolding Each namedClass
+by-single P i n c u b = by-number P (1 ∷ 2 ∷ 3 ∷ 5 ∷ 6 ∷ []) (i, (n, (c, (u, (b, tt)))))
 
 pub single-inside : (k : Class) → isSingle k ≡ true → isOutside k ≡ false
 unfolding isOutside

@@ -1,4 +1,5 @@
 // What each instruction reads and writes, as ranges of slots, and the check of every operand.
+pub mod branching;
 pub mod demand;
 pub mod form;
 pub mod operands;

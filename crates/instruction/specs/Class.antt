@@ -2,10 +2,12 @@
 -- Assumes nothing.
 use mathlib.Core.Path.{_≡_, refl, sym, ap, _∙_}
 use mathlib.Core.Bool.{Bool, true, false, cond, not, false≢true}
+use mathlib.Core.List.{List, [], _∷_}
+use Prim.{Unit}
 use Prim.Native.Nat.{ℕ, _/_, _%_, _^_, _≤_, _<_}
 use lib.Dec.{eqb, ltb}
 use native.Mathlib.Omega.{arith}
-use borrow.Author.Tests.{lt-ltb}
+use borrow.Author.Tests.{eqb-true, lt-ltb}
 use Rattle.words.specs.Lists.{isIn, count, every, every-at}
 use Rattle.instruction.specs.Opcode as op
 use Rattle.instruction.specs.declared.Class.{Class}
@@ -123,6 +125,20 @@ number-below Return = omega arith
 number-below Panic = omega arith
 number-below Outside = omega arith
 number-below Invalid = omega arith
+
+-- what holds of the classes with these numbers, holds of each of them
+unfoldable pub Each : (Class → Type 0) → List ℕ → Type 0
+Each P [] = Unit {0}
+Each P (k ∷ ks) = P (namedClass k) × Each P ks
+
+pub by-number : (P : Class → Type 0) (ks : List ℕ) → Each P ks → (x : Class) → isIn (numberOf x) ks ≡ true → P x
+unfolding Each
+by-number P [] all x e = absurd (false≢true e)
+by-number P (k ∷ ks) all x e = go (eqb (numberOf x) k) refl e (by-number P ks (all .1) x)
+  where
+    go : (t : Bool) → eqb (numberOf x) k ≡ t → cond t true (isIn (numberOf x) ks) ≡ true → (isIn (numberOf x) ks ≡ true → P x) → P x
+    go true q r rest = let name : namedClass k ≡ x = ap namedClass (sym (eqb-true (numberOf x) k q)) ∙ named-number x in rw name at (all .0)
+    go false q r rest = rest r
 
 -- a test of classes is a bit of a constant, by the class's number
 abbrev agrees : ℕ → (Class → Bool) → ℕ → Bool

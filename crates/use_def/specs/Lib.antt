@@ -3,3 +3,4 @@ pub mod Touched
 pub mod Wordwise
 pub mod Free
 pub mod Single
+pub mod Branching

@@ -120,6 +120,19 @@ within-end s r e h = go (eqb (r .count) 0) refl (leb (r .start + r .count) s) re
     go false p true q e = leb-true (r .start + r .count) s q
     go false p false q e = absurd (false≢true e)
 
+-- ---- one slot or none
+
+abbrev pub slotIf : Bool → ℕ → Range
+slotIf when t = cond when (range t 1) emptyRange
+
+pub slot-within : (s t : ℕ) (when : Bool) → rangeWithin s (slotIf when t) ≡ true → when ≡ true → t < s
+slot-within s t true e q = omega (arith, within-end s (range t 1) e (omega arith))
+slot-within s t false e q = absurd (false≢true q)
+
+pub put-slot : (on when : Bool) (t : ℕ) (l l′ : List ℕ) → Put on (λ k. when && eqb k t) l l′ → Put on (λ k. rangeHas k (slotIf when t)) l l′
+put-slot on true t l l′ p = put-one on (range t 1) l l′ refl p
+put-slot on false t l l′ p = put-as on (λ k. false) (λ k. rangeHas k emptyRange) l l′ p (has-none 0)
+
 -- ---- a loop over the slots of a range
 
 pub record Putting (b : Bool) (start : ℕ) (l₀ l : List ℕ) (k : ℕ) : Type 0 where

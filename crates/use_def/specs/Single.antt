@@ -1,10 +1,9 @@
 -- Loads, copies and operators: they write slot a, and of single slots they read b and c at most.
 -- Assumes nothing.
 use mathlib.Core.Path.{_≡_, refl, sym, _∙_}
-use mathlib.Core.Bool.{Bool, true, false, cond, not, _&&_, _||_, and-false, false≢true, true≢false}
+use mathlib.Core.Bool.{Bool, true, false, cond, not, _&&_, _||_, and-false, true≢false}
 use mathlib.Core.List.{List}
 use Prim.Native.Nat.{ℕ, _*_, _<_}
-use native.Mathlib.Omega.{arith}
 use lib.Dec.{eqb}
 use lib.ListN.{length, getD}
 use borrow.Author.Tests.{eqb-true, not-true}
@@ -14,16 +13,14 @@ use Rattle.instruction.specs.declared.Instruction.{Instruction}
 use Rattle.instruction.specs.declared.Class.{Class}
 use Rattle.instruction.specs.Class.{numberOf, isPure}
 use Rattle.instruction.specs.Instruction.{ofWord, class}
-use Rattle.effects.specs.declared.Range.{Range}
 use Rattle.effects.specs.Shape.{Tables, Cell}
-use Rattle.effects.specs.Effects.{rangeHas, rangeWithin}
 use Rattle.effects.specs.Form.{emptyRange}
 use Rattle.effects.specs.ByClass.{readsByClass, writesByClass}
 use Rattle.effects.specs.Single.{isSingle, readsFirst, readsSecond, by-single, single-inside}
 use Rattle.unit.specs.Entry.{typeValue, typeFloat}
 use Rattle.unit.specs.declared.Metadata.{Metadata}
-use Rattle.use_def.specs.Sets.{Put, Same, range, put-as, put-one, has-none, within-end}
-use Rattle.use_def.specs.Touched.{reading, writing, Fits, put-reads, put-writes, reads-in, writes-in}
+use Rattle.use_def.specs.Sets.{Put, Same, range, slotIf, slot-within}
+use Rattle.use_def.specs.Touched.{reading, writing, Fits, put-slot-write, put-slot-reads, reads-in, writes-in}
 use Rattle.use_def.specs.Free.{freeSlot, deadBy, one-free, Spans}
 
 -- such an instruction's word, whose slots all have a bit in a set of that many words
@@ -33,18 +30,6 @@ pub record SingleFits (count w : ℕ) : Type 0 where
   pub written : ofWord w .a < 64 * count
   pub first : readsFirst (class (ofWord w)) ≡ true → ofWord w .b < 64 * count
   pub second : readsSecond (class (ofWord w)) ≡ true → ofWord w .c < 64 * count
-
--- one slot or none
-abbrev slotIf : Bool → ℕ → Range
-slotIf when t = cond when (range t 1) emptyRange
-
-slot-within : (s t : ℕ) (when : Bool) → rangeWithin s (slotIf when t) ≡ true → when ≡ true → t < s
-slot-within s t true e q = omega (arith, within-end s (range t 1) e (omega arith))
-slot-within s t false e q = absurd (false≢true q)
-
-put-slot : (on when : Bool) (t : ℕ) (l l′ : List ℕ) → Put on (λ k. when && eqb k t) l l′ → Put on (λ k. rangeHas k (slotIf when t)) l l′
-put-slot on true t l l′ p = put-one on (range t 1) l l′ refl p
-put-slot on false t l l′ p = put-as on (λ k. false) (λ k. rangeHas k emptyRange) l l′ p (has-none 0)
 
 -- the ranges that they read and write
 module _ (k : Class) (e : isSingle k ≡ true) where
@@ -91,14 +76,12 @@ single-fits count w T m some e f =
 -- the slots that are put are those that it writes and reads
 module _ (w : ℕ) (k : Class) (same : k ≡ class (ofWord w)) (e : isSingle k ≡ true) (T : Tables) (m : Metadata) where
   pub put-single-write : (l l′ : List ℕ) (a : ℕ) → a ≡ ofWord w .a → Put false (λ t. eqb t a) l l′ → Put false (writing T (cell w m)) l l′
-  put-single-write l l′ a d q =
-      put-writes T (cell w m) k same (single-inside k e) false l l′ (range a 1) (rw d (slot-written k e (ofWord w))) (put-slot false true a l l′ q)
+  put-single-write l l′ a d q = put-slot-write T (cell w m) k same (single-inside k e) false l l′ true a (rw d (slot-written k e (ofWord w))) q
 
   pub put-single-reads : (l l₁ l₂ : List ℕ) (x y : Bool) (b c : ℕ) → x ≡ readsFirst k → b ≡ ofWord w .b → y ≡ readsSecond k → c ≡ ofWord w .c
       → Put true (λ t. x && eqb t b) l l₁ → Put true (λ t. y && eqb t c) l₁ l₂ → Put true (reading T (cell w m)) l l₂
   put-single-reads l l₁ l₂ x y b c f d g h q s =
-      put-reads T (cell w m) k same (single-inside k e) true l l₁ l₂ (slotIf x b) (slotIf y c) (rw (f, d) (first-read k e (ofWord w))) (rw (g, h) (second-read k e (ofWord w)))
-      (put-slot true x b l l₁ q) (put-slot true y c l₁ l₂ s)
+      put-slot-reads T (cell w m) k same (single-inside k e) l l₁ l₂ x y b c (rw (f, d) (first-read k e (ofWord w))) (rw (g, h) (second-read k e (ofWord w))) q s
 
   -- a load reads nothing
   pub no-single-reads : (l : List ℕ) → readsFirst k ≡ false → Put true (reading T (cell w m)) l l

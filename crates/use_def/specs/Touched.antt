@@ -1,7 +1,7 @@
 -- The slots that an instruction reads and those that it writes, over all its ranges.
 -- Assumes nothing.
 use mathlib.Core.Path.{_≡_, refl, sym, ap, _∙_}
-use mathlib.Core.Bool.{Bool, true, false, cond, not, _&&_, _||_, or-false, false≢true}
+use mathlib.Core.Bool.{Bool, true, false, cond, not, _&&_, _||_, and-true, or-false, false≢true}
 use mathlib.Core.List.{List, [], _∷_}
 use Prim.Native.Nat.{ℕ, zero, suc, _+_, _*_, _≤_, _<_}
 use native.Mathlib.Numerals.{add-one}
@@ -22,7 +22,7 @@ use Rattle.words.specs.Truth.{left-true, right-true}
 use Rattle.effects.specs.Operands.{all-at}
 use Rattle.effects.specs.Ranges.{CasesInside}
 use Rattle.effects.specs.ByClass.{isOutside, readsByClass, writesByClass, reads-by-class, writes-by-class}
-use Rattle.use_def.specs.Sets.{Put, put-none, put-more, put-as, has-none}
+use Rattle.use_def.specs.Sets.{Put, slotIf, put-none, put-more, put-as, put-slot, has-none}
 
 -- a slot is one of those of the ranges
 abbrev pub touches : List Range → ℕ → Bool
@@ -58,6 +58,14 @@ before T x l l₁ l₂ p q t = q t ∙ rw (p t) (go (reading T x t) (writing T x
     go false true false = refl
     go false false true = refl
     go false false false = refl
+
+-- the same, of what reads all that it writes
+pub before-read : (T : Tables) (x : Cell) (l l′ : List ℕ) → ((t : ℕ) → reading T x t ≡ false → writing T x t ≡ false) → Put true (reading T x) l l′ → Before T x l l′
+before-read T x l l′ only q t = q t ∙ go (reading T x t) (writing T x t) (member l t) (only t)
+  where
+    go : (r w m : Bool) → (r ≡ false → w ≡ false) → cond r true m ≡ (r || (m && not w))
+    go true w m e = refl
+    go false w m e = rw (e refl) (sym (and-true m))
 
 within-at : (s : ℕ) (l : List Range) → Within s l → (k : ℕ) → k < length l → rangeWithin s (getD l k emptyRange) ≡ true
 within-at s l e k h = all-at (rangeWithin s) l e k h
@@ -184,6 +192,15 @@ module _ (T : Tables) (x : Cell) (k : Class) (e : k ≡ class (x .instruction)) 
   pub put-writes : (b : Bool) (l l′ : List ℕ) (f : Range) → f ≡ getD (writesByClass k (x .instruction)) 0 emptyRange → Put b (λ t. rangeHas t f) l l′ → Put b (writing T x) l l′
   put-writes b l l′ f d p =
       put-as b (λ t. rangeHas t f) (writing T x) l l′ p (λ t. rw (writes-here, d) (touches-one (writesByClass k (x .instruction)) (writes-one k (x .instruction)) t))
+
+  -- each range one slot or none
+  pub put-slot-reads : (l l₁ l₂ : List ℕ) (f g : Bool) (s t : ℕ) → slotIf f s ≡ getD (readsByClass k (x .instruction)) 0 emptyRange → slotIf g t ≡ getD (readsByClass k (x .instruction)) 1 emptyRange
+      → Put true (λ u. f && eqb u s) l l₁ → Put true (λ u. g && eqb u t) l₁ l₂ → Put true (reading T x) l l₂
+  put-slot-reads l l₁ l₂ f g s t d a p q = put-reads true l l₁ l₂ (slotIf f s) (slotIf g t) d a (put-slot true f s l l₁ p) (put-slot true g t l₁ l₂ q)
+
+  pub put-slot-write : (b : Bool) (l l′ : List ℕ) (f : Bool) (s : ℕ) → slotIf f s ≡ getD (writesByClass k (x .instruction)) 0 emptyRange
+      → Put b (λ u. f && eqb u s) l l′ → Put b (writing T x) l l′
+  put-slot-write b l l′ f s d p = put-writes b l l′ (slotIf f s) d (put-slot b f s l l′ p)
 
   pub reads-in : (s j : ℕ) (f : Range) → Within s (allReads T x) → f ≡ getD (readsByClass k (x .instruction)) j emptyRange → rangeWithin s f ≡ true
   reads-in s j f w d = rw d (within-any s (readsByClass k (x .instruction)) (rw reads-here at w) j)

@@ -19,8 +19,10 @@ ghost use Rattle.effects.specs.ByClass.{isOutside, readsByClass, writesByClass}
 ghost use Rattle.use_def.specs.Sets.{Put, Same};
 ghost use Rattle.use_def.specs.Touched.{Within, reading, writing, Fits, Before};
 ghost use Rattle.use_def.specs.Single.{SingleFits};
+ghost use Rattle.use_def.specs.Branching.{BranchFits};
 use crate::row;
 use effects::Range;
+use effects::branching;
 use effects::form;
 use effects::ranges;
 use effects::single;
@@ -205,6 +207,23 @@ pub fn single_before(row: &mut [u64], w: u64, k: u64, live: bool)
 {
     take_single_write(row, w);
     put_single_reads(row, w, k, live);
+}
+
+// Of a hint, a jump or a loop: takes out the slot that a loop writes.
+pub fn take_loop_write(row: &mut [u64], w: u64, k: u64)
+    requires { ⌜ BranchFits (length (now row)) w × (k ≡ numberOf (class (ofWord w))) ⌝ }
+    ensures { λ _. ⌜ ((T : Tables) (m : Metadata) → Put false (writing T (record { instruction = ofWord w; metadata = m })) (now (row .entry)) (now (row .exit))) ⌝ }
+{
+    row::put_if(row, form::field(w, 0), branching::is_loop(k), false);
+}
+
+// Of the same, what is live before it: a loop reads the slot that it writes, so that no slot is taken out.
+pub fn branch_before(row: &mut [u64], w: u64, k: u64)
+    requires { ⌜ BranchFits (length (now row)) w × (k ≡ numberOf (class (ofWord w))) ⌝ }
+    ensures { λ _. ⌜ ((T : Tables) (m : Metadata) → Before T (record { instruction = ofWord w; metadata = m }) (now (row .entry)) (now (row .exit))) ⌝ }
+{
+    row::put_if(row, form::field(w, 0), branching::reads_condition(k), true);
+    row::put_if(row, form::field(w, 1), branching::is_loop(k), true);
 }
 
 // What is live before the instruction at place p, of what is live after it.

@@ -1,0 +1,14 @@
+use mathlib.Core.Path.{refl}
+use Rattle.words.specs.Lists.{every}
+use Rattle.instruction.specs.Class.{namedClass, numberOf, class-bit}
+use Rattle.effects.specs.Branching.{readsCondition}
+use borrow.Author.Needs.{needs}
+use Rattle.effects.proofs.branching.reads_condition.Statement.{statement}
+use Rattle.effects.proofs.branching.reads_condition.Tie as tie
+
+returns : tie.Need-returns
+unfolding every namedClass numberOf
+returns c = λ x e. class-bit 1792 readsCondition refl x _ e
+
+pub reads-condition-spec : {M : Type 1} → statement M
+reads-condition-spec = tie.close (tie.spec (λ c. search needs) returns)

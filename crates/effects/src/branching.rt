@@ -1,0 +1,30 @@
+// Hints, jumps and loops, by the number of their class.
+ghost use mathlib.Core.Path.{_≡_};
+ghost use Prim.Native.Nat.{_<_};
+ghost use Rattle.instruction.specs.Class.{numberOf};
+ghost use Rattle.instruction.specs.declared.Class.{Class};
+ghost use Rattle.effects.specs.Branching.{isBranching, readsCondition, isLoop};
+
+// Is it one of these? Of slots it reads a and b and writes a at most.
+pub fn is_branching(k: u64) -> bool
+    requires { ⌜ k < 15 ⌝ }
+    ensures { λ r. ⌜ ((x : Class) → k ≡ numberOf x → r ≡ isBranching x) ⌝ }
+{
+    (1921u64 >> k) % 2 == 1
+}
+
+// Of these, does it read a? All but Hint and Jump do.
+pub fn reads_condition(k: u64) -> bool
+    requires { ⌜ k < 15 ⌝ }
+    ensures { λ r. ⌜ ((x : Class) → k ≡ numberOf x → r ≡ readsCondition x) ⌝ }
+{
+    (1792u64 >> k) % 2 == 1
+}
+
+// Is it ForLoop? That reads b too, and writes a.
+pub fn is_loop(k: u64) -> bool
+    requires { ⌜ k < 15 ⌝ }
+    ensures { λ r. ⌜ ((x : Class) → k ≡ numberOf x → r ≡ isLoop x) ⌝ }
+{
+    (1024u64 >> k) % 2 == 1
+}
