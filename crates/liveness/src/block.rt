@@ -13,6 +13,7 @@ ghost use Rattle.words.specs.Only.{At, Either, Only};
 ghost use Rattle.liveness.specs.Through.{Placed, Summary};
 ghost use Rattle.liveness.specs.Visit.{Rising, Summed};
 use crate::Layout;
+use effects::branching;
 use effects::single;
 use instruction::Instruction;
 use instruction::opcode;
@@ -43,6 +44,11 @@ fn summarize_place(
     if single::is_single(k) {
         touch::take_single_write(&mut memory[preserved..preserved + w], word);
         touch::single_before(&mut memory[uses..uses + w], word, k, true);
+        return;
+    }
+    if branching::is_branching(k) {
+        touch::take_loop_write(&mut memory[preserved..preserved + w], word, k);
+        touch::branch_before(&mut memory[uses..uses + w], word, k);
         return;
     }
     let i = Instruction::from_word(word);

@@ -21,6 +21,7 @@ ghost use Rattle.liveness.specs.Sweeping.{Entered, Swept};
 ghost use Rattle.liveness.specs.Sweep.{Grounds, sections};
 use crate::Layout;
 use crate::out;
+use effects::branching;
 use effects::single;
 use instruction::Instruction;
 use instruction::opcode;
@@ -75,6 +76,10 @@ fn sweep_place(
         let live = !dead::is_single_dead(types, &memory[start..end], word);
         keep[p] = live as u32;
         touch::single_before(&mut memory[start..end], word, k, live);
+        return;
+    }
+    if branching::is_branching(k) {
+        touch::branch_before(&mut memory[start..end], word, k);
         return;
     }
     let i = Instruction::from_word(word);

@@ -8,6 +8,7 @@ use Rattle.effects.specs.Shape.{Tables, Cell, tablesOf}
 use Rattle.effects.specs.Cells.{cellOf}
 use Rattle.words.specs.Only.{only-none, lent-long, second-long}
 use Rattle.use_def.specs.Single.{SingleFits, single-fits}
+use Rattle.use_def.specs.Branching.{BranchFits, branch-fits}
 use Rattle.liveness.specs.Through.{not-placed, lent-placed}
 use borrow.Author.Needs.{needs}
 use Rattle.liveness.proofs.block.summarize_place.Statement.{statement}
@@ -51,23 +52,50 @@ returns-2 c =
     let u = c .before .before .single-before in
     lent-placed (tables s) (cell s) _ (eq-eqb _ _ (c .before .before .before .before .before .before .before .before .before .before .before .before .if1 .left)) _ _ _ _ _ _ (s .pre .1) (s .pre .2) (v .kept .0) (u .kept .0) (v .ensures .0 _ _) (u .ensures .0 refl _ _) _ refl
 
+is-branching-requires : tie.Need-is-branching-requires
+is-branching-requires c κs = rw (c .before .before .class-number .ensures) (number-below _)
+
+-- so are those of a hint, a jump or a loop
+branches : (c : tie.Then3) → BranchFits (c .before .before .before .before .before .before .before .before .before .before .before .before .before .before .args .w) (word (c .before .before .before .before .before .before .before .before .before .before .before .before .before .before))
+unfolding ofWord
+branches c =
+    let s = c .before .before .before .before .before .before .before .before .before .before .before .before .before .before in
+    branch-fits _ _ (tables s) (cell s .metadata) (s .pre .6) (sym (c .before .is-branching .ensures _ (c .before .before .before .before .class-number .ensures)) ∙ c .if3 .taken) (s .pre .5)
+
+take-loop-write-requires : tie.Need-take-loop-write-requires
+unfolding ofWord
+take-loop-write-requires c κs = let s = c .before .before .before .before .before .before .before .before .before .before .before .before .before .before .before in rw (lent-long _ _ _ (s .pre .2)) (branches (c .before), c .before .before .before .before .before .class-number .ensures)
+
+branch-before-requires : tie.Need-branch-before-requires
+unfolding ofWord
+branch-before-requires c κs =
+    let s = c .before .before .before .before .before .before .before .before .before .before .before .before .before .before .before .before .before .before .before in
+    rw (second-long _ _ _ _ _ (s .pre .1) (s .pre .2) (c .before .before .before .take-loop-write .kept .0)) (branches (c .before .before .before .before .before), c .before .before .before .before .before .before .before .before .before .class-number .ensures)
+
+returns-3 : tie.Need-returns-3
+returns-3 c =
+    let s = c .before .before .before .before .before .before .before .before .before .before .before .before .before .before .before .before .before .before .before .before .before .before in
+    let v = c .before .before .before .before .before .before .take-loop-write in
+    let u = c .before .before .branch-before in
+    lent-placed (tables s) (cell s) _ (eq-eqb _ _ (c .before .before .before .before .before .before .before .before .before .before .before .before .before .before .if1 .left)) _ _ _ _ _ _ (s .pre .1) (s .pre .2) (v .kept .0) (u .kept .0) (v .ensures _ _) (u .ensures _ _) _ refl
+
 put-writes-requires : tie.Need-put-writes-requires
 put-writes-requires c κs =
-    let s = c .before .before .before .before .before .before .before .before .before .before .before .before .before .before in
+    let s = c .before .before .before .before .before .before .before .before .before .before .before .before .before .before .before .before in
     rw (c .before .from-word .ensures, lent-long (s .args .memory .now) (s .args .preserved) (s .args .w) (s .pre .2)) (s .pre .3, s .pre .5)
 
 live-before-requires : tie.Need-live-before-requires
 live-before-requires c κs =
-    let s = c .before .before .before .before .before .before .before .before .before .before .before .before .before .before .before .before .before .before in
+    let s = c .before .before .before .before .before .before .before .before .before .before .before .before .before .before .before .before .before .before .before .before in
     rw (c .before .before .before .before .before .from-word .ensures, second-long (s .args .memory .now) (s .args .uses) (s .args .preserved) (s .args .w) _ (s .pre .1) (s .pre .2) (c .before .before .before .put-writes .kept .0)) (s .pre .3, s .pre .5)
 
-returns-3 : tie.Need-returns-3
-returns-3 c =
-    let s = c .before .before .before .before .before .before .before .before .before .before .before .before .before .before .before .before .before .before .before .before .before in
+returns-4 : tie.Need-returns-4
+returns-4 c =
+    let s = c .before .before .before .before .before .before .before .before .before .before .before .before .before .before .before .before .before .before .before .before .before .before .before in
     let i = c .before .before .before .before .before .before .before .before .from-word .ensures in
     let v = c .before .before .before .before .before .before .put-writes in
     let u = c .before .before .live-before in
-    lent-placed (tables s) (cell s) _ (eq-eqb _ _ (c .before .before .before .before .before .before .before .before .before .before .before .before .before .if1 .left)) _ _ _ _ _ _ (s .pre .1) (s .pre .2) (v .kept .0) (u .kept .0) (rw i at (v .ensures)) (rw i at (u .ensures)) _ refl
+    lent-placed (tables s) (cell s) _ (eq-eqb _ _ (c .before .before .before .before .before .before .before .before .before .before .before .before .before .before .before .if1 .left)) _ _ _ _ _ _ (s .pre .1) (s .pre .2) (v .kept .0) (u .kept .0) (rw i at (v .ensures)) (rw i at (u .ensures)) _ refl
 
 pub summarize-place-spec : {M : Type 1} → statement M
 summarize-place-spec =
@@ -95,6 +123,21 @@ summarize-place-spec =
     single-before-requires
     (λ c. search needs)
     returns-2
+    is-branching-requires
+    (λ c. search needs)
+    (λ c. search needs)
+    (λ c. search needs)
+    (λ c. search needs)
+    (λ c. search needs)
+    take-loop-write-requires
+    (λ c. search needs)
+    (λ c. search needs)
+    (λ c. search needs)
+    (λ c. search needs)
+    (λ c. search needs)
+    branch-before-requires
+    (λ c. search needs)
+    returns-3
     (λ c κs. search needs)
     (λ c. search needs)
     (λ c. search needs)
@@ -109,4 +152,4 @@ summarize-place-spec =
     (λ c. search needs)
     live-before-requires
     (λ c. search needs)
-    returns-3)
+    returns-4)

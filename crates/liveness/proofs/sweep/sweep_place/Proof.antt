@@ -1,5 +1,5 @@
 use mathlib.Core.Path.{_≡_, refl, sym, _∙_}
-use mathlib.Core.Bool.{true, not}
+use mathlib.Core.Bool.{true, false, not}
 use Prim.Native.Nat.{_+_, _*_, _-_, _%_, _≤_}
 use native.Mathlib.Omega.{arith}
 use lib.ListN.{length, getD}
@@ -10,7 +10,9 @@ use Rattle.unit.specs.Size.{metadataSize}
 use Rattle.effects.specs.Shape.{Tables, Cell, tablesOf}
 use Rattle.effects.specs.Cells.{cellOf}
 use Rattle.effects.specs.Single.{isSingle}
+use Rattle.effects.specs.Branching.{isBranching}
 use Rattle.use_def.specs.Single.{single-fits, single-absent}
+use Rattle.use_def.specs.Branching.{branch-fits, branch-not-dead}
 use Rattle.use_def.specs.Free.{deadBy}
 use Rattle.liveness.specs.Memory.{rowOf, row-inside}
 use Rattle.words.specs.Only.{only-none, lent-long}
@@ -60,29 +62,49 @@ returns-2 c =
     (λ l. v .ensures .0 l (tables s) (cell s .metadata))
     (λ d. v .ensures .1 d (single-absent (s .args .types .now) _ (cell s .instruction) (single (c .before .before .before .before .before .before .before)) (sym (r .ensures) ∙ not-false (r .result) d)))
 
+is-branching-requires : tie.Need-is-branching-requires
+is-branching-requires c κs = rw (c .before .before .class-number .ensures) (number-below _)
+
+branching : (c : tie.Then3) → isBranching (classOf (getD (c .before .before .before .before .before .before .before .before .before .before .before .before .before .before .before .before .args .memory .now) (c .before .before .before .before .before .before .before .before .before .before .before .before .before .before .before .before .args .p) 0 % 256)) ≡ true
+branching c = sym (c .before .is-branching .ensures _ (c .before .before .before .before .class-number .ensures)) ∙ c .if3 .taken
+
+branch-before-requires : tie.Need-branch-before-requires
+unfolding ofWord
+branch-before-requires c κs =
+    let s = c .before .before .before .before .before .before .before .before .before .before .before .before .before .before .before .before .before in
+    rw (lent-long _ _ _ (row-inside _ _ (s .pre .0))) (branch-fits _ _ (tables s) (cell s .metadata) (s .pre .6) (branching (c .before)) (s .pre .5), c .before .before .before .before .before .class-number .ensures)
+
+returns-3 : tie.Need-returns-3
+unfolding ofWord
+returns-3 c =
+    let s = c .before .before .before .before .before .before .before .before .before .before .before .before .before .before .before .before .before .before .before .before in
+    let v = c .before .before .branch-before in
+    let dead = branch-not-dead (s .args .types .now) _ (cell s .instruction) (branching (c .before .before .before .before)) in
+    lent-on (tables s) (cell s) _ (eq-eqb _ _ (c .before .before .before .before .before .before .before .before .before .before .before .if1 .left)) (s .args .p) _ (s .args .types .now) _ _ _ false (sym dead) refl (row-inside _ _ (s .pre .0)) _ (v .kept .0) (v .ensures (tables s) (cell s .metadata))
+
 is-dead-requires : tie.Need-is-dead-requires
 is-dead-requires c κs =
-    let s = c .before .before .before .before .before .before .before .before .before .before .before .before .before .before .before .before .before in
+    let s = c .before .before .before .before .before .before .before .before .before .before .before .before .before .before .before .before .before .before .before in
     let part : s .args .sets .row + s .args .sets .width - s .args .sets .row ≡ s .args .sets .width = omega arith in
     rw (part, c .before .before .from-word .ensures) (s .pre .4)
 
-returns-3 : tie.Need-returns-3
-returns-3 c =
-    let s = c .before .before .before .before .before .before .before .before .before .before .before .before .before .before .before .before .before .before .before in
-    lent-gone (tables s) (cell s) _ (eq-eqb _ _ (c .before .before .before .before .before .before .before .before .before .before .if1 .left)) (s .args .p) _ (s .args .types .now) _ _ _ _ (rw (c .before .before .before .before .from-word .ensures) at (c .before .is-dead .ensures)) (c .if3 .taken)
+returns-4 : tie.Need-returns-4
+returns-4 c =
+    let s = c .before .before .before .before .before .before .before .before .before .before .before .before .before .before .before .before .before .before .before .before .before in
+    lent-gone (tables s) (cell s) _ (eq-eqb _ _ (c .before .before .before .before .before .before .before .before .before .before .before .before .if1 .left)) (s .args .p) _ (s .args .types .now) _ _ _ _ (rw (c .before .before .before .before .from-word .ensures) at (c .before .is-dead .ensures)) (c .if4 .taken)
 
 live-before-requires : tie.Need-live-before-requires
 live-before-requires c κs =
-    let s = c .before .before .before .before .before .before .before .before .before .before .before .before .before .before .before .before .before .before .before .before in
+    let s = c .before .before .before .before .before .before .before .before .before .before .before .before .before .before .before .before .before .before .before .before .before .before in
     let room : metadataSize * s .args .p + metadataSize ≤ length (s .args .metadata .now) = omega arith in
     rw (c .before .before .before .before .before .from-word .ensures, lent-long (s .args .memory .now) (s .args .sets .row) (s .args .sets .width) (row-inside _ _ (s .pre .0))) (room, s .pre .5)
 
-returns-4 : tie.Need-returns-4
-returns-4 c =
-    let s = c .before .before .before .before .before .before .before .before .before .before .before .before .before .before .before .before .before .before .before .before .before .before .before in
+returns-5 : tie.Need-returns-5
+returns-5 c =
+    let s = c .before .before .before .before .before .before .before .before .before .before .before .before .before .before .before .before .before .before .before .before .before .before .before .before .before in
     let i = c .before .before .before .before .before .before .before .before .from-word .ensures in
     let b = c .before .before .live-before in
-    lent-on (tables s) (cell s) _ (eq-eqb _ _ (c .before .before .before .before .before .before .before .before .before .before .before .before .before .before .if1 .left)) (s .args .p) _ (s .args .types .now) _ _ _ _ (rw i at (c .before .before .before .before .before .is-dead .ensures)) (c .before .before .before .before .if3 .left) (row-inside _ _ (s .pre .0)) _ (b .kept .0) (rw i at (b .ensures))
+    lent-on (tables s) (cell s) _ (eq-eqb _ _ (c .before .before .before .before .before .before .before .before .before .before .before .before .before .before .before .before .if1 .left)) (s .args .p) _ (s .args .types .now) _ _ _ _ (rw i at (c .before .before .before .before .before .is-dead .ensures)) (c .before .before .before .before .if4 .left) (row-inside _ _ (s .pre .0)) _ (b .kept .0) (rw i at (b .ensures))
 
 pub sweep-place-spec : {M : Type 1} → statement M
 sweep-place-spec =
@@ -113,6 +135,14 @@ sweep-place-spec =
     (λ c. search needs)
     (λ c. search needs)
     returns-2
+    is-branching-requires
+    (λ c. search needs)
+    (λ c. search needs)
+    (λ c. search needs)
+    (λ c. search needs)
+    branch-before-requires
+    (λ c. search needs)
+    returns-3
     (λ c κs. search needs)
     (λ c. search needs)
     (λ c. search needs)
@@ -123,11 +153,11 @@ sweep-place-spec =
     (λ c. search needs)
     (λ c. search needs)
     (λ c. search needs)
-    returns-3
+    returns-4
     (λ c. search needs)
     (λ c. search needs)
     (λ c. search needs)
     (λ c. search needs)
     live-before-requires
     (λ c. search needs)
-    returns-4)
+    returns-5)
