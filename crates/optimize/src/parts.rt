@@ -50,7 +50,7 @@ fn conclude(
 {
     let n = words.len();
     let retained = bounds[n];
-    if (retained as usize == n) & code::is_same(code, words) {
+    if code::is_unchanged(code, words, retained as usize) {
         return Answer::Unchanged;
     }
     match relocation::check_relocation(words, list, metadata, keep) {

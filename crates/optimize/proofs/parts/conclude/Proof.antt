@@ -1,19 +1,17 @@
-use lib.ListN.{length, getD}
-use lib.Dec.{eqb}
-use mathlib.Core.Path.{_≡_, sym, ap, _∙_}
-use mathlib.Core.Bool.{Bool, true, false, _&&_}
+use lib.ListN.{length}
+use mathlib.Core.Path.{sym, _∙_}
 use native.Mathlib.Omega.{arith}
 use Rattle.pc_map.specs.Boundaries.{mapped-long}
-use Rattle.optimize.specs.Parts.{tells-unchanged, tells-refused, sameWords, wordsIn}
+use Rattle.optimize.specs.Parts.{tells-unchanged, tells-refused}
 use Rattle.optimize.specs.Concluded.{Known, conclude-unchanged, conclude-refused, conclude-told, conclude-writable}
 use borrow.Author.Needs.{needs}
 use Rattle.optimize.proofs.parts.conclude.Statement.{statement}
 use Rattle.optimize.proofs.parts.conclude.Tie as tie
 
-abbrev start : tie.After-is-same → tie.Start
+abbrev start : tie.After-is-unchanged → tie.Start
 start i = i .before .before .before .before .before .before .before .before .before .before
 
-known : (i : tie.After-is-same) → let a = start i .args in Known (a .code .now) (a .words .now) (a .keep .now) (a .bounds .now) (a .kept .now)
+known : (i : tie.After-is-unchanged) → let a = start i .args in Known (a .code .now) (a .words .now) (a .keep .now) (a .bounds .now) (a .kept .now)
 known i =
     let b = i .before .before .before .before .before .before .before in
     record {
@@ -22,24 +20,19 @@ known i =
       listed = start i .pre .0;
     }
 
--- the test, by its definition
-tested : (i : tie.After-is-same) (t : Bool) → let a = start i .args in (eqb (getD (a .bounds .now) (length (a .words .now)) 0) (length (a .words .now)) && i .is-same .result) ≡ t
-    → (eqb (getD (a .bounds .now) (length (a .words .now)) 0) (length (a .words .now)) && sameWords (wordsIn (length (a .words .now)) (a .code .now)) (a .words .now)) ≡ t
-tested i t e = let a = start i .args in ap (λ (t : Bool). eqb (getD (a .bounds .now) (length (a .words .now)) 0) (length (a .words .now)) && t) (sym (i .is-same .ensures)) ∙ e
-
 shared-slice-read-retained : tie.Need-shared-slice-read-retained
 shared-slice-read-retained c =
     let s = c .before .before .before .before .before .before .before .before .before in
     omega (arith, mapped-long (s .args .keep .now) (s .args .bounds .now) (s .pre .0 .mapped), s .pre .0 .long)
 
-cast-if1 : tie.Need-cast-if1
-cast-if1 c = let s = c .before .before .before .before .before .before .before .before .before in omega (arith, c .shared-slice-known8 .given (length (s .args .words .now)))
+cast-is-unchanged : tie.Need-cast-is-unchanged
+cast-is-unchanged c = let s = c .before .before .before .before .before .before .before .before .before in omega (arith, c .shared-slice-known8 .given (length (s .args .words .now)))
 
 returns : tie.Need-returns
 returns c =
     let i = c .before in
     let a = start i .args in
-    tells-unchanged _ (a .out .now) (conclude-unchanged (known i) (a .metadata .now) (tested i true (c .if1 .taken)))
+    tells-unchanged _ (a .out .now) (conclude-unchanged (known i) (a .metadata .now) (sym (i .is-unchanged .ensures) ∙ c .if1 .taken))
 
 check-relocation-requires : tie.Need-check-relocation-requires
 check-relocation-requires c κs = search needs
@@ -54,7 +47,7 @@ returns-2 : tie.Need-returns-2
 returns-2 c =
     let i = c .before .before .before .before .before in
     let a = start i .args in
-    tells-refused _ _ _ (a .out .now) (conclude-refused (known i) (a .metadata .now) (tested i false (c .before .before .before .before .if1 .left)) _ _ (sym (c .before .before .before .check-relocation .ensures) ∙ c .before .k .given .1))
+    tells-refused _ _ _ (a .out .now) (conclude-refused (known i) (a .metadata .now) (sym (i .is-unchanged .ensures) ∙ c .before .before .before .before .if1 .left) _ _ (sym (c .before .before .before .check-relocation .ensures) ∙ c .before .k .given .1))
 
 returns-3 : tie.Need-returns-3
 returns-3 c =
@@ -62,7 +55,7 @@ returns-3 c =
     let i = e .before .before .before .before in
     let s = start i in
     let a = s .args in
-    conclude-told (known i) (a .metadata .now) (tested i false (e .before .before .before .if1 .left)) (a .out .now) _ (sym (e .before .before .check-relocation .ensures) ∙ e .enum-told .given .1) (c .before .before .write-retained .ensures (a .keep .now) (s .pre .0))
+    conclude-told (known i) (a .metadata .now) (sym (i .is-unchanged .ensures) ∙ e .before .before .before .if1 .left) (a .out .now) _ (sym (e .before .before .check-relocation .ensures) ∙ e .enum-told .given .1) (c .before .before .write-retained .ensures (a .keep .now) (s .pre .0))
 
 pub conclude-spec : {M : Type 1} → statement M
 conclude-spec =
@@ -70,7 +63,7 @@ conclude-spec =
     (tie.spec
     (λ c. search needs)
     shared-slice-read-retained
-    cast-if1
+    cast-is-unchanged
     (λ c κs. search needs)
     returns
     check-relocation-requires
