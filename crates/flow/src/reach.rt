@@ -37,9 +37,6 @@ fn push_near(stack: &mut [u32], n: usize, sp: usize, p: usize, i: Instruction) -
     requires { ⌜ (n ≤ maxInstructions) × (p < n) × (sp + 2 ≤ length (now stack)) ⌝ }
     ensures { λ r. ⌜ Pushed n sp (nearSuccessors p i) (now (stack .entry)) (now (stack .exit)) r ⌝ }
 {
-    if !branch::ends_block(i.op) {
-        return push_if(stack, n, sp, i.op <= MAX_VALID, p as u64 + 1);
-    }
     let k = opcode::class_number(i.op);
     let next = push_if(stack, n, sp, branch::falls(k) == 1, p as u64 + 1);
     push_if(
