@@ -13,6 +13,7 @@ use borrow.Author.Needs.{needs}
 use Rattle.flow.proofs.reach.goes_on.Statement.{statement}
 use Rattle.flow.proofs.reach.goes_on.Tie as tie
 
+-- the code tests by the number, and says the same of each byte
 abbrev tested : ℕ → Bool
 tested o = not (endsBlock (classOf o)) && ltb 0 o && leb o maxValid
 
