@@ -3,4 +3,5 @@ pub mod Classes
 mod Controlling
 mod Numbering
 mod Pushing
+mod Running
 mod Walked

@@ -1,20 +1,17 @@
 -- The calls of a walk's turn, put together.
 -- Assumes nothing.
-use mathlib.Core.Path.{_≡_, sym, _∙_}
-use mathlib.Core.Bool.{Bool, true, false, cond, not, _&&_}
+use mathlib.Core.Path.{_≡_}
+use mathlib.Core.Bool.{Bool, true, false, cond, _&&_}
 use mathlib.Core.List.{List, [], _∷_}
 use Prim.Native.Nat.{ℕ, _+_}
 use native.Mathlib.Numerals.{add-one}
-use lib.Dec.{eqb, ltb, leb}
-use borrow.Author.Tests.{not-true}
-use Rattle.instruction.specs.Opcode.{maxValid}
+use lib.Dec.{eqb, ltb}
 use Rattle.instruction.specs.declared.Instruction.{Instruction}
 use Rattle.instruction.specs.Instruction.{class, ofWord, imm32Unsigned}
 use Rattle.unit.specs.declared.Metadata.{Metadata}
 use Rattle.unit.specs.Entry.{kindLoopEnd, metadataAt}
 use Rattle.effects.specs.Cells.{cellOf}
 use Rattle.flow.specs.Branch.{falls, branches, target}
-use Rattle.flow.specs.Block.{endsBlock, no-branch, valid-falls}
 use Rattle.flow.specs.Loop.{isLoopHint, successors}
 use Rattle.flow.specs.Stack.{Pushed, push-none, push-then}
 use Rattle.flow.specs.Successors.{nearSuccessors, loopSuccessorsOf}
@@ -23,13 +20,6 @@ module _ (n sp p : ℕ) (i : Instruction) (st : List ℕ) where
   pub push-near : (t : ℕ) (a b : Bool) {st₁ st₂ : List ℕ} {r₁ r₂ : ℕ} → a ≡ falls (class i) → Pushed n sp (cond a ((p + 1) ∷ []) []) st st₁ r₁
       → b ≡ branches (class i) → t ≡ target p i → Pushed n r₁ (cond b (t ∷ []) []) st₁ st₂ r₂ → Pushed n sp (nearSuccessors p i) st st₂ r₂
   push-near t a b f one g h two = push-then n sp st (rw (f, add-one p) at one) (rw (g, h) at two)
-
-  -- the block goes on: no branch
-  pub push-next : (e : Bool) {st₁ : List ℕ} {r₁ : ℕ} → e ≡ endsBlock (class i) → not e ≡ true → Pushed n sp (cond (leb (i .op) maxValid) ((p + 1) ∷ []) []) st st₁ r₁
-      → Pushed n sp (nearSuccessors p i) st st₁ r₁
-  push-next e f g one =
-      let ends : endsBlock (class i) ≡ false = sym f ∙ not-true e g in
-      rw (no-branch (class i) ends) (push-then n sp st (rw (← valid-falls (i .op) ends, add-one p) at one) (push-none n _ _))
 
   module _ (metadata : List ℕ) (h : Bool) (hint : h ≡ isLoopHint i) where
     pub push-no-hint : h ≡ false → Pushed n sp (loopSuccessorsOf n i metadata p) st st sp

@@ -3,19 +3,15 @@
 use mathlib.Core.Path.{_≡_, refl}
 use mathlib.Core.Bool.{Bool, true, false, cond, _||_}
 use mathlib.Core.List.{List, [], _∷_}
-use Prim.Native.Nat.{ℕ, zero, suc, _+_, _-_}
-use native.Mathlib.Omega.{arith}
-use lib.Dec.{eqb, leb}
+use Prim.Native.Nat.{ℕ, suc, _-_}
+use lib.Dec.{eqb}
 use lib.ListN.{length, take}
-use borrow.Author.Tests.{leb-true, leb-false}
-use Rattle.words.specs.Lists.{isIn, every, every-at, tabulate, sum}
+use Rattle.words.specs.Lists.{isIn, tabulate, sum}
 use Rattle.instruction.specs.declared.Class.{Class}
 use Rattle.instruction.specs.declared.Class.the-variants.{Hint, LoadInt, LoadConst, Copy, CopyN, Unary, Binary, Jump, JumpIf, JumpIfNot, ForLoop, Return, Panic, Outside, Invalid}
-use Rattle.instruction.specs.Opcode.{maxValid}
-use Rattle.instruction.specs.Class.{single, classOf, class-past}
 use Rattle.instruction.specs.Instruction.{class}
 use Rattle.effects.specs.Shape.{Cell}
-use Rattle.flow.specs.Branch.{falls, branches, target}
+use Rattle.flow.specs.Branch.{branches, target}
 
 -- a block ends after these
 unfoldable pub endsBlock : Class → Bool
@@ -53,19 +49,6 @@ no-branch Return e = refl
 no-branch Panic e = refl
 no-branch Outside e = refl
 no-branch Invalid e = refl
-
--- what ends no block goes on at the next place, if it is valid
-pub valid-falls : (o : ℕ) → endsBlock (classOf o) ≡ false → falls (classOf o) ≡ leb o maxValid
-unfolding every endsBlock falls classOf single
-valid-falls o e = go (leb o maxValid) refl
-  where
-    go : (t : Bool) → leb o maxValid ≡ t → falls (classOf o) ≡ t
-    go true f =
-        let h = leb-true o maxValid f in
-        rw e at (every-at 136 (λ o. endsBlock (classOf o) || falls (classOf o)) refl o (omega arith))
-    go false f =
-        let h = leb-false o maxValid f in
-        rw (class-past o (omega arith))
 
 -- the targets of all branches, of cells that stand from place p on
 unfoldable pub branchTargets : ℕ → List Cell → List ℕ

@@ -9,7 +9,9 @@ use native.Mathlib.Omega.{arith}
 use lib.ListN.{length, getD, take, set, replicate, length-set, length-append}
 use lib.Seq.{take-suc, take-suc-set, length-take-le}
 use borrow.Author.Tests.{lt-ltb, le-ltb}
+use borrow.Rule.Slice.PartMut.{midOf}
 use Rattle.words.specs.Lists.{sum}
+use Rattle.words.specs.Regions.{Outside}
 use Rattle.flow.specs.Reach.{reached}
 use Rattle.flow.specs.Marks.{bit, grew-set, sum-set, sum-grew}
 use Rattle.flow.specs.Walking.{pushAll, push-append, Walking, walk-begin, walk-old, walk-new, walk-end}
@@ -45,9 +47,27 @@ pub record Standing (n : ℕ) (next : ℕ → List ℕ) (m st : List ℕ) (sp : 
   pub fits : sp ≤ length st
   pub walking : Walking n next m (take sp st)
 
+-- In one buffer the n marks come first, and the stack after them.
+abbrev pub marksOf : ℕ → List ℕ → List ℕ
+marksOf n w = midOf 0 n w
+
+abbrev pub stackOf : ℕ → List ℕ → List ℕ
+stackOf n w = midOf n (4 * n + 4) w
+
+-- the walk came from the buffer xs to w; what lies behind is as it was
+pub record Walked (n : ℕ) (next : ℕ → List ℕ) (xs w : List ℕ) (sp : ℕ) : Type 0 where
+  pub long : length w ≡ length xs
+  pub outside : Outside 0 (5 * n + 4) xs w
+  pub standing : Standing n next (marksOf n w) (stackOf n w) sp
+
 -- what is left to do: each turn makes it less
 abbrev pub left : ℕ → List ℕ → ℕ → ℕ
 left n m sp = sp + 4 * (n - sum m)
+
+-- what a run does, from the place on the stack at sp on
+pub record Ran (n : ℕ) (next : ℕ → List ℕ) (xs w : List ℕ) (sp r : ℕ) : Type 0 where
+  pub walked : Walked n next xs w r
+  pub less : left n (marksOf n w) r < left n (marksOf n xs) (sp + 1)
 
 module _ (n : ℕ) (next : ℕ → List ℕ) where
   pub stand-begin : (st : List ℕ) → 0 < n → 0 < length st → Standing n next (replicate n 0) (set st 0 0) 1
@@ -57,10 +77,6 @@ module _ (n : ℕ) (next : ℕ → List ℕ) where
   stand-end s = walk-end n next (s .walking)
 
   module _ (few : (p : ℕ) → length (next p) ≤ 4) (m st : List ℕ) where
-    -- the stack's length as the code counts it, one down and one up
-    pub stand-down : (sp : ℕ) → 0 < sp → Standing n next m st sp → Standing n next m st (sp - 1 + 1)
-    stand-down sp h s = let e : sp - 1 + 1 ≡ sp = omega arith in rw e s
-
     -- a turn takes the number at sp off the stack
     module _ (sp : ℕ) (s : Standing n next m st (sp + 1)) where
       popped : Walking n next m (take sp st ++ (getD st sp 0 ∷ []))

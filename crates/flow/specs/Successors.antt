@@ -1,17 +1,22 @@
 -- The successors of a place of the cells in lent memory.
 -- Assumes nothing.
 use mathlib.Core.Path.{_≡_, ap}
-use mathlib.Core.Bool.{Bool, true, false, cond, _&&_}
+use mathlib.Core.Bool.{Bool, true, false, cond, not, _&&_}
 use mathlib.Core.List.{List, [], _∷_, _++_}
-use Prim.Native.Nat.{ℕ, suc, _+_, _≤_, _<_}
+use Prim.Native.Nat.{ℕ, suc, _≤_, _<_}
 use native.Mathlib.Omega.{arith}
 use lib.ListN.{length, getD, length-append}
+use borrow.Author.Tests.{not-true}
+use Rattle.words.specs.Truth.{both}
 use Rattle.instruction.specs.declared.Instruction.{Instruction}
+use Rattle.instruction.specs.Class.{classOf}
 use Rattle.instruction.specs.Instruction.{class}
 use Rattle.unit.specs.Entry.{metadataAt}
 use Rattle.effects.specs.Shape.{Cell, cellAt}
 use Rattle.effects.specs.Cells.{cellOf, cellsBy, cells-long, cell-at}
+use Rattle.flow.specs.Block.{no-branch}
 use Rattle.flow.specs.Branch.{falls, branches, target}
+use Rattle.flow.specs.Control.{isControl, ends-none, no-loop-hint}
 use Rattle.flow.specs.Loop.{isLoopHint, isSound, loopEnd, loopExit, successors}
 
 -- the next place and the branch's target; a sound loop hint's end and exit
@@ -47,6 +52,18 @@ successors-few n p x =
     at-most-two : (t : Bool) (v w : ℕ) → length (cond t (v ∷ w ∷ []) []) ≤ 2
     at-most-two true v w = omega arith
     at-most-two false v w = omega arith
+
+-- an opcode whose only successor is the next place, whatever the metadata
+unfoldable pub goesOn : ℕ → Bool
+goesOn o = falls (classOf o) && not (isControl (classOf o))
+
+pub goes-on : (n p : ℕ) (x : Cell) → goesOn (x .instruction .op) ≡ true → successors n p x ≡ suc p ∷ []
+unfolding goesOn successors
+goes-on n p x e =
+    let i = x .instruction in
+    let tests = both (falls (class i)) (not (isControl (class i))) e in
+    let idle : isControl (class i) ≡ false = not-true (isControl (class i)) (tests .1) in
+    rw (tests .0, no-branch (class i) (ends-none (class i) idle), no-loop-hint i idle)
 
 -- the walk's `next`
 abbrev pub following : List Cell → ℕ → List ℕ

@@ -8,8 +8,8 @@ ghost use borrow.Rule.Slice.PartMut.{midOf, putMid};
 ghost use Rattle.unit.specs.Size.{maxInstructions, metadataSize};
 ghost use Rattle.effects.specs.Cells.{cellOf, cellsBy};
 ghost use Rattle.flow.specs.Loop.{successors, reachedPlaces};
-ghost use Rattle.flow.specs.Stack.{Pushed};
-ghost use Rattle.flow.specs.Successors.{nearSuccessors, loopSuccessorsOf};
+ghost use Rattle.flow.specs.Stack.{Pushed, Standing, marksOf, stackOf, Ran};
+ghost use Rattle.flow.specs.Successors.{nearSuccessors, loopSuccessorsOf, goesOn, following};
 use crate::branch;
 use crate::hint;
 use effects::operands::MAX_VALID;
@@ -37,9 +37,6 @@ fn push_near(stack: &mut [u32], n: usize, sp: usize, p: usize, i: Instruction) -
     requires { ⌜ (n ≤ maxInstructions) × (p < n) × (sp + 2 ≤ length (now stack)) ⌝ }
     ensures { λ r. ⌜ Pushed n sp (nearSuccessors p i) (now (stack .entry)) (now (stack .exit)) r ⌝ }
 {
-    if !branch::ends_block(i.op) {
-        return push_if(stack, n, sp, i.op <= MAX_VALID, p as u64 + 1);
-    }
     let k = opcode::class_number(i.op);
     let next = push_if(stack, n, sp, branch::falls(k) == 1, p as u64 + 1);
     push_if(
@@ -84,6 +81,35 @@ fn push_successors(words: &[u64], metadata: &[u8], stack: &mut [u32], sp: usize,
     push_loop(metadata, stack, n, near, p, i)
 }
 
+// Is the next place the only successor, whatever the metadata? It is, but for what ends a block, hints and invalid opcodes.
+fn goes_on(op: u8) -> bool
+    ensures { λ r. ⌜ r ≡ goesOn op ⌝ }
+{
+    !branch::ends_block(op) & (op > 0) & (op <= MAX_VALID)
+}
+
+// Marks place `first`, which stands on the stack at `sp`, and the places after it as far as each only goes on to the next; the
+// successors of the last one go onto the stack. Most places only go on, and a run need not wait to load what it has just stored.
+// The result is the stack's new height.
+fn mark_run(words: &[u64], metadata: &[u8], work: &mut [u32], sp: usize, first: usize) -> usize
+    requires { ⌜ (length (now words) ≤ maxInstructions) × (metadataSize * length (now words) ≤ length (now metadata)) × (5 * length (now words) + 4 ≤ length (now work)) × Standing (length (now words)) (following (cellsBy (now words) (now metadata))) (marksOf (length (now words)) (now work)) (stackOf (length (now words)) (now work)) (sp + 1) × (first ≡ getD (now work) (length (now words) + sp) 0) ⌝ }
+    ensures { λ r. ⌜ Ran (length (now (words .entry))) (following (cellsBy (now (words .entry)) (now (metadata .entry)))) (now (work .entry)) (now (work .exit)) sp r ⌝ }
+{
+    let n = words.len();
+    let end = 5 * n + 4;
+    let mut p = first;
+    while work[p] == 0 {
+        work[p] = 1;
+        if goes_on((words[p] % 256) as u8) & (p + 1 < n) {
+            p += 1;
+            work[n + sp] = p as u32;
+        } else {
+            return push_successors(words, metadata, &mut work[n..end], sp, p);
+        }
+    }
+    sp
+}
+
 // Marks the places that are reached from place 0. Each is visited once, and has at most four successors. The marks stand first, and
 // the stack after them.
 pub fn mark_reached(words: &[u64], metadata: &[u8], work: &mut [u32])
@@ -91,16 +117,12 @@ pub fn mark_reached(words: &[u64], metadata: &[u8], work: &mut [u32])
     ensures { λ _. ⌜ (midOf 0 (length (now (words .entry))) (now (work .exit)) ≡ reachedPlaces (cellsBy (now (words .entry)) (now (metadata .entry)))) × (now (work .exit) ≡ putMid 0 (5 * length (now (words .entry)) + 4) (now (work .entry)) (midOf 0 (5 * length (now (words .entry)) + 4) (now (work .exit)))) ⌝ }
 {
     let n = words.len();
-    let end = 5 * n + 4;
     fill::zero_u32(&mut work[0..n]);
     work[n] = 0;
     let mut sp: usize = 1;
     while sp > 0 {
         sp -= 1;
         let p = work[n + sp] as usize;
-        if work[p] == 0 {
-            work[p] = 1;
-            sp = push_successors(words, metadata, &mut work[n..end], sp, p);
-        }
+        sp = mark_run(words, metadata, work, sp, p);
     }
 }
