@@ -1,10 +1,9 @@
 -- The answer of one pass for every bytes and every lengths of the lent buffers: document 01's table, from top to bottom.
 -- Assumes nothing.
-use mathlib.Core.Bool.{Bool, true, false, cond, _&&_, _||_, not}
-use mathlib.Core.List.{List, [], _∷_}
-use Prim.Native.Nat.{ℕ, zero, suc}
+use mathlib.Core.Bool.{Bool, cond, _&&_, _||_, not}
+use mathlib.Core.List.{List}
+use Prim.Native.Nat.{ℕ}
 use lib.Dec.{eqb, leb}
-use lib.ListN.{length}
 use Rattle.words.specs.Lists.{tabulate}
 use Rattle.instruction.specs.Instruction.{instructionAt}
 use Rattle.unit.specs.declared.Header.{Header}
@@ -13,7 +12,7 @@ use Rattle.unit.specs.Size.{outputRoom, work32Room, work64Room}
 use Rattle.unit.specs.Entry.{metadataAt}
 use Rattle.unit.specs.Layout.{headerOf, codeOf, metadataOf, typesOf, constantsOf, functionsOf, externsOf, casesOf, isUnit}
 use Rattle.effects.specs.Shape.{Sections, Cell, tablesOf}
-use Rattle.answer.specs.Pass.{Outcome, unchanged, refused, rewritten, isWorkedOn, optimized}
+use Rattle.answer.specs.Pass.{Outcome, unchanged, refused, isWorkedOn, optimized}
 
 -- the function of a unit: its cells, and the sections that stay
 unfoldable pub cellsOf : List ℕ → List Cell

@@ -1,10 +1,10 @@
 -- "Cleaning stops at the first pass that does not rewrite, or after 3, and adds the number of the last pass run, 1 where none ran."
 -- Assumes nothing.
-use mathlib.Core.Bool.{Bool, true, false, cond, _&&_}
+use mathlib.Core.Bool.{Bool, cond, _&&_}
 use mathlib.Core.List.{List, [], _∷_, map}
 use Prim.Native.Nat.{ℕ, zero, suc}
 use lib.Dec.{leb}
-use lib.ListN.{length, getD}
+use lib.ListN.{getD}
 use Rattle.unit.specs.declared.Header.{Header}
 use Rattle.unit.specs.Refusal.{notUnit, shortBuffer}
 use Rattle.unit.specs.Size.{outputRoom}

@@ -1,8 +1,8 @@
 -- The operands of every instruction: refusals 5, 6 and 7 "by lowest p: Invalid; effect error; a slot at or past s".
 -- Assumes nothing.
-use mathlib.Core.Bool.{Bool, true, false, cond, _&&_}
+use mathlib.Core.Bool.{Bool, false, cond}
 use mathlib.Core.List.{List, [], _∷_, _++_}
-use Prim.Native.Nat.{ℕ, zero, suc}
+use Prim.Native.Nat.{ℕ, suc}
 use lib.Dec.{eqb, ltb}
 use Rattle.instruction.specs.Opcode as op
 use Rattle.unit.specs.Refusal.{invalidOpcode, effectError, slotOutside}

@@ -1,11 +1,10 @@
 -- "each instruction declares ranges read, ranges written and, for the four Slot opcodes, an array range that counts as read"
 -- Assumes nothing.
-use mathlib.Core.Bool.{Bool, true, false, cond, _&&_, _||_, not}
+use mathlib.Core.Bool.{Bool, true, false, cond, _&&_, _||_}
 use mathlib.Core.List.{List, [], _∷_, _++_, map}
 use Prim.Native.Nat.{ℕ, zero, suc, _+_}
 use lib.Dec.{eqb, leb, ltb}
 use Rattle.instruction.specs.Opcode as op
-use Rattle.unit.specs.declared.SelectCase.{SelectCase}
 use Rattle.unit.specs.Entry.{caseAt}
 use Rattle.effects.specs.declared.Range.{Range}
 use Rattle.effects.specs.Shape.{Tables, Cell, Shape, met, rangeOf}

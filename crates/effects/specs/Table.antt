@@ -6,7 +6,7 @@ use Prim.Native.Nat.{ℕ}
 use Rattle.words.specs.Lists.{isIn}
 use Rattle.instruction.specs.Opcode as op
 use Rattle.unit.specs.Entry.{kindElemLayout, kindMapGet, kindMapSet, kindMapDelete, kindPtrLayout, kindSlotLayout, kindQueueLayout, kindSelectExecLayout, kindMapIterNext, kindIfaceAssertLayout}
-use Rattle.effects.specs.Shape.{Demand, nothing, kind, callLayout, resultLayout, callee, extern, callShape, Term, fixed, fieldA, fieldB, fieldC, fieldFlags, first, second, both, firstFlag, secondOk, array, params, results, returns, arguments, When, always, flagsAre, flagBit, closure, Part, part, Shape}
+use Rattle.effects.specs.Shape.{Demand, nothing, kind, callLayout, resultLayout, callee, extern, callShape, fixed, fieldA, fieldB, fieldC, fieldFlags, first, second, both, firstFlag, secondOk, array, params, results, returns, arguments, always, flagsAre, flagBit, closure, Part, part, Shape}
 
 pub record Row : Type 0 where
   pub opcodes : List ℕ

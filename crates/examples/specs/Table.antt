@@ -1,14 +1,14 @@
 -- Document 01's starred examples: one table of cases, and one theorem for it, by computation.
 -- Assumes nothing.
 use mathlib.Core.Path.{_≡_, refl}
-use mathlib.Core.Bool.{Bool, true, false, cond, _&&_}
+use mathlib.Core.Bool.{Bool, true, false, _&&_}
 use mathlib.Core.List.{List, [], _∷_}
 use Prim.Native.Nat.{ℕ}
 use lib.Dec.{eqb}
 use lib.ListN.{length}
 use Rattle.words.specs.Le.{fromLe}
 use Rattle.instruction.specs.Opcode as op
-use Rattle.unit.specs.Result.{Retained, resultBytes}
+use Rattle.unit.specs.Result.{resultBytes}
 use Rattle.unit.specs.Size.{resultSize}
 use Rattle.effects.specs.Shape.{Cell}
 use Rattle.answer.specs.Pass.{Outcome, unchanged, refused, rewritten, pass}
@@ -42,7 +42,7 @@ use Rattle.answer.specs.Answer as optimizeAnswer
 use Rattle.answer.specs.Jump as optimizeJump
 use Rattle.answer.specs.Pass as optimizePass
 use Rattle.answer.specs.Clean as cleanClean
-use Rattle.examples.specs.Unit.{unit, bytesOf, metadataOf, numbers, cell, loadInt, jumpIf, three, return, loopHint}
+use Rattle.examples.specs.Unit.{unit, bytesOf, metadataOf, numbers, loadInt, jumpIf, three, return, loopHint}
 
 -- what a case expects of a pass: unchanged, a refusal, or the result's first 16 + 28n' bytes, read as one little-endian number
 pub data Expected : Type 0 where

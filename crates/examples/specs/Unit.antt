@@ -1,7 +1,7 @@
 -- Small units, written as a person would: a list of instructions with their metadata.
 -- Assumes nothing.
-use mathlib.Core.List.{List, [], _∷_, _++_, map}
-use Prim.Native.Nat.{ℕ, _+_, _*_, _/_, _%_}
+use mathlib.Core.List.{List, [], _∷_, _++_}
+use Prim.Native.Nat.{ℕ, _+_, _*_}
 use lib.ListN.{length, replicate}
 use Rattle.words.specs.Le.{toLe}
 use Rattle.instruction.specs.Opcode as op

@@ -1,7 +1,7 @@
 -- Loop hints, and the places that are reached "from place 0 by the rewritten branches; a sound loop hint, flags 1, also reaches
 -- its end and an exit below n, an unsound one only the next place".
 -- Assumes nothing.
-use mathlib.Core.Bool.{Bool, true, false, cond, _&&_}
+use mathlib.Core.Bool.{Bool, cond, _&&_}
 use mathlib.Core.List.{List, [], _∷_, _++_}
 use Prim.Native.Nat.{ℕ, suc}
 use lib.Dec.{eqb, ltb}
@@ -10,7 +10,6 @@ use Rattle.instruction.specs.Opcode as op
 use Rattle.instruction.specs.declared.Instruction.{Instruction}
 use Rattle.instruction.specs.Instruction.{imm32Unsigned, class}
 use Rattle.unit.specs.Refusal.{unsoundLoop}
-use Rattle.unit.specs.declared.Metadata.{Metadata}
 use Rattle.unit.specs.Entry.{kindLoopEnd}
 use Rattle.effects.specs.declared.Check.{Check}
 use Rattle.effects.specs.Shape.{Cell, cellAt}

@@ -1,5 +1,4 @@
 // The text of an answer. Each function puts a text into the buffer from `at` on and gives the place after it.
-ghost use mathlib.Core.Path.{_≡_};
 ghost use Prim.Native.Nat.{_+_, _*_, _≤_, _<_};
 ghost use lib.ListN.{length};
 ghost use Rattle.listing.specs.Text.{ended, fields, line, lines, textOf};

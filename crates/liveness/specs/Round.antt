@@ -1,11 +1,9 @@
 -- A round of liveness block by block: each block's row is made of its two sets and of what is live at its end.
 -- Assumes nothing.
 use mathlib.Core.Path.{_≡_, refl, sym, ap, _∙_}
-use mathlib.Core.Bool.{Bool, true, false, cond, not, _&&_, _||_, false≢true}
+use mathlib.Core.Bool.{Bool, true, false, cond, not, _&&_, _||_}
 use mathlib.Core.List.{List, [], _∷_}
 use Prim.Native.Nat.{ℕ, zero, suc, _+_, _*_, _-_, _≤_, _<_}
-use native.Mathlib.Nat.{add-zero}
-use native.Mathlib.Numerals.{add-one}
 use native.Mathlib.Decide.{decLe}
 use native.Mathlib.Omega.{arith}
 use lib.Dec.{eqb, leb, ltb}
@@ -15,18 +13,17 @@ use borrow.Author.Tests.{eq-eqb, ne-eqb, ltb-true, ltb-false, leb-true}
 use Rattle.words.specs.Bits.{member}
 use Rattle.effects.specs.declared.Range.{Range}
 use Rattle.effects.specs.Shape.{Tables, Sections, Cell, cellAt, noCell}
-use Rattle.effects.specs.Effects.{allReads, writes, rangeHas, rangeWithin, anyOf, allOf}
+use Rattle.effects.specs.Effects.{allReads, rangeHas, rangeWithin, anyOf, allOf}
 use Rattle.words.specs.Truth.{left-true, right-true}
 use Rattle.effects.specs.Sound.{within-slot}
 use Rattle.flow.specs.Block.{blockOf, blockCount}
-use Rattle.flow.specs.Blocks.{blockStart, Walk, block-walk, starting, start-end, start-first}
-use Rattle.flow.specs.Marks.{Marked}
+use Rattle.flow.specs.Blocks.{blockStart, Walk, block-walk, starting, start-end}
 use Rattle.flow.specs.Flags.{Flags}
 use Rattle.pc_map.specs.Boundary.{isKept}
-use Rattle.use_def.specs.Touched.{reading, writing, touches, Within}
-use Rattle.liveness.specs.Live.{Row, liveBefore, edges, isLast, joined, liveAfter, noRow, Walked, roundFrom}
+use Rattle.use_def.specs.Touched.{writing, touches, Within}
+use Rattle.liveness.specs.Live.{Row, liveBefore, edges, isLast, joined, liveAfter, Walked, roundFrom}
 use Rattle.liveness.specs.Through.{liveBit, through, Summary}
-use Rattle.liveness.specs.Rows.{Wide, before-bit, before-long, joined-long, round-wide, after-long}
+use Rattle.liveness.specs.Rows.{Wide, before-bit, joined-long, round-wide, after-long}
 use Rattle.liveness.specs.Shown.{Holds, member-past, bit-past}
 
 -- ---- slots that no instruction reads

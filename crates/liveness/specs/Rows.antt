@@ -3,19 +3,19 @@
 use mathlib.Core.Path.{_≡_, refl, sym, ap, _∙_}
 use mathlib.Core.Bool.{Bool, true, false, cond, not, _&&_, _||_, or-false}
 use mathlib.Core.List.{List, [], _∷_}
-use Prim.Native.Nat.{ℕ, zero, suc, _+_, _≤_, _<_}
+use Prim.Native.Nat.{ℕ, zero, suc, _<_}
 use native.Mathlib.Nat.{zero-add}
 use native.Mathlib.Decide.{ℕ-discrete, decLe}
 use native.Mathlib.Omega.{arith}
 use lib.Dec.{eqb}
 use lib.ListN.{length, getD, set, replicate, length-replicate}
 use lib.Seq.{getD-set-same, getD-set-other, set-out}
-use Rattle.words.specs.Lists.{mapFrom, length-mapFrom, getD-mapFrom}
+use Rattle.words.specs.Lists.{length-mapFrom, getD-mapFrom}
 use Rattle.effects.specs.Shape.{Tables, Sections, Cell}
 use Rattle.effects.specs.Effects.{allReads, writes, rangeHas, anyOf}
 use Rattle.flow.specs.Block.{blockOf}
 use Rattle.pc_map.specs.Boundary.{isKept}
-use Rattle.liveness.specs.Live.{Row, liveBefore, union, edges, isLast, noRow, joined, liveAfter, Walked, roundFrom}
+use Rattle.liveness.specs.Live.{Row, liveBefore, union, edges, isLast, noRow, joined, liveAfter, roundFrom}
 
 abbrev pub bit : Row → ℕ → Bool
 bit row s = getD row s false

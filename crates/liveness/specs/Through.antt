@@ -1,20 +1,19 @@
 -- A slot followed from the end of a row of places to its start, and the two sets that tell the same of all slots at once: those
 -- that are used before they are written, and those that are preserved, that is never written.
 -- Assumes nothing.
-use mathlib.Core.Path.{_≡_, refl, sym, ap, _∙_}
-use mathlib.Core.Bool.{Bool, true, false, cond, not, _&&_, _||_, and-false}
-use mathlib.Core.List.{List, [], _∷_}
+use mathlib.Core.Path.{_≡_, refl}
+use mathlib.Core.Bool.{Bool, true, false, cond, not, _&&_, _||_}
+use mathlib.Core.List.{List}
 use Prim.Native.Nat.{ℕ, zero, suc, _+_, _*_, _-_, _≤_, _<_}
 use native.Mathlib.Omega.{arith}
-use lib.ListN.{length, getD, replicate}
+use lib.ListN.{length, replicate}
 use borrow.Rule.Slice.PartMut.{midOf, putMid}
 use Rattle.words.specs.Bits.{member}
 use Rattle.effects.specs.Shape.{Tables, Cell, cellAt}
-use Rattle.effects.specs.Cells.{cellOf}
 use Rattle.pc_map.specs.Boundary.{isKept}
 use Rattle.words.specs.Only.{At, Either, Only, both-lent}
 use Rattle.use_def.specs.Sets.{Put}
-use Rattle.use_def.specs.Touched.{reading, writing, Fits, Before}
+use Rattle.use_def.specs.Touched.{reading, writing, Before}
 use Rattle.use_def.specs.Wordwise.{none-in, all-in}
 
 -- is the slot live before an instruction, if it is so after it?

@@ -1,9 +1,9 @@
 -- From one step of a pass to the next: what a step leaves is what the next one asks.
 -- Assumes nothing.
 use mathlib.Core.Path.{_≡_, refl, sym, ap, _∙_}
-use mathlib.Core.Bool.{Bool, true, false, cond}
-use mathlib.Core.List.{List, [], _∷_, _++_}
-use Prim.Native.Nat.{ℕ, zero, suc, _+_, _-_, _*_, _/_, _≤_, _<_}
+use mathlib.Core.Bool.{true}
+use mathlib.Core.List.{List, _++_}
+use Prim.Native.Nat.{ℕ, _+_, _-_, _*_, _/_, _≤_, _<_}
 use native.Mathlib.Omega.{arith}
 use lib.ListN.{length, getD, take, drop, length-map}
 use lib.Seq.{take-at}
@@ -16,16 +16,14 @@ use Rattle.effects.specs.declared.Check.{Check}
 use Rattle.effects.specs.declared.Check.the-variants.{Passed, Refused}
 use Rattle.effects.specs.Check.{operandRefusal, operandCheck}
 use Rattle.effects.specs.Shape.{Sections, Cell, cellAt}
-use Rattle.effects.specs.Cells.{cellOf, cellsBy, cells-long, cell-at}
+use Rattle.effects.specs.Cells.{cellOf, cellsBy, cell-at}
 use Rattle.effects.specs.Sound.{passed-at}
-use Rattle.flow.specs.Block.{leaders}
-use Rattle.flow.specs.Branch.{branchInside, branchCheck}
+use Rattle.flow.specs.Branch.{branchCheck}
 use Rattle.flow.specs.BranchLaws.{BranchesInside}
 use Rattle.flow.specs.Leaders.{leaders-first, leaders-flags}
 use Rattle.flow.specs.Loop.{reachedPlaces, loopCheck}
 use Rattle.flow.specs.Reached.{places-flags}
 use Rattle.pc_map.specs.Boundary.{boundary}
-use Rattle.pc_map.specs.Boundaries.{Mapped}
 use Rattle.pc_map.specs.Listed.{keptList}
 use Rattle.answer.specs.Pass.{Outcome, refused, checked, removal}
 use Rattle.values.specs.Named.{Named}

@@ -1,38 +1,36 @@
 -- "unchanged: same code, all kept", refusal 10 or rewritten, by what is in lent memory.
 -- Assumes nothing.
 use mathlib.Core.Path.{_≡_, refl, sym, ap, _∙_}
-use mathlib.Core.Logic.{_⊎_, inl, inr}
-use mathlib.Core.Bool.{Bool, true, false, cond, _&&_}
+use mathlib.Core.Logic.{inl, inr}
+use mathlib.Core.Bool.{Bool, true, false, _&&_}
 use mathlib.Core.List.{List, [], _∷_}
-use Prim.Native.Nat.{ℕ, zero, suc, _+_, _*_, _^_, _≤_, _<_}
+use Prim.Native.Nat.{ℕ, suc, _+_, _*_, _^_, _≤_, _<_}
 use native.Mathlib.Decide.{decLe}
 use native.Mathlib.Nat.{zero-add}
 use native.Mathlib.Omega.{arith}
 use lib.Dec.{eqb}
 use borrow.Rule.Slice.PartMut.{putMid}
-use lib.ListN.{length, getD, take, List·getD-eq-default}
+use lib.ListN.{length, getD, List·getD-eq-default}
 use borrow.Author.Tests.{eq-eqb, ne-eqb, eqb-true, eqb-false}
 use Rattle.words.specs.Bytes.{Bytes}
 use Rattle.words.specs.Lists.{mapFrom, sum, getD-tabulate}
-use Rattle.instruction.specs.Instruction.{instructionAt, toWord, ofWord, to-of, toWord-fits}
-use Rattle.unit.specs.Result.{Retained, resultBytes}
+use Rattle.instruction.specs.Instruction.{instructionAt, toWord, to-of, toWord-fits}
+use Rattle.unit.specs.Result.{resultBytes}
 use Rattle.unit.specs.Size.{metadataSize, resultSize}
-use Rattle.effects.specs.declared.Check.{Check}
 use Rattle.effects.specs.declared.Check.the-variants.{Passed, Refused}
 use Rattle.effects.specs.Shape.{Cell}
 use Rattle.effects.specs.Cells.{cellOf, cellsBy, cells-long}
 use Rattle.flow.specs.BranchLaws.{BranchesInside}
 use Rattle.flow.specs.Flags.{Flags, flag, sum-whole, sum-most}
 use Rattle.pc_map.specs.Boundary.{boundary}
-use Rattle.pc_map.specs.Boundaries.{Mapped, mapped-at, mapped-long}
+use Rattle.pc_map.specs.Boundaries.{Mapped, mapped-at}
 use Rattle.pc_map.specs.Listed.{Listed, kept-many}
 use Rattle.pc_map.specs.Movable.{Writable, writable}
 use Rattle.pc_map.specs.Relocate.{relocationCheck, retainFrom}
 use Rattle.pc_map.specs.Retaining.{retain-all}
-use Rattle.answer.specs.Pass.{Outcome, unchanged, refused, rewritten, checked, sameCode, allKept, removal}
+use Rattle.answer.specs.Pass.{unchanged, refused, rewritten, checked, sameCode, allKept, removal}
 use Rattle.run.specs.Given.{instruction-fields}
-use Rattle.optimize.specs.declared.Answer.{Answer}
-use Rattle.optimize.specs.declared.Answer.the-variants.{Unchanged, Refused as RefusedAnswer, Rewritten}
+use Rattle.optimize.specs.declared.Answer.the-variants.{Rewritten}
 use Rattle.optimize.specs.Parts.{Tells, told, written, wordsIn, words-long, sameWords, cellsIn}
 
 abbrev Words : List ℕ → Type 0

@@ -2,25 +2,22 @@
 -- Assumes nothing.
 use mathlib.Core.Path.{_≡_, refl, sym, ap, _∙_}
 use mathlib.Core.Bool.{Bool, true, false}
-use mathlib.Core.List.{List, [], _∷_, map}
+use mathlib.Core.List.{List, [], _∷_}
 use Prim.Native.Nat.{ℕ, zero, suc, _≤_, _<_}
 use native.Mathlib.Omega.{arith}
 use lib.ListN.{length, getD, length-map}
 use lib.Seq.{ext-getD}
-use Rattle.words.specs.Lists.{tabulate, getD-tabulate}
-use Rattle.instruction.specs.declared.Instruction.{Instruction}
-use Rattle.instruction.specs.Instruction.{Fields, class, instructionAt, ofWord, toWord, of-to}
+use Rattle.words.specs.Lists.{getD-tabulate}
+use Rattle.instruction.specs.Instruction.{Fields, class, instructionAt, toWord, of-to}
 use Rattle.unit.specs.Entry.{metadataAt}
 use Rattle.effects.specs.Check.{operandRefusal}
 use Rattle.effects.specs.Shape.{Sections, Cell, cellAt, noCell}
-use Rattle.effects.specs.Cells.{cellOf, cellsBy, cells-long, cell-at}
+use Rattle.effects.specs.Cells.{cellsBy, cells-long, cell-at}
 use Rattle.effects.specs.Sound.{passed-at}
 use Rattle.flow.specs.Block.{leaders}
 use Rattle.flow.specs.Branch.{branches, target, branchInside}
-use Rattle.flow.specs.BranchLaws.{BranchesInside, inside-none, inside-yes}
+use Rattle.flow.specs.BranchLaws.{inside-none, inside-yes}
 use Rattle.flow.specs.Control.{isControl}
-use Rattle.flow.specs.Flags.{Flags}
-use Rattle.flow.specs.Marks.{Marked}
 use Rattle.run.specs.Program.{Function}
 use Rattle.run.specs.Numbered.{Numberable, numberedFunction, numbered-at, numbered-long}
 use Rattle.run.specs.Checked.{Well, numberable, removing, numbered-control, numbered-fields}

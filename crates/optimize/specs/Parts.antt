@@ -1,23 +1,22 @@
 -- A pass on the parts of a unit: what it is given, and what the steps of the pass make of it.
 -- Assumes nothing.
 use mathlib.Core.Path.{_≡_, refl, sym, ap, _∙_}
-use mathlib.Core.Bool.{Bool, true, false, cond, _&&_}
+use mathlib.Core.Bool.{Bool, true, false, _&&_}
 use mathlib.Core.List.{List, [], _∷_, map}
-use Prim.Native.Nat.{ℕ, _+_, _*_, _/_, _≤_, _<_}
+use Prim.Native.Nat.{ℕ, _*_, _/_, _≤_, _<_}
 use lib.Dec.{eqb}
-use lib.ListN.{length, getD}
+use lib.ListN.{length}
 use lib.Seq.{ext-getD}
-use borrow.Rule.Slice.PartMut.{putMid, midOf}
+use borrow.Rule.Slice.PartMut.{putMid}
 use Rattle.words.specs.Bytes.{Bytes}
 use Rattle.words.specs.Lists.{tabulate, length-tabulate, getD-tabulate}
 use Rattle.instruction.specs.Instruction.{instructionAt, toWord, of-to}
 use Rattle.unit.specs.Entry.{metadataAt, goodMetadata}
-use Rattle.unit.specs.Result.{Retained, resultBytes}
+use Rattle.unit.specs.Result.{resultBytes}
 use Rattle.unit.specs.Size.{instructionSize, metadataSize, caseSize, resultSize, work32Room, work64Room, maxInstructions, maxLocalSlots}
-use Rattle.effects.specs.declared.Check.{Check}
 use Rattle.effects.specs.declared.Check.the-variants.{Passed}
 use Rattle.effects.specs.Check.{operandCheck}
-use Rattle.effects.specs.Shape.{Sections, Cell, cellAt, noCell}
+use Rattle.effects.specs.Shape.{Sections, Cell, noCell}
 use Rattle.effects.specs.Cells.{cellOf, cellsBy, cells-long, cell-at}
 use Rattle.flow.specs.Branch.{branchCheck}
 use Rattle.flow.specs.Block.{leaders}

@@ -2,7 +2,7 @@
 -- [3n + 1, 4n + 1) with their map behind them and their list at [6n + 2, 7n + 2), the 64-bit work has the code at [0, n) and the list
 -- of the control places behind what numbering and liveness take.
 -- Assumes nothing.
-use mathlib.Core.Path.{_≡_, refl, sym, ap, _∙_}
+use mathlib.Core.Path.{_≡_, sym, ap, _∙_}
 use mathlib.Core.Bool.{false}
 use mathlib.Core.List.{List, _++_}
 use Prim.Native.Nat.{ℕ, _+_, _*_, _-_, _≤_, _<_}
@@ -16,7 +16,7 @@ use Rattle.words.specs.Regions.{mid-long, get-mid, Outside, outside-front}
 use Rattle.instruction.specs.Instruction.{class, ofWord}
 use Rattle.unit.specs.Size.{instructionSize, metadataSize, resultSize, work32Room, work64Room, setsRoom, sets-fit, maxInstructions, maxLocalSlots}
 use Rattle.effects.specs.declared.Check.{Check}
-use Rattle.effects.specs.Shape.{Sections, Cell, Tables}
+use Rattle.effects.specs.Shape.{Sections, Cell}
 use Rattle.effects.specs.Cells.{cellsBy}
 use Rattle.values.specs.Number.{numberCode}
 use Rattle.flow.specs.Block.{leaders}
@@ -25,7 +25,7 @@ use Rattle.flow.specs.Control.{isControl, Controls, controls-kept}
 use Rattle.flow.specs.Loop.{reachedPlaces, loopCheck}
 use Rattle.numbering.specs.Walk as walk
 use Rattle.values.specs.Named.{Named}
-use Rattle.numbering.specs.Walk.{sectionsOf, valuesRoom}
+use Rattle.numbering.specs.Walk.{valuesRoom}
 use Rattle.pc_map.specs.Boundary.{boundary}
 use Rattle.pc_map.specs.Boundaries.{Mapped, mapped-at, boundary-most}
 use Rattle.pc_map.specs.Listed.{keptList, Listed}

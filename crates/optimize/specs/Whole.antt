@@ -1,19 +1,18 @@
 -- A pass on a unit: the answers from each test on.
 -- Assumes nothing.
-use mathlib.Core.Path.{_≡_, refl, sym, ap, _∙_}
+use mathlib.Core.Path.{_≡_, refl, _∙_}
 use mathlib.Core.Bool.{Bool, true, false, cond, _&&_, _||_, not, true≢false}
 use mathlib.Core.List.{List}
-use Prim.Native.Nat.{ℕ, _+_, _*_, _/_, _≤_, _<_}
+use Prim.Native.Nat.{ℕ, _*_, _/_, _≤_, _<_}
 use native.Mathlib.Omega.{arith}
 use lib.Dec.{eqb, leb}
-use lib.ListN.{length, getD}
+use lib.ListN.{length}
 use borrow.Author.Tests.{lt-ltb, le-ltb, leb-true, eq-eqb, ne-eqb}
 use Rattle.words.specs.Bytes.{Bytes, bytes-mid}
-use Rattle.words.specs.Lists.{tabulate}
 use Rattle.unit.specs.declared.Header.{Header}
 use Rattle.unit.specs.Laws.{unit-laid}
 use Rattle.unit.specs.Size.{instructionSize, constantSize, caseSize, outputRoom, work32Room, work64Room, maxInstructions}
-use Rattle.effects.specs.Shape.{Sections, Cell}
+use Rattle.effects.specs.Shape.{Sections}
 use Rattle.answer.specs.Pass.{isWorkedOn}
 use Rattle.words.specs.Truth.{left-true, right-true}
 use Rattle.run.specs.Passed.{worked-size}

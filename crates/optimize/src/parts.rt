@@ -2,7 +2,7 @@
 // work behind what numbering and liveness take: `count` of them from `at` on.
 ghost use mathlib.Core.Path.{_≡_};
 ghost use mathlib.Core.List.{List};
-ghost use Prim.Native.Nat.{ℕ, _+_, _*_, _/_, _≤_, _<_};
+ghost use Prim.Native.Nat.{ℕ, _+_, _*_, _≤_, _<_};
 ghost use lib.ListN.{length, drop};
 ghost use borrow.Rule.Slice.PartMut.{midOf};
 ghost use Rattle.unit.specs.Size.{instructionSize, metadataSize, resultSize, work32Room, maxInstructions};

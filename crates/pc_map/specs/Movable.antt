@@ -21,7 +21,7 @@ use Rattle.flow.specs.Checking.{passed-at}
 use Rattle.flow.specs.Loop.{isLoopHint}
 use Rattle.pc_map.specs.Boundary.{isKept, boundary}
 use Rattle.pc_map.specs.Boundaries.{mapped-long, boundary-most}
-use Rattle.pc_map.specs.Listed.{Listed, keptList, kept-many, kept-each}
+use Rattle.pc_map.specs.Listed.{Listed, kept-many, kept-each}
 use Rattle.pc_map.specs.Relocate.{relocationCheck}
 use Rattle.pc_map.specs.Relocated.{relocationTest}
 

@@ -1,6 +1,6 @@
 -- Relocation: what is retained, with its branches moved.
 -- Assumes nothing.
-use mathlib.Core.Bool.{Bool, true, false, cond, _&&_}
+use mathlib.Core.Bool.{cond, _&&_}
 use mathlib.Core.List.{List, [], _∷_}
 use Prim.Native.Nat.{ℕ, suc, _+_, _-_, _%_, _^_}
 use lib.Dec.{leb}
@@ -10,7 +10,6 @@ use Rattle.instruction.specs.declared.Class.{Class}
 use Rattle.instruction.specs.declared.Class.the-variants.{Hint, LoadInt, LoadConst, Copy, CopyN, Unary, Binary, Jump, JumpIf, JumpIfNot, ForLoop, Return, Panic, Outside, Invalid}
 use Rattle.instruction.specs.Instruction.{withImm32, class}
 use Rattle.unit.specs.Refusal.{lostLoop}
-use Rattle.unit.specs.declared.Metadata.{Metadata}
 use Rattle.unit.specs.Result.{Retained}
 use Rattle.effects.specs.declared.Check.{Check}
 use Rattle.effects.specs.Shape.{Cell}

@@ -9,7 +9,7 @@ use borrow.Rule.Slice.PartMut.{midOf}
 use Rattle.unit.specs.Entry.{metadataAt, goodMetadata}
 use Rattle.unit.specs.Size.{metadataSize, caseSize, work32Room, setsRoom, maxInstructions, maxLocalSlots}
 use Rattle.effects.specs.Check.{operandRefusal}
-use Rattle.effects.specs.Shape.{Sections, Tables, Cell, tablesOf}
+use Rattle.effects.specs.Shape.{Sections, Tables, tablesOf}
 use Rattle.effects.specs.Cells.{cellOf, cellsBy}
 use Rattle.flow.specs.BranchLaws.{BranchesInside}
 use Rattle.flow.specs.Flags.{Flags}

@@ -2,20 +2,17 @@
 -- Assumes nothing.
 use mathlib.Core.Path.{_≡_, refl, sym, ap, _∙_}
 use mathlib.Core.List.{List, [], _∷_, _++_}
-use Prim.Native.Nat.{ℕ, _+_, _*_, _-_, _≤_, _<_}
-use native.Mathlib.Nat.{add-zero, zero-add}
+use Prim.Native.Nat.{ℕ, _+_, _*_, _-_, _≤_}
+use native.Mathlib.Nat.{zero-add}
 use native.Mathlib.Omega.{arith}
-use lib.Dec.{eqb}
 use lib.ListN.{length, set, replicate, length-set, length-replicate}
-use lib.Seq.{take-at, drop-at, take-length}
 use borrow.Rule.Slice.PartMut.{midOf, putMid, postOf}
 use Rattle.words.specs.Only.{mid-mid, back-within, back-before, back-after}
 use Rattle.words.specs.Regions.{mid-long, put-long, mid-put}
-use Rattle.unit.specs.Size.{metadataSize, work32Room, setsRoom, maxInstructions}
+use Rattle.unit.specs.Size.{setsRoom, maxInstructions}
 use Rattle.effects.specs.Shape.{Tables, Cell, tablesOf}
-use Rattle.effects.specs.Cells.{cellOf, cellsBy, cells-long}
+use Rattle.effects.specs.Cells.{cellsBy, cells-long}
 use Rattle.flow.specs.Blocks.{Numbered, numbered-start}
-use Rattle.flow.specs.BranchLaws.{BranchesInside}
 use Rattle.flow.specs.Flags.{Flags}
 use Rattle.flow.specs.Loop.{anchors, loopEnds}
 use Rattle.flow.specs.Reach.{markAll}
@@ -24,9 +21,8 @@ use Rattle.liveness.specs.Dead.{deadStores}
 use Rattle.liveness.specs.Droppable.{Droppable}
 use Rattle.liveness.specs.Sweep.{dead-long}
 use Rattle.run.specs.Optimized.{useful-long}
-use Rattle.answer.specs.Pass.{keptPlaces, usefulPlaces}
-use Rattle.removal.specs.Jumping.{Rounds, endsIn, mapOf}
-use Rattle.removal.specs.Kept.{sectionsIn, keepAt, endsAt, Useful, Stored, Retainable, Retains}
+use Rattle.answer.specs.Pass.{usefulPlaces}
+use Rattle.removal.specs.Kept.{sectionsIn, keepAt, endsAt, Useful, Stored, Retainable}
 
 mark-long : (l qs : List ℕ) → length (markAll l qs) ≡ length l
 unfolding markAll

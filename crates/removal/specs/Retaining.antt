@@ -1,38 +1,28 @@
 -- The three steps one after the other: what they leave are the retained places.
 -- Assumes nothing.
-use mathlib.Core.Path.{_≡_, refl, sym, ap, _∙_}
-use mathlib.Core.Logic.{_⊎_, inl, inr}
-use mathlib.Core.Bool.{Bool, true, false, cond, _&&_, not}
-use mathlib.Core.List.{List, [], _∷_, _++_}
-use mathlib.Core.Option.{Option, none, some}
-use Prim.Native.Nat.{ℕ, zero, suc, _+_, _*_, _-_, _≤_, _<_}
+use mathlib.Core.Path.{_≡_, sym, ap, _∙_}
+use mathlib.Core.List.{List, [], _++_}
+use mathlib.Core.Option.{some}
+use Prim.Native.Nat.{ℕ, _+_, _*_, _-_, _≤_}
 use native.Mathlib.Nat.{add-zero, zero-add}
 use native.Mathlib.Omega.{arith}
-use lib.Dec.{eqb}
-use lib.ListN.{length, getD, take, drop, set, replicate, length-set, length-replicate, length-append}
+use lib.ListN.{length, take, drop, length-append}
 use lib.Seq.{take-at, drop-at, take-length}
 use borrow.Rule.Slice.PartMut.{midOf, putMid}
-use Rattle.words.specs.Lists.{mapFrom, length-mapFrom, tabulate, length-tabulate}
+use Rattle.words.specs.Lists.{length-tabulate}
 use Rattle.words.specs.Only.{mid-mid, back-within, back-before}
-use Rattle.words.specs.Regions.{mid-long, put-long, mid-put, drop-behind}
+use Rattle.words.specs.Regions.{mid-long, put-long, drop-behind}
 use Rattle.unit.specs.Size.{metadataSize, maxInstructions}
 use Rattle.effects.specs.Shape.{Tables, Sections, Cell, tablesOf}
-use Rattle.effects.specs.Cells.{cellOf, cellsBy, cells-long}
-use Rattle.flow.specs.Blocks.{Numbered, numbered-start}
-use Rattle.flow.specs.BranchLaws.{BranchesInside}
+use Rattle.effects.specs.Cells.{cellsBy, cells-long}
 use Rattle.flow.specs.Control.{Controls}
 use Rattle.flow.specs.Flags.{Flags}
-use Rattle.flow.specs.Loop.{anchors, loopEnds, isPlainHint}
-use Rattle.flow.specs.Reach.{markAll}
-use Rattle.flow.specs.Marks.{Marked}
-use Rattle.liveness.specs.Dead.{Swept, sweptAt, sweepFrom, withoutDead, deadStores, isDead}
-use Rattle.liveness.specs.Droppable.{Droppable}
-use Rattle.liveness.specs.Sweep.{swept-keep}
-use Rattle.pc_map.specs.Boundary.{isKept, boundary}
+use Rattle.flow.specs.Loop.{anchors}
+use Rattle.liveness.specs.Dead.{deadStores}
+use Rattle.pc_map.specs.Boundary.{boundary}
 use Rattle.liveness.specs.Sweep.{dead-flags, dead-long}
 use Rattle.run.specs.Jumps.{rounds-flags, rounds-long}
 use Rattle.run.specs.Optimized.{useful-flags, useful-long}
-use Rattle.liveness.specs.Live.{Row, liveAfter, liveRows}
 use Rattle.answer.specs.Jump.{jumpRounds}
 use Rattle.answer.specs.Pass.{keptPlaces, usefulPlaces}
 use Rattle.removal.specs.Jumping.{Rounds, endsIn, mapOf}

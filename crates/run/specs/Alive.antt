@@ -1,9 +1,8 @@
 -- The sweep that drops dead stores: what is live at a place covers what may still be read from there.
 -- Assumes nothing.
 use mathlib.Core.Path.{_≡_, refl, sym, ap, _∙_}
-use mathlib.Core.Logic.{_⊎_, inl, inr}
 use mathlib.Core.Bool.{Bool, true, false, cond, not, _&&_, _||_, false≢true, true≢false}
-use mathlib.Core.List.{List, [], _∷_, _++_}
+use mathlib.Core.List.{List, [], _∷_}
 use Prim.Native.Nat.{ℕ, zero, suc, _+_, _-_, _≤_, _<_}
 use native.Mathlib.Nat.{add-zero}
 use native.Mathlib.Numerals.{add-one}
@@ -13,24 +12,22 @@ use lib.Dec.{eqb, ltb}
 use lib.ListN.{length, getD, drop, drop-of-length-le}
 use lib.Seq.{drop-drop, getD-drop}
 use borrow.Author.Tests.{eqb-true, eqb-false, eq-eqb, lt-ltb}
-use Rattle.instruction.specs.declared.Instruction.{Instruction}
-use Rattle.instruction.specs.declared.Class.{Class}
 use Rattle.instruction.specs.Instruction.{class}
 use Rattle.effects.specs.Shape.{Tables, Sections, Cell, cellAt}
 use Rattle.effects.specs.Effects.{allReads, writes, rangeHas, anyOf}
 use Rattle.flow.specs.Branch.{falls, branches, target}
-use Rattle.flow.specs.Block.{blockOf, blockCount}
+use Rattle.flow.specs.Block.{blockCount}
 use Rattle.flow.specs.Marks.{Marked}
 use Rattle.flow.specs.Flags.{Flags}
 use Rattle.pc_map.specs.Boundary.{isKept}
-use Rattle.liveness.specs.Live.{Row, liveBefore, edges, isLast, noRow, joined, liveAfter, roundFrom}
+use Rattle.liveness.specs.Live.{Row, liveBefore, edges, isLast, joined, liveAfter, roundFrom}
 use Rattle.liveness.specs.Rows.{bit, before-bit, before-long, Wide, after-long, walk-wide}
 use Rattle.liveness.specs.Dead.{Swept, isDead, sweepFrom}
 use Rattle.liveness.specs.Sweep.{before-at, keep-at}
 use Rattle.run.specs.Step.{Succ, next, branch}
-use Rattle.run.specs.Frame.{In, here, there, in-left, in-right}
+use Rattle.run.specs.Frame.{In, here, in-left, in-right}
 use Rattle.run.specs.Solved.{whole-at, row-at}
-use Rattle.run.specs.Rows.{or-left, or-right, joined-bit}
+use Rattle.run.specs.Rows.{joined-bit}
 
 -- a slot is live before an instruction, by whether it is after it
 unfoldable pub flow : Bool → Bool → Bool → Bool → Bool

@@ -1,31 +1,29 @@
 -- A function whose checks passed: its numbered code can be numbered and removed from, and its fields stay fields.
 -- Assumes nothing.
 use mathlib.Core.Path.{_≡_, refl, sym, ap, _∙_}
-use mathlib.Core.Logic.{_⊎_, inl, inr}
-use mathlib.Core.Bool.{Bool, true, false, cond, _&&_, _||_, or-true, false≢true, true≢false}
-use mathlib.Core.List.{List, [], _∷_, map}
-use mathlib.Core.Option.{Option, none, some}
-use Prim.Native.Nat.{ℕ, zero, suc, _+_, _*_, _/_, _%_, _^_, _≤_, _<_}
+use mathlib.Core.Logic.{inl, inr}
+use mathlib.Core.Bool.{Bool, true, false, cond, _||_, or-true, false≢true, true≢false}
+use mathlib.Core.List.{List, [], _∷_}
+use mathlib.Core.Option.{some}
+use Prim.Native.Nat.{ℕ, zero, suc, _+_, _≤_, _<_}
 use native.Mathlib.Nat.{add-zero, zero-add, suc-add, add-suc}
 use native.Mathlib.Omega.{arith}
 use lib.Dec.{eqb, ltb}
-use lib.ListN.{length, getD, length-map}
-use borrow.Author.Tests.{eqb-true, eq-eqb, ltb-true}
+use lib.ListN.{length}
+use borrow.Author.Tests.{eq-eqb, ltb-true}
 use Rattle.words.specs.Lists.{isIn}
-use Rattle.words.specs.Word.{signExtend}
 use Rattle.instruction.specs.Opcode as op
 use Rattle.instruction.specs.declared.Instruction.{Instruction}
 use Rattle.instruction.specs.declared.Class.{Class}
 use Rattle.instruction.specs.declared.Class.the-variants.{Hint, LoadInt, LoadConst, Copy, CopyN, Unary, Binary, Jump, JumpIf, JumpIfNot, ForLoop, Return, Panic, Outside, Invalid}
 use Rattle.instruction.specs.Class.{classOf, single, numberOf}
-use Rattle.instruction.specs.Instruction.{Fields, class, plain, withImm32}
+use Rattle.instruction.specs.Instruction.{Fields, class, withImm32}
 use Rattle.unit.specs.Refusal.{branchOutside}
 use Rattle.unit.specs.Entry.{constantAt}
 use Rattle.unit.specs.Result.{Retained}
-use Rattle.effects.specs.declared.Check.{Check}
-use Rattle.effects.specs.declared.Check.the-variants.{Passed, Refused}
-use Rattle.effects.specs.Shape.{Tables, Sections, Cell, cellAt}
-use Rattle.effects.specs.Check.{lowest, operandRefusal, operandCheck}
+use Rattle.effects.specs.declared.Check.the-variants.{Passed}
+use Rattle.effects.specs.Shape.{Sections, Cell, cellAt}
+use Rattle.effects.specs.Check.{operandCheck}
 use Rattle.effects.specs.Sound.{lowest-passed, passed-at}
 use Rattle.flow.specs.Branch.{branches, targetBy, target, branchInside, branchCheck}
 use Rattle.flow.specs.Loop.{isLoopHint}
@@ -34,11 +32,11 @@ use Rattle.flow.specs.Control.{isControl}
 use Rattle.flow.specs.Marks.{Marked}
 use Rattle.flow.specs.Leaders.{leaders-long, leaders-at, leaders-first, leaders-flags}
 use Rattle.values.specs.declared.Atom.{Atom}
-use Rattle.values.specs.Number.{setA, setB, setBC, constantAtom, numberCode}
+use Rattle.values.specs.Number.{constantAtom}
 use Rattle.values.specs.Table.{Values}
 use Rattle.pc_map.specs.Boundary.{isKept}
 use Rattle.pc_map.specs.Relocate.{movedJump, movedForLoop, movedHint, relocate, relocateBy, retainFrom}
-use Rattle.answer.specs.Clean.{cellOf, cellsAfter}
+use Rattle.answer.specs.Clean.{cellsAfter}
 use Rattle.run.specs.Program.{Function}
 use Rattle.run.specs.Relocated.{pick}
 use Rattle.run.specs.Valuation.{Below}

@@ -2,17 +2,16 @@
 -- Assumes nothing.
 use mathlib.Core.Path.{_≡_, refl, sym, ap, _∙_}
 use mathlib.Core.Bool.{Bool, true, false, cond, not, _&&_, _||_, true≢false}
-use mathlib.Core.List.{List, [], _∷_, map}
-use mathlib.Core.Option.{Option, none, some}
-use Prim.Native.Nat.{ℕ, zero, suc, _+_, _*_, _/_, _^_, _≤_, _<_}
+use mathlib.Core.List.{List, [], _∷_}
+use mathlib.Core.Option.{some}
+use Prim.Native.Nat.{ℕ, zero, suc, _+_, _*_, _/_, _^_, _<_}
 use native.Mathlib.Omega.{arith}
-use lib.Dec.{eqb, leb, ltb}
-use lib.ListN.{length, getD, length-map}
+use lib.Dec.{eqb, ltb}
+use lib.ListN.{length, length-map}
 use borrow.Author.Tests.{eqb-true}
 use Rattle.words.specs.Bytes.{Bytes, bytes-mid, le-fits}
-use Rattle.words.specs.Lists.{tabulate, length-tabulate, getD-tabulate}
+use Rattle.words.specs.Lists.{length-tabulate, getD-tabulate}
 use Rattle.instruction.specs.Instruction.{Fields, instructionAt}
-use Rattle.unit.specs.declared.Header.{Header}
 use Rattle.unit.specs.declared.Constant.{Constant}
 use Rattle.unit.specs.declared.Constant.the-variants.{Nil, Bool as BoolConstant, Int, Float as FloatConstant, String, Missing}
 use Rattle.unit.specs.Entry.{metadataAt, constantOf, constantAt, constantKind, constantValue}
@@ -23,12 +22,12 @@ use Rattle.unit.specs.Size.{instructionSize, constantSize}
 use Rattle.unit.specs.Refusal.{notUnit, shortBuffer, metadataCount, typeCount}
 use Rattle.effects.specs.Shape.{Sections, Cell, cellAt, noCell}
 use Rattle.values.specs.declared.Atom.{Atom}
-use Rattle.values.specs.declared.Atom.the-variants.{Integer, Float, Definition}
+use Rattle.values.specs.declared.Atom.the-variants.{Integer, Float}
 use Rattle.values.specs.Number.{constantAtom}
 use Rattle.answer.specs.Pass.{Outcome, unchanged, refused, rewritten, isWorkedOn, optimized, pass}
 use Rattle.answer.specs.Answer.{Lent, cellsOf, sectionsOf, roomFor, isLeft, countsChecked, passAnswer}
-use Rattle.answer.specs.Clean.{Cleaned, cellOf, cellsAfter, placedBy, afterPass, cleanFrom, cleanedFirst, spareFor, cleanAnswer}
-use Rattle.run.specs.Machine.{SameRuns, same-runs-refl, same-runs-trans}
+use Rattle.answer.specs.Clean.{cellOf, cellsAfter, placedBy, afterPass, cleanFrom, cleanedFirst, spareFor, cleanAnswer}
+use Rattle.run.specs.Machine.{same-runs-refl, same-runs-trans}
 use Rattle.run.specs.Program.{Function, programOf}
 use Rattle.run.specs.Returned.{givenFunction, resultFunction, RunsAlike}
 use Rattle.run.specs.Valuation.{Below, integer, float}

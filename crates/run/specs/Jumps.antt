@@ -1,6 +1,6 @@
 -- The jump rounds: each dropped jump passes over nothing that is kept, to the end.
 -- Assumes nothing.
-use mathlib.Core.Path.{_≡_, refl, sym, ap, _∙_}
+use mathlib.Core.Path.{_≡_, refl, sym, _∙_}
 use mathlib.Core.Bool.{Bool, true, false, cond, not, _&&_, false≢true}
 use mathlib.Core.List.{List}
 use Prim.Native.Nat.{ℕ, zero, suc, _+_, _-_, _≤_, _<_}
@@ -9,8 +9,8 @@ use native.Mathlib.Decide.{decLe}
 use native.Mathlib.Omega.{arith}
 use lib.Dec.{eqb}
 use lib.ListN.{length, getD, List·getD-eq-default}
-use borrow.Author.Tests.{eqb-true, eq-eqb}
-use Rattle.words.specs.Lists.{mapFrom, length-mapFrom, getD-mapFrom}
+use borrow.Author.Tests.{eqb-true}
+use Rattle.words.specs.Lists.{length-mapFrom, getD-mapFrom}
 use Rattle.instruction.specs.Opcode as op
 use Rattle.effects.specs.Shape.{Cell, cellAt, noCell}
 use Rattle.flow.specs.Branch.{target}

@@ -3,9 +3,9 @@
 -- Assumes nothing.
 use mathlib.Core.Path.{_≡_, refl, sym, ap, ap₂, _∙_}
 use mathlib.Core.Logic.{_⊎_, inl, inr}
-use mathlib.Core.Bool.{Bool, true, false, cond, not, _&&_, _||_, or-false, false≢true}
+use mathlib.Core.Bool.{Bool, true, false, cond, not, _&&_, or-false, false≢true}
 use mathlib.Core.List.{List, [], _∷_, map}
-use mathlib.Core.Option.{Option, none, some}
+use mathlib.Core.Option.{some}
 use Prim.Native.Nat.{ℕ, suc, _+_, _*_, _-_, _/_, _%_, _^_, _<_, _≤_}
 use native.Mathlib.Omega.{arith}
 use lib.Dec.{eqb, leb, ltb}
@@ -21,20 +21,19 @@ use Rattle.instruction.specs.Instruction.{imm32, plain, withImm32, class}
 use Rattle.unit.specs.declared.Constant.{Constant}
 use Rattle.unit.specs.declared.Constant.the-variants.{Nil, Bool as BoolConstant, Int, Float as FloatConstant, String, Missing}
 use Rattle.unit.specs.Entry.{constantAt}
-use Rattle.effects.specs.declared.Range.{Range}
 use Rattle.effects.specs.Shape.{Tables, Sections, Cell}
 use Rattle.effects.specs.Effects.{allReads, rangeHas, anyOf}
 use Rattle.effects.specs.Check.{operandRefusal}
 use Rattle.effects.specs.ByClass.{isOutside, readsByClass, writesByClass, reads-by-class}
 use Rattle.flow.specs.Branch.{targetBy}
 use Rattle.values.specs.declared.Atom.{Atom}
-use Rattle.values.specs.declared.Atom.the-variants.{Integer, Float, Definition}
+use Rattle.values.specs.declared.Atom.the-variants.{Integer, Float}
 use Rattle.values.specs.Fold.{foldWord, foldingUnary, foldingBinary, fitsImm32}
 use Rattle.values.specs.Table.{Values, Expression, valueOf, expressionIn}
 use Rattle.values.specs.Number.{setA, setB, setBC, constantAtom}
 use Rattle.values.specs.Named.{Named}
 use Rattle.effects.specs.Single.{isSingle}
-use Rattle.run.specs.Machine.{Words, Event, World, State, at, put, goto, perform, silent, ask, stop, byReturn}
+use Rattle.run.specs.Machine.{Words, Event, World, State, at, put, goto, perform, stop, byReturn}
 use Rattle.run.specs.Program.{Function, hasMeaning, classIn, nodeBy, actBy, givenRanges, event, constantWord, unaryWord, binaryWord, slotsOf, slotsFrom}
 use Rattle.run.specs.Gives.{given-by-class}
 use Rattle.run.specs.Operands.{named-of, named-refusal, oneByOne}

@@ -2,14 +2,14 @@
 -- Assumes nothing.
 use mathlib.Core.Path.{_≡_, refl, sym, ap, _∙_}
 use mathlib.Core.Bool.{Bool, true, false, cond, not, _&&_, _||_, false≢true, true≢false}
-use mathlib.Core.List.{List, [], _∷_, _++_}
+use mathlib.Core.List.{List, [], _∷_}
 use mathlib.Core.Option.{Option, none, some}
-use Prim.Native.Nat.{ℕ, zero, suc, _+_, _*_, _-_, _/_, _≤_, _<_}
+use Prim.Native.Nat.{ℕ, suc, _+_, _*_, _-_, _/_, _≤_, _<_}
 use native.Mathlib.Omega.{arith}
 use lib.Dec.{eqb, leb, ltb}
 use lib.ListN.{length, getD, replicate, length-replicate}
-use borrow.Author.Tests.{eqb-true, eq-eqb, leb-true, ltb-true}
-use Rattle.words.specs.Lists.{every, every-at}
+use borrow.Author.Tests.{leb-true, ltb-true}
+use Rattle.words.specs.Lists.{every-at}
 use Rattle.instruction.specs.declared.Class.{Class}
 use Rattle.instruction.specs.declared.Class.the-variants.{Hint, LoadInt, LoadConst, Copy, CopyN, Unary, Binary, Jump, JumpIf, JumpIfNot, ForLoop, Return, Panic, Outside, Invalid}
 use Rattle.instruction.specs.Class.{isPure}
@@ -19,9 +19,8 @@ use Rattle.effects.specs.declared.Range.{Range}
 use Rattle.effects.specs.Shape.{Tables, Sections, Cell, cellAt}
 use Rattle.effects.specs.Sound.{sound}
 use Rattle.effects.specs.Effects.{allReads, writes, rangeHas, allOf, anyOf}
-use Rattle.effects.specs.Check.{operandRefusal}
 use Rattle.effects.specs.ByClass.{isOutside}
-use Rattle.flow.specs.Branch.{falls, branches, target}
+use Rattle.flow.specs.Branch.{branches, target}
 use Rattle.flow.specs.Block.{blockCount}
 use Rattle.flow.specs.Loop.{reachedPlaces, anchors}
 use Rattle.flow.specs.Marks.{Marked}
@@ -32,7 +31,7 @@ use Rattle.pc_map.specs.Relocate.{retainFrom}
 use Rattle.liveness.specs.Live.{Row, noRow, solveIn, liveRows, maxLivenessWork}
 use Rattle.liveness.specs.Dead.{unread, isDead, sweepFrom, withoutDead, deadStores}
 use Rattle.liveness.specs.Sweep.{sweep-flags, sweep-long}
-use Rattle.liveness.specs.Rows.{bit, Wide, start-wide}
+use Rattle.liveness.specs.Rows.{bit, start-wide}
 use Rattle.liveness.specs.Unread.{pure-inside}
 use Rattle.answer.specs.Jump.{jumpRounds}
 use Rattle.answer.specs.Pass.{usefulPlaces, keptPlaces}
@@ -44,7 +43,7 @@ use Rattle.words.specs.Truth.{left-true, right-true}
 use Rattle.run.specs.Step.{Succ, next, branch}
 use Rattle.run.specs.Frame.{In, slots-any, slots-within, any-left}
 use Rattle.run.specs.Jumps.{rounds-fewer}
-use Rattle.run.specs.Removed.{passes, passing-falls, Dropped, store, skip, Removable, removed}
+use Rattle.run.specs.Removed.{passes, passing-falls, Dropped, store, Removable, removed}
 use Rattle.run.specs.Solved.{solved, solve-long}
 use Rattle.run.specs.Rows.{solve-wide}
 use Rattle.run.specs.Alive.{flow-gone, flow-kept, flow-reads, before, after, dead, stays, Analysed, before-flow, out, stays-at}

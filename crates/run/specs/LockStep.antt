@@ -1,15 +1,15 @@
 -- Lock-step: two programs of one length whose steps agree wherever an invariant holds that the run keeps.
-use mathlib.Core.Path.{_≡_, refl, sym, ap, _∙_, subst}
-use mathlib.Core.Logic.{_⊎_, inl, inr}
-use mathlib.Core.Bool.{Bool, true, false, cond}
-use mathlib.Core.List.{List, [], _∷_}
-use mathlib.Core.Option.{Option, none, some}
-use Prim.Native.Nat.{ℕ, zero, suc, _+_, _≤_, _<_}
-use lib.Dec.{ltb, eqb, T, ltb→lt}
+use mathlib.Core.Path.{_≡_, refl, _∙_}
+use mathlib.Core.Logic.{_⊎_, inl}
+use mathlib.Core.Bool.{Bool, true, false}
+use mathlib.Core.List.{List, []}
+use mathlib.Core.Option.{none, some}
+use Prim.Native.Nat.{ℕ, _<_}
+use lib.Dec.{ltb, ltb→lt}
 use native.Mathlib.Omega.{arith}
-use Rattle.run.specs.System.{System, Same}
+use Rattle.run.specs.System.{Same}
 use Rattle.run.specs.Simulation.{Sim, simulated}
-use Rattle.run.specs.Machine.{Words, Event, Way, World, Program, State, at, over, step, wayOf, logOf, system, perform, goto, answered, SameRuns}
+use Rattle.run.specs.Machine.{Words, Event, Way, World, Program, State, at, over, step, wayOf, logOf, system}
 
 -- a state satisfies an invariant on places and words; an ended one does
 pub data Holds (I : ℕ → Words → Type 0) : State → Type 0 where

@@ -10,22 +10,20 @@ use native.Mathlib.Omega.{arith}
 use lib.Dec.{eqb}
 use lib.ListN.{length, getD}
 use borrow.Author.Tests.{eq-eqb}
-use Rattle.instruction.specs.declared.Instruction.{Instruction}
-use Rattle.instruction.specs.declared.Class.{Class}
 use Rattle.instruction.specs.Instruction.{Fields, class}
 use Rattle.unit.specs.Entry.{constantAt}
 use Rattle.effects.specs.Shape.{Sections, Cell, cellAt}
 use Rattle.effects.specs.Check.{operandRefusal}
 use Rattle.flow.specs.Branch.{falls, branches, target}
 use Rattle.values.specs.declared.Atom.{Atom}
-use Rattle.values.specs.Table.{Values, empty, atStart}
+use Rattle.values.specs.Table.{Values, empty}
 use Rattle.values.specs.Number.{Numbered, constantAtom, number, numberFrom, numberCode}
-use Rattle.run.specs.Machine.{Words, Event, World, Reply, words, finish, State, at, over, put, Act, silent, ask, stop, fail, Node, goto, answered, perform, step, Program, SameRuns, start}
+use Rattle.run.specs.Machine.{Words, Event, World, Reply, words, finish, at, put, Act, silent, ask, stop, fail, Node, goto, answered, perform, step, SameRuns}
 use Rattle.run.specs.LockStep.{Holds, held, past, Lock, lock-step}
 use Rattle.run.specs.Removal.{Goes, silently, asked}
-use Rattle.run.specs.Program.{Function, programOf, nodeBy, actBy, classIn, hasMeaning}
+use Rattle.run.specs.Program.{Function, programOf, nodeBy, classIn, hasMeaning}
 use Rattle.run.specs.Valuation.{Valuation, Below, Static, static-empty, Valid, valid-empty}
-use Rattle.run.specs.Justified.{Justified, rewrite, oneSlot, doAt, Sets, Meant, meant, justified-meant, justified-same}
+use Rattle.run.specs.Justified.{Justified, rewrite, oneSlot, doAt, Meant, meant, justified-meant, justified-same}
 use Rattle.run.specs.Numbering.{After, blank, leads, ends, sets, Sound, number-sound}
 use Rattle.run.specs.Step.{Succ, next, branch, goes-succ, step-do}
 

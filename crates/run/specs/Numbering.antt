@@ -2,10 +2,10 @@
 -- Assumes nothing.
 use mathlib.Core.Path.{_≡_, refl, sym, ap, ap₂, _∙_}
 use mathlib.Core.Logic.{_⊎_, inl, inr}
-use mathlib.Core.Bool.{Bool, true, false, cond, not, _&&_, false≢true}
-use mathlib.Core.List.{List, [], _∷_}
+use mathlib.Core.Bool.{Bool, true, false, cond, not, _&&_}
+use mathlib.Core.List.{List}
 use mathlib.Core.Option.{Option, none, some}
-use Prim.Native.Nat.{ℕ, suc, _+_, _*_, _%_, _^_, _<_, _≤_}
+use Prim.Native.Nat.{ℕ, suc, _+_, _*_, _%_, _^_, _<_}
 use native.Mathlib.Omega.{arith}
 use lib.Dec.{eqb}
 use lib.ListN.{getD}
@@ -22,15 +22,15 @@ use Rattle.flow.specs.Branch.{branches, falls}
 use Rattle.values.specs.declared.Atom.{Atom}
 use Rattle.values.specs.declared.Atom.the-variants.{Integer, Float, Definition}
 use Rattle.values.specs.Fold.{foldWord, foldingUnary, foldingBinary, fitsImm32}
-use Rattle.values.specs.Table.{sameAtom, Values, Expression, Represented, empty, atStart, valueIn, valueOf, slotIn, expressionIn, usable, recordedSlot, orItself, representative, store, learn}
-use Rattle.values.specs.Number.{Numbered, setA, setB, setBC, constantAtom, foldUnary, foldBinary, loadOrStay, isScalar, stored, copyOrStay, byExpression, byValue, numberUnary, numberBinary, numberCopy, numberConstant, numberRead, decided, numberJump, numberBy, cleared, number}
+use Rattle.values.specs.Table.{sameAtom, Values, Expression, Represented, empty, atStart, valueIn, valueOf, slotIn, expressionIn, usable, recordedSlot, orItself, representative, store}
+use Rattle.values.specs.Number.{Numbered, setA, setB, setBC, constantAtom, foldUnary, foldBinary, loadOrStay, isScalar, stored, copyOrStay, byExpression, byValue, numberUnary, numberBinary, numberCopy, numberConstant, numberRead, decided, numberJump, numberBy, cleared}
 use Rattle.values.specs.Named.{Named}
 use Rattle.instruction.specs.Class.{numberOf}
 use Rattle.effects.specs.Single.{isSingle}
 use Rattle.run.specs.Machine.{Words, Event, World, put}
 use Rattle.run.specs.Program.{Function}
 use Rattle.run.specs.Small.{sign-small, fold-small}
-use Rattle.run.specs.Valuation.{Valuation, wordOf, wordOfExpression, Below, integer, float, initially, before, BelowBoth, below-suc, same-atom, Static, static-empty, static-suc, static-hold, static-record, static-learn, Valid, hold, recorded, valid-hold, valid-record, valid-learn, define, word-new}
+use Rattle.run.specs.Valuation.{Valuation, wordOf, wordOfExpression, Below, integer, float, initially, before, BelowBoth, same-atom, Static, static-empty, static-suc, static-hold, static-record, static-learn, Valid, hold, recorded, valid-hold, valid-record, valid-learn, define, word-new}
 use Rattle.run.specs.Justified.{unaryExpression, binaryExpression, Stores, loads, constant, copies, foldsOne, foldsTwo, equalsOne, equalsTwo, Justified, stays, operand, operands, tested, returned, loaded, copied, takenIf, takenIfNot, passedIf, passedIfNot, oneSlot, one-slot, doAt, Sets, Meant, gave, do-single, stores-word, word-one, word-two, named, single-slot}
 
 -- ---- the recorded slot

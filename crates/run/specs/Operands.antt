@@ -1,11 +1,10 @@
 -- What it says of an instruction's slots that its operands are not refused, and back.
 -- Assumes nothing.
-use mathlib.Core.Path.{_≡_, refl, sym, ap, _∙_}
-use mathlib.Core.Bool.{Bool, true, false, _&&_, _||_, false≢true}
-use mathlib.Core.List.{List, [], _∷_, _++_}
+use mathlib.Core.Path.{_≡_, refl, _∙_}
+use mathlib.Core.Bool.{Bool, true, false, _&&_, false≢true}
+use mathlib.Core.List.{[], _∷_, _++_}
 use Prim.Native.Nat.{ℕ, _+_, _<_, _≤_}
 use native.Mathlib.Omega.{arith}
-use lib.Dec.{eqb, leb}
 use borrow.Author.Tests.{leb-true, le-leb, le-ltb}
 use Rattle.words.specs.Truth.{left-true, right-true}
 use Rattle.instruction.specs.Opcode as op
@@ -14,7 +13,7 @@ use Rattle.instruction.specs.declared.Class.the-variants.{Hint, LoadInt, LoadCo
 use Rattle.instruction.specs.Instruction.{class}
 use Rattle.effects.specs.declared.Range.{Range}
 use Rattle.effects.specs.Shape.{Tables, Cell}
-use Rattle.effects.specs.Effects.{writes, allReads, demandsMet, rangeFits, rangeWithin, allOf}
+use Rattle.effects.specs.Effects.{writes, allReads, rangeFits, rangeWithin, allOf}
 use Rattle.effects.specs.Check.{operandRefusal, effectsSound}
 use Rattle.effects.specs.Operands.{all-append}
 use Rattle.effects.specs.ByClass.{isOutside, readsByClass, writesByClass, inside-valid, reads-by-class, writes-by-class, demands-by-class}

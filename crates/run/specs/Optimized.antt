@@ -1,19 +1,17 @@
 -- The places that the pass keeps meet the conditions of removal: with live slots, and without them where dead stores are skipped.
 -- Assumes nothing.
 use mathlib.Core.Path.{_≡_, refl, sym, ap, _∙_}
-use mathlib.Core.Bool.{Bool, true, false, cond, not, _&&_, _||_, or-true, false≢true, true≢false}
-use mathlib.Core.List.{List, [], _∷_, _++_}
-use mathlib.Core.Option.{Option, none, some}
-use Prim.Native.Nat.{ℕ, zero, suc, _+_, _≤_, _<_}
+use mathlib.Core.Bool.{Bool, true, false, cond, or-true, true≢false}
+use mathlib.Core.List.{List}
+use Prim.Native.Nat.{ℕ, suc, _+_, _≤_, _<_}
 use native.Mathlib.Nat.{zero-add}
 use native.Mathlib.Decide.{decLe}
 use native.Mathlib.Omega.{arith}
-use lib.Dec.{eqb, ltb}
+use lib.Dec.{eqb}
 use lib.ListN.{length, getD, List·getD-eq-default}
 use borrow.Author.Tests.{eqb-true, eq-eqb}
-use Rattle.words.specs.Lists.{mapFrom, length-mapFrom, getD-mapFrom}
+use Rattle.words.specs.Lists.{length-mapFrom, getD-mapFrom}
 use Rattle.instruction.specs.Opcode as op
-use Rattle.instruction.specs.declared.Instruction.{Instruction}
 use Rattle.instruction.specs.declared.Class.{Class}
 use Rattle.instruction.specs.declared.Class.the-variants.{Hint, LoadInt, LoadConst, Copy, CopyN, Unary, Binary, Jump, JumpIf, JumpIfNot, ForLoop, Return, Panic, Outside, Invalid}
 use Rattle.instruction.specs.Class.{classOf}
@@ -21,23 +19,21 @@ use Rattle.instruction.specs.Instruction.{class}
 use Rattle.instruction.specs.Laws.{hint-class, jump-class}
 use Rattle.unit.specs.Size.{maxInstructions}
 use Rattle.effects.specs.Shape.{Tables, Sections, Cell, cellAt, noCell}
-use Rattle.effects.specs.Effects.{allReads, writes, rangeHas, anyOf}
+use Rattle.effects.specs.Effects.{allReads, rangeHas, anyOf}
 use Rattle.effects.specs.Check.{operandRefusal}
 use Rattle.effects.specs.ByClass.{isOutside, writesByClass}
-use Rattle.flow.specs.Branch.{falls, branches, targetBy, target}
-use Rattle.flow.specs.Block.{blockCount}
+use Rattle.flow.specs.Branch.{branches, targetBy, target}
 use Rattle.flow.specs.Loop.{reachedPlaces, anchors, isPlainHint}
 use Rattle.flow.specs.Marks.{Marked}
 use Rattle.flow.specs.Flags.{Flags}
-use Rattle.flow.specs.Reached.{places-long, places-flags, places-zero, places-next, places-target}
+use Rattle.flow.specs.Reached.{places-flags, places-zero, places-next, places-target}
 use Rattle.pc_map.specs.Boundary.{isKept, boundary}
 use Rattle.pc_map.specs.Boundaries.{boundary-kept}
 use Rattle.pc_map.specs.Relocate.{relocate, relocateBy}
 use Rattle.pc_map.specs.Moved.{target-moves}
-use Rattle.liveness.specs.Live.{Row, isLast, liveRows}
-use Rattle.liveness.specs.Dead.{deadStores, withoutDead}
+use Rattle.liveness.specs.Live.{isLast}
 use Rattle.answer.specs.Jump.{jumpRounds}
-use Rattle.answer.specs.Pass.{usefulPlaces, keptPlaces}
+use Rattle.answer.specs.Pass.{usefulPlaces}
 use Rattle.run.specs.Program.{Function, givenRanges, slotsOf}
 use Rattle.run.specs.Frame.{In}
 use Rattle.run.specs.Gives.{given-by-class}

@@ -1,9 +1,9 @@
 -- One pass over cells: what it returns runs as what it was given.
 -- Assumes nothing.
-use mathlib.Core.Path.{_≡_, refl, sym, ap, _∙_}
+use mathlib.Core.Path.{_≡_, refl}
 use mathlib.Core.Bool.{Bool, true, false, cond, not, _&&_}
-use mathlib.Core.List.{List, [], _∷_}
-use Prim.Native.Nat.{ℕ, suc, _≤_, _<_}
+use mathlib.Core.List.{List}
+use Prim.Native.Nat.{ℕ, _≤_, _<_}
 use native.Mathlib.Omega.{arith}
 use lib.Dec.{ltb}
 use lib.ListN.{length, length-map}
@@ -19,8 +19,8 @@ use Rattle.flow.specs.Block.{leaders}
 use Rattle.flow.specs.Loop.{reachedPlaces, loopCheck}
 use Rattle.values.specs.Number.{numberCode}
 use Rattle.pc_map.specs.Relocate.{relocationCheck, retainFrom}
-use Rattle.answer.specs.Pass.{Outcome, unchanged, refused, rewritten, checked, sameCode, allKept, keptPlaces, removal, optimized, isWorkedOn, pass}
-use Rattle.answer.specs.Clean.{cellOf, cellsAfter}
+use Rattle.answer.specs.Pass.{Outcome, unchanged, rewritten, checked, sameCode, allKept, keptPlaces, removal, optimized, isWorkedOn, pass}
+use Rattle.answer.specs.Clean.{cellOf}
 use Rattle.run.specs.Machine.{SameRuns, same-runs-trans}
 use Rattle.run.specs.Program.{Function, programOf}
 use Rattle.run.specs.Returned.{resultFunction}

@@ -1,13 +1,12 @@
 -- What each instruction does in a run: "Pure opcodes, Hint, Jump, JumpIf and JumpIfNot are silent. .. Every other instruction is
 -- outside". Assumes nothing.
-use mathlib.Core.Bool.{Bool, true, false, cond, not, _&&_, _||_}
+use mathlib.Core.Bool.{Bool, true, false, cond, not, _&&_}
 use mathlib.Core.List.{List, [], _∷_, _++_, map}
 use Prim.Native.Nat.{ℕ, zero, suc, _+_, _-_}
 use lib.Dec.{eqb, ltb}
 use lib.ListN.{length}
 use Rattle.words.specs.Lists.{isIn}
 use Rattle.instruction.specs.Opcode as op
-use Rattle.instruction.specs.declared.Instruction.{Instruction}
 use Rattle.instruction.specs.declared.Class.{Class}
 use Rattle.instruction.specs.declared.Class.the-variants.{Hint, LoadInt, LoadConst, Copy, CopyN, Unary, Binary, Jump, JumpIf, JumpIfNot, ForLoop, Return, Panic, Outside, Invalid}
 use Rattle.instruction.specs.Instruction.{imm32, class}
@@ -21,7 +20,7 @@ use Rattle.effects.specs.Effects.{allReads, arrays, writes, rangeHas, anyOf}
 use Rattle.effects.specs.Check.{operandRefusal}
 use Rattle.flow.specs.Branch.{targetBy}
 use Rattle.values.specs.Fold.{foldWord, foldingUnary, foldingBinary}
-use Rattle.run.specs.Machine.{Words, Event, Way, byReturn, byPanic, World, Act, silent, ask, stop, fail, Node, Program}
+use Rattle.run.specs.Machine.{Words, Event, byReturn, byPanic, World, Act, silent, ask, stop, fail, Node, Program}
 
 -- the slots of ranges, one after the other
 unfoldable pub slotsFrom : ℕ → ℕ → List ℕ

@@ -1,16 +1,12 @@
 -- A relocated cell does what it did: only where its branch goes is written anew.
 -- Assumes nothing.
-use mathlib.Core.Path.{_≡_, refl, sym, ap, _∙_}
+use mathlib.Core.Path.{_≡_, refl, sym, _∙_}
 use mathlib.Core.Bool.{Bool, true, false, cond}
-use mathlib.Core.List.{List, [], _∷_, _++_}
+use mathlib.Core.List.{List}
 use Prim.Native.Nat.{ℕ}
-use lib.Dec.{eqb}
-use Rattle.instruction.specs.declared.Instruction.{Instruction}
 use Rattle.instruction.specs.declared.Class.{Class}
 use Rattle.instruction.specs.declared.Class.the-variants.{Hint, LoadInt, LoadConst, Copy, CopyN, Unary, Binary, Jump, JumpIf, JumpIfNot, ForLoop, Return, Panic, Outside, Invalid}
 use Rattle.instruction.specs.Instruction.{class}
-use Rattle.unit.specs.declared.Metadata.{Metadata}
-use Rattle.effects.specs.declared.Range.{Range}
 use Rattle.effects.specs.Shape.{Tables, Sections, Cell}
 use Rattle.effects.specs.Effects.{allReads, writes, demandsMet}
 use Rattle.effects.specs.Check.{operandRefusal, effectsSound}

@@ -3,14 +3,14 @@ use mathlib.Core.Path.{_≡_, refl, sym, ap, _∙_, subst}
 use mathlib.Core.Logic.{_⊎_, inl, inr}
 use mathlib.Core.Bool.{Bool, true, false, cond, not}
 use mathlib.Core.List.{List, [], _∷_}
-use mathlib.Core.Option.{Option, none, some}
-use Prim.Native.Nat.{ℕ, zero, suc, _+_, _-_, _≤_, _<_}
+use mathlib.Core.Option.{none, some}
+use Prim.Native.Nat.{ℕ, _+_, _-_, _≤_, _<_}
 use lib.Arith.{le→nltb}
 use lib.Dec.{ltb, eqb, T, ltb→lt, lt→ltb, nltb→le, eqb-refl}
 use native.Mathlib.Omega.{arith}
-use Rattle.run.specs.System.{System, Same}
+use Rattle.run.specs.System.{Same}
 use Rattle.run.specs.Simulation.{Sim, simulated}
-use Rattle.run.specs.Machine.{Words, Event, Way, byCode, byReply, World, Reply, words, finish, Act, silent, ask, stop, fail, Node, Program, State, at, over, put, goto, answered, perform, step, wayOf, logOf, system}
+use Rattle.run.specs.Machine.{Words, Event, Way, byCode, World, Reply, words, finish, Act, silent, ask, stop, fail, Program, State, at, over, put, goto, answered, perform, step, wayOf, logOf, system}
 
 -- the words of two runs agree on a set of slots
 abbrev pub Agree : (ℕ → Type 0) → Words → Words → Type 0

@@ -1,30 +1,28 @@
 -- Removal over lists of cells: conditions on kept places and live slots, apart from how a pass finds them, under which the kept
 -- cells, relocated, run as all of them do.
 -- Assumes nothing.
-use mathlib.Core.Path.{_≡_, refl, sym, ap, _∙_}
+use mathlib.Core.Path.{_≡_, refl, sym, _∙_}
 use mathlib.Core.Logic.{_⊎_, inl, inr}
-use mathlib.Core.Bool.{Bool, true, false, cond, false≢true}
-use mathlib.Core.List.{List, [], _∷_}
-use Prim.Native.Nat.{ℕ, zero, suc, _+_, _≤_, _<_}
+use mathlib.Core.Bool.{Bool, true, false, false≢true}
+use mathlib.Core.List.{List}
+use Prim.Native.Nat.{ℕ, suc, _+_, _≤_, _<_}
 use native.Mathlib.Omega.{arith}
-use lib.Dec.{eqb, ltb}
 use lib.ListN.{length, length-map}
 use borrow.Author.Tests.{lt-ltb, eq-eqb}
-use Rattle.instruction.specs.declared.Instruction.{Instruction}
 use Rattle.instruction.specs.declared.Class.{Class}
 use Rattle.instruction.specs.declared.Class.the-variants.{Hint, LoadInt, LoadConst, Copy, CopyN, Unary, Binary, Jump, JumpIf, JumpIfNot, ForLoop, Return, Panic, Outside, Invalid}
 use Rattle.instruction.specs.Instruction.{class}
-use Rattle.effects.specs.Shape.{Tables, Sections, Cell, cellAt}
+use Rattle.effects.specs.Shape.{Tables, Cell, cellAt}
 use Rattle.effects.specs.Effects.{allReads, rangeHas, anyOf}
 use Rattle.effects.specs.Check.{operandRefusal}
 use Rattle.flow.specs.Branch.{falls, branches, targetBy, target}
 use Rattle.flow.specs.Flags.{Flags}
 use Rattle.pc_map.specs.Boundary.{isKept, boundary}
 use Rattle.pc_map.specs.Boundaries.{boundary-zero, boundary-kept, boundary-dropped}
-use Rattle.pc_map.specs.Relocate.{relocate, relocateBy, retainFrom}
+use Rattle.pc_map.specs.Relocate.{relocate, retainFrom}
 use Rattle.answer.specs.Clean.{cellOf, cellsAfter}
-use Rattle.run.specs.Machine.{Words, Event, World, Act, silent, Node, Program, goto, SameRuns}
-use Rattle.run.specs.Removal.{Agree, SameAct, Goes, Kept, Gone, Removal, removal}
+use Rattle.run.specs.Machine.{Words, World, silent, goto, SameRuns}
+use Rattle.run.specs.Removal.{Kept, Gone, Removal, removal}
 use Rattle.run.specs.Program.{Function, hasMeaning, classIn, nodeBy, actBy, givenRanges, slotsOf, programOf}
 use Rattle.run.specs.Returned.{resultFunction}
 use Rattle.run.specs.Gives.{jump-gives}

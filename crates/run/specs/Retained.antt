@@ -1,14 +1,13 @@
 -- Kept places and the list of retained cells: where each kept one goes.
 -- Assumes nothing.
 use mathlib.Core.Path.{_≡_, refl, _∙_}
-use mathlib.Core.Bool.{Bool, true, false, cond, false≢true}
-use mathlib.Core.List.{List, [], _∷_, map}
+use mathlib.Core.Bool.{Bool, true, false, cond}
+use mathlib.Core.List.{List, [], _∷_}
 use Prim.Native.Nat.{ℕ, zero, suc, _+_, _-_, _≤_, _<_}
 use native.Mathlib.Nat.{add-zero, zero-add}
 use native.Mathlib.Omega.{arith}
 use lib.ListN.{length, length-map}
-use Rattle.unit.specs.Result.{Retained}
-use Rattle.effects.specs.Shape.{Cell, cellAt, noCell}
+use Rattle.effects.specs.Shape.{Cell, cellAt}
 use Rattle.flow.specs.Flags.{Flags}
 use Rattle.pc_map.specs.Boundary.{isKept, boundary}
 use Rattle.pc_map.specs.Boundaries.{boundary-zero, boundary-kept, boundary-dropped, boundary-mono}

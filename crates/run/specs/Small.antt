@@ -1,15 +1,14 @@
 -- Words that folding gives are of 64 bits.
 -- Assumes nothing.
-use mathlib.Core.Path.{_≡_, refl}
 use mathlib.Core.Bool.{Bool, true, false, cond, not}
-use Prim.Native.Nat.{ℕ, zero, suc, _+_, _*_, _-_, _/_, _%_, _^_, _<_, _≤_, min, max}
+use Prim.Native.Nat.{ℕ, zero, suc, _-_, _/_, _%_, _^_, _<_, _≤_, min, max}
 use native.Mathlib.Nat.{pow-succ', mod-lt}
 use native.Mathlib.Omega.{arith}
 use lib.Dec.{eqb, leb, ltb}
 use lib.Pow.{pow-pos, pow-mono}
 use Rattle.words.specs.Word.{signExtend, signedLess}
 use Rattle.instruction.specs.Opcode as op
-use Rattle.values.specs.Fold.{bitwise, differ, wordAnd, wordOr, wordXor, wordNot, wordNeg, bool, lowBits, trunc, bitWord, foldWord}
+use Rattle.values.specs.Fold.{bitwise, differ, wordAnd, wordOr, wordXor, wordNot, bool, lowBits, trunc, bitWord, foldWord}
 
 either : (b : Bool) {x y k : ℕ} → x < k → y < k → cond b x y < k
 either true h g = h

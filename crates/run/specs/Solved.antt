@@ -1,19 +1,16 @@
 -- A round of liveness that changes nothing has found a solution: each block's row is what its walk from the end gives.
 -- Assumes nothing.
 use mathlib.Core.Path.{_≡_, refl, sym, ap, _∙_}
-use mathlib.Core.Logic.{_⊎_, inl, inr}
 use mathlib.Core.Bool.{Bool, true, false, cond}
 use mathlib.Core.List.{List, [], _∷_}
-use mathlib.Core.Option.{Option, none, some}
+use mathlib.Core.Option.{some}
 use Prim.Native.Nat.{ℕ, zero, suc, _+_, _-_, _≤_, _<_}
-use native.Mathlib.Nat.{add-zero, zero-add}
 use native.Mathlib.Decide.{ℕ-discrete}
 use native.Mathlib.Omega.{arith}
 use lib.Dec.{eqb}
 use lib.ListN.{length, getD, set, drop, length-drop}
 use lib.Seq.{drop-cons, getD-set-same, getD-set-other, ext-getD}
 use borrow.Author.Tests.{eqb-true, eq-eqb}
-use Rattle.words.specs.Lists.{sum}
 use Rattle.effects.specs.Shape.{Sections, Cell, cellAt, noCell}
 use Rattle.flow.specs.Block.{blockOf, blockCount}
 use Rattle.flow.specs.Marks.{Marked}

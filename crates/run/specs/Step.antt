@@ -7,12 +7,12 @@ use lib.ListN.{length}
 use borrow.Author.Tests.{lt-ltb}
 use Rattle.instruction.specs.declared.Instruction.{Instruction}
 use Rattle.instruction.specs.declared.Class.{Class}
-use Rattle.instruction.specs.declared.Class.the-variants.{Hint, LoadInt, LoadConst, Copy, CopyN, Unary, Binary, Jump, JumpIf, JumpIfNot, ForLoop, Return, Panic, Outside, Invalid}
+use Rattle.instruction.specs.declared.Class.the-variants.{Hint, LoadInt, LoadConst, Copy, CopyN, Unary, Binary, Jump, JumpIf, JumpIfNot, ForLoop, Outside}
 use Rattle.effects.specs.Shape.{Cell, cellAt}
 use Rattle.flow.specs.Branch.{falls, branches, targetBy}
-use Rattle.run.specs.Machine.{Words, Event, World, State, at, goto, step}
+use Rattle.run.specs.Machine.{Words, Event, World, at, goto, step}
 use Rattle.run.specs.Program.{Function, nodeBy, actBy, programOf}
-use Rattle.run.specs.Removal.{Goes, silently, asked}
+use Rattle.run.specs.Removal.{Goes, silently}
 use Rattle.run.specs.Justified.{doAt}
 use mathlib.Core.List.{List}
 

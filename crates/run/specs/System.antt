@@ -1,7 +1,7 @@
 -- Deterministic systems with a record and an end, and what it means that two have the same runs. Nothing here knows of
 -- instructions. Assumes nothing.
 use mathlib.Core.Path.{_≡_, refl, _∙_}
-use mathlib.Core.Option.{Option, none, some}
+use mathlib.Core.Option.{Option, some}
 use Prim.Native.Nat.{ℕ, zero, suc, _≤_}
 use native.Mathlib.Nat.{le-refl, le-trans}
 

@@ -3,8 +3,8 @@
 -- Assumes nothing.
 use mathlib.Core.Path.{_≡_, refl, sym, ap, ap₂, _∙_}
 use mathlib.Core.Bool.{Bool, true, false, cond, _&&_, false≢true}
-use mathlib.Core.List.{List, [], _∷_}
-use mathlib.Core.Option.{Option, none, some}
+use mathlib.Core.List.{_∷_}
+use mathlib.Core.Option.{some}
 use Prim.Native.Nat.{ℕ, suc, _^_, _<_}
 use native.Mathlib.Omega.{arith}
 use lib.Dec.{eqb}
@@ -14,7 +14,7 @@ use Rattle.instruction.specs.declared.Class.the-variants.{Hint, LoadInt, LoadCo
 use Rattle.instruction.specs.Class.{classOf}
 use Rattle.values.specs.declared.Atom.{Atom}
 use Rattle.values.specs.declared.Atom.the-variants.{Integer, Float, Definition}
-use Rattle.values.specs.Table.{sameAtom, Expression, sameExpression, SlotEntry, Values, empty, atStart, valueIn, slotIn, expressionIn, valueOf, learn}
+use Rattle.values.specs.Table.{sameAtom, Expression, sameExpression, Values, empty, atStart, valueIn, slotIn, expressionIn, valueOf, learn}
 use Rattle.run.specs.Machine.{Words, World, put}
 use Rattle.run.specs.Program.{unaryWord, binaryWord}
 use Rattle.words.specs.Truth.{left-true, right-true}

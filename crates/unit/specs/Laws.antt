@@ -1,7 +1,7 @@
 -- What holds of every unit; what is written is read back; the length of a result.
 -- Assumes nothing.
 use mathlib.Core.Path.{_≡_, refl, sym, ap, _∙_}
-use mathlib.Core.Bool.{Bool, true, false, cond, _&&_}
+use mathlib.Core.Bool.{Bool, true, false, cond}
 use mathlib.Core.List.{List, [], _∷_, _++_}
 use Prim.Native.Nat.{ℕ, _+_, _*_, _/_, _%_, _^_, _≤_, _<_}
 use native.Mathlib.Nat.{add-zero, mul-zero, mul-suc}
@@ -11,7 +11,7 @@ use lib.ListN.{length, getD, length-append}
 use borrow.Author.Tests.{eqb-true, leb-true}
 use Rattle.words.specs.Inside.{get-inside, mid-inside}
 use Rattle.words.specs.Le.{toLe, from-to}
-use Rattle.words.specs.Lists.{every, every-at}
+use Rattle.words.specs.Lists.{every-at}
 use Rattle.words.specs.Regions.{mid-long}
 use Rattle.words.specs.Truth.{both}
 use Rattle.unit.specs.Entry.{metadataAt, metadataBytes, goodMetadata, typeAt, goodType, goodConstant, caseAt, goodCase}

@@ -17,7 +17,7 @@ use Rattle.effects.specs.ByClass.{readsByClass, writesByClass, reads-by-class, 
 use Rattle.effects.specs.Branching.{isBranching, readsCondition, isLoop, by-branching, branching-inside}
 use Rattle.unit.specs.declared.Metadata.{Metadata}
 use Rattle.use_def.specs.Sets.{Put, range, slotIf, slot-within}
-use Rattle.use_def.specs.Touched.{touches, reading, writing, Fits, Before, before-read, put-slot-write, put-slot-reads, reads-in}
+use Rattle.use_def.specs.Touched.{touches, writing, Fits, Before, before-read, put-slot-write, put-slot-reads, reads-in}
 use Rattle.use_def.specs.Free.{deadBy}
 
 -- such an instruction's word, whose slots all have a bit in a set of that many words

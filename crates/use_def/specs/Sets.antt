@@ -1,9 +1,9 @@
 -- Sets of slots in lent words: what putting slots in and taking them out makes of them.
 -- Assumes nothing.
-use mathlib.Core.Path.{_≡_, refl, sym, ap, _∙_}
-use mathlib.Core.Bool.{Bool, true, false, cond, not, _&&_, _||_, false≢true}
-use mathlib.Core.List.{List, [], _∷_}
-use Prim.Native.Nat.{ℕ, zero, suc, _+_, _*_, _-_, _/_, _%_, _^_, _≤_, _<_}
+use mathlib.Core.Path.{_≡_, refl, ap, _∙_}
+use mathlib.Core.Bool.{Bool, true, false, cond, _&&_, _||_, false≢true}
+use mathlib.Core.List.{List}
+use Prim.Native.Nat.{ℕ, _+_, _*_, _-_, _/_, _%_, _^_, _≤_, _<_}
 use native.Mathlib.Nat.{mod-eq-of-lt}
 use native.Mathlib.Omega.{arith}
 use lib.Dec.{eqb, leb, ltb}
@@ -11,10 +11,10 @@ use lib.ListN.{length, getD, set}
 use lib.Seq.{set-getD}
 use lib.Bits.{bitAnd, bitOr, or-zero-r, and-mask}
 use mir.Val.{boolByte}
-use borrow.Author.Tests.{eqb-true, eqb-false, leb-true, leb-false, ltb-true, ltb-false, lt-ltb, le-ltb}
+use borrow.Author.Tests.{eqb-true, eqb-false, leb-true, leb-false, ltb-true, ltb-false}
 use Rattle.words.specs.Bits.{member, inserted, removed, one-shl, member-inserted, member-removed}
 use Rattle.effects.specs.declared.Range.{Range}
-use Rattle.effects.specs.Effects.{rangeHas, rangeWithin, anyOf, allOf}
+use Rattle.effects.specs.Effects.{rangeHas, rangeWithin}
 use Rattle.effects.specs.Form.{emptyRange}
 
 -- the slots that f has are in the set if b says so, and else are not; all others are as they were

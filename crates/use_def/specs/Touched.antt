@@ -1,12 +1,12 @@
 -- The slots that an instruction reads and those that it writes, over all its ranges.
 -- Assumes nothing.
 use mathlib.Core.Path.{_≡_, refl, sym, ap, _∙_}
-use mathlib.Core.Bool.{Bool, true, false, cond, not, _&&_, _||_, and-true, or-false, false≢true}
+use mathlib.Core.Bool.{Bool, true, false, cond, not, _&&_, _||_, and-true, or-false}
 use mathlib.Core.List.{List, [], _∷_}
 use Prim.Native.Nat.{ℕ, zero, suc, _+_, _*_, _≤_, _<_}
 use native.Mathlib.Numerals.{add-one}
 use native.Mathlib.Omega.{arith}
-use lib.Dec.{eqb, leb, ltb}
+use lib.Dec.{eqb}
 use lib.ListN.{length, getD, take}
 use lib.Seq.{take-all}
 use Rattle.words.specs.Bits.{member}
@@ -22,7 +22,7 @@ use Rattle.words.specs.Truth.{left-true, right-true}
 use Rattle.effects.specs.Operands.{all-at}
 use Rattle.effects.specs.Ranges.{CasesInside}
 use Rattle.effects.specs.ByClass.{isOutside, readsByClass, writesByClass, reads-by-class, writes-by-class}
-use Rattle.use_def.specs.Sets.{Put, slotIf, put-none, put-more, put-as, put-slot, has-none}
+use Rattle.use_def.specs.Sets.{Put, slotIf, put-more, put-as, put-slot, has-none}
 
 -- a slot is one of those of the ranges
 abbrev pub touches : List Range → ℕ → Bool

@@ -1,9 +1,9 @@
 -- Little-endian numbers ("little-endian like all else here").
 -- Assumes nothing.
-use mathlib.Core.Path.{_≡_, refl, sym, ap, _∙_}
+use mathlib.Core.Path.{_≡_, refl, ap, _∙_}
 use mathlib.Core.List.{List, [], _∷_, _++_}
 use Prim.Native.Nat.{ℕ, zero, suc, _+_, _*_, _/_, _%_, _^_, _≤_, _<_}
-use native.Mathlib.Nat.{mul-add, mul-assoc, mul-comm, one-mul, pow-suc, one-le-pow, div-div-eq-div-mul, div-one, zero-add, suc-add, add-suc}
+use native.Mathlib.Nat.{mul-add, mul-assoc, mul-comm, one-mul, pow-suc, one-le-pow, div-div-eq-div-mul, div-one, zero-add, suc-add}
 use native.Mathlib.Omega.{arith}
 use lib.ListN.{length, getD, set}
 use lib.Seq.{drop-cons}

@@ -1,4 +1,3 @@
-use mathlib.Core.Path.{sym}
 use Prim.Native.Nat.{zero-le}
 use Rattle.words.specs.Keys.{past}
 use Rattle.instruction.specs.Class.{classOf, numberOf, single, class-past}

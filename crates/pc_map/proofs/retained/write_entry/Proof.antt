@@ -1,4 +1,3 @@
-use native.Mathlib.Omega.{arith}
 use lib.ListN.{length}
 use Rattle.pc_map.proofs.Writing.{end-asked, kept-metadata}
 use borrow.Author.Needs.{needs}

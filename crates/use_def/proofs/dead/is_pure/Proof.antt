@@ -4,7 +4,6 @@ use mathlib.Core.List.{[], _∷_}
 use borrow.Author.Tests.{not-true}
 use Rattle.instruction.specs.Class.{namedClass, isPure}
 use Rattle.flow.proofs.Classes.{by-test}
-use borrow.Author.Needs.{needs}
 use Rattle.use_def.proofs.dead.is_pure.Statement.{statement}
 use Rattle.use_def.proofs.dead.is_pure.Tie as tie
 

@@ -5,7 +5,6 @@ use borrow.Author.Tests.{not-true}
 use Rattle.instruction.specs.Class.{namedClass}
 use Rattle.flow.proofs.Classes.{by-test}
 use Rattle.effects.specs.ByClass.{isOutside}
-use borrow.Author.Needs.{needs}
 use Rattle.use_def.proofs.touch.is_outside.Statement.{statement}
 use Rattle.use_def.proofs.touch.is_outside.Tie as tie
 
