@@ -79,7 +79,7 @@ Knows n types t dest v = Holds n (length types) dest v (memoryOf n (length types
 module _ {n : ℕ} (types : List ℕ) {t : List ℕ} where
   -- a copy of the recorded slot
   pub copy-found : {f : Found} {r d : ℕ} (i : Instruction) {j : Instruction} → Ready n (length types) t → d < limit n (length types) (memoryOf n (length types) t)
-      → f ≡ usableAt n (length types) types (memoryOf n (length types) t) d (getD types (i .a) 0) → f ≡ At r → j ≡ plain 3 (i .a) r 0
+      → f ≡ usableAt types (memoryOf n (length types) t) d (getD types (i .a) 0) → f ≡ At r → j ≡ plain 3 (i .a) r 0
       → (j .a ≡ i .a) × ((dest : ℕ → ℕ) (z : List ℕ) (l : ℕ) (T : Tables) (v : Values) → Knows n types t dest v
       → j ≡ copyOrStay (sectionsOf types z l T) i (recordedSlot types v (valueAt n types t dest d) (getD types (i .a) 0)))
   unfolding copyOrStay slotFound
@@ -92,7 +92,7 @@ module _ {n : ℕ} (types : List ℕ) {t : List ℕ} where
   )
 
   pub copy-none : {f : Found} {d : ℕ} (i : Instruction) → Ready n (length types) t → d < limit n (length types) (memoryOf n (length types) t)
-      → f ≡ usableAt n (length types) types (memoryOf n (length types) t) d (getD types (i .a) 0) → f ≡ Nothing
+      → f ≡ usableAt types (memoryOf n (length types) t) d (getD types (i .a) 0) → f ≡ Nothing
       → (dest : ℕ → ℕ) (z : List ℕ) (l : ℕ) (T : Tables) (v : Values) → Knows n types t dest v
       → i ≡ copyOrStay (sectionsOf types z l T) i (recordedSlot types v (valueAt n types t dest d) (getD types (i .a) 0))
   unfolding copyOrStay slotFound

@@ -8,10 +8,10 @@ ghost use borrow.Rule.Slice.PartMut.{midOf};
 ghost use Rattle.instruction.specs.Instruction.{class, ofWord, toWord};
 ghost use Rattle.effects.specs.Shape.{Cell, Tables};
 ghost use Rattle.effects.specs.Cells.{cellsBy};
-ghost use Rattle.values.specs.Table.{Values, valueOf, expressionIn, recordedSlot, learn};
+ghost use Rattle.values.specs.Table.{valueOf, expressionIn, recordedSlot, learn};
 ghost use Rattle.values.specs.Number.{loadOrStay, copyOrStay, constantAtom, stored as storedBy, byExpression, byValue, numberCopy, numberConstant, numberRead, numberJump, numberBy, number, numberCode};
 ghost use Rattle.values.specs.Folded.{expressionOf};
-ghost use Rattle.values.specs.Memory.{memoryOf, constantOf, constantKey, expressionKey, limit, expressionAt, atomIn, endAt, Ready, Holds};
+ghost use Rattle.values.specs.Memory.{memoryOf, constantOf, constantKey, expressionKey, limit, expressionAt, atomIn, endAt, Ready};
 ghost use Rattle.values.specs.Entries.{key, bucketOf};
 ghost use Rattle.values.specs.Kept.{Clears};
 ghost use Rattle.numbering.specs.Walk.{wordOf, Stands, Becomes, Room, Coded, Second, secondNumber, foldBy, binaryClass, operatorClass, onZero, atomOf, KindOf, operated, scalarIn, pureBy, undecidedBy, takes, otherBy, sectionsOf, Begins, Enters, Turns, Numberable};
@@ -178,7 +178,8 @@ fn second(t: &mut [u64], types: &[u8], n: usize, s: u16, d: u64, binary: bool) -
     s
 }
 
-// What an opcode of one operand or of two folds to.
+// What an opcode of one operand or of two folds to. Most operands are definitions, of which nothing folds: one test whether both
+// numbers are those of constants, which is seldom so, is predicted better by the processor than a test of each.
 fn fold_numbers(
     t: &[u64],
     n: usize,
@@ -192,12 +193,16 @@ fn fold_numbers(
     requires { ⌜ Ready n locals (now t) × (left < limit n locals (memoryOf n locals (now t))) × (right < limit n locals (memoryOf n locals (now t))) ⌝ }
     ensures { λ r. ⌜ ((dest : ℕ → ℕ) → wordOf r ≡ foldBy binary (expressionOf op flags (atomIn n locals dest (memoryOf n locals (now (t .entry))) left) (atomIn n locals dest (memoryOf n locals (now (t .entry))) right))) ⌝ }
 {
-    let x = table::atom(t, n, locals, left);
     if binary {
+        let zero = (locals + n) as u64;
+        if (left < zero) | (right < zero) {
+            return Folded::Not;
+        }
+        let x = table::atom(t, n, locals, left);
         let y = table::atom(t, n, locals, right);
         return fold::fold_binary(op, flags, x, y);
     }
-    fold::fold_unary(op, flags, x)
+    fold::fold_unary(op, flags, table::atom(t, n, locals, left))
 }
 
 // "Operands of .. unary and binary opcodes (left first)"

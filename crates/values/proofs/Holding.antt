@@ -1,14 +1,14 @@
 -- The memory holds a table of values: after each change of its words it is in order and holds the table with that change.
 -- Assumes nothing.
-use mathlib.Core.Path.{_≡_, refl, sym, _∙_}
+use mathlib.Core.Path.{_≡_, refl, sym, ap, _∙_}
 use mathlib.Core.Bool.{Bool, true, false, cond, _&&_}
 use mathlib.Core.List.{List, _∷_}
 use mathlib.Core.Option.{none, some}
-use Prim.Native.Nat.{ℕ, _+_, _*_, _-_, _/_, _%_, _≤_, _<_}
+use Prim.Native.Nat.{ℕ, _+_, _*_, _/_, _%_, _≤_, _<_}
 use native.Mathlib.Omega.{arith}
-use lib.Dec.{eqb, ltb}
+use lib.Dec.{eqb}
 use lib.ListN.{getD}
-use borrow.Author.Tests.{eqb-true, eqb-false, eq-eqb, ne-eqb, lt-ltb, ltb-true}
+use borrow.Author.Tests.{eqb-true, eqb-false, eq-eqb, ne-eqb}
 use Rattle.values.specs.Table.{Values, SlotEntry, empty, valueIn, slotIn, expressionIn, sameAtom, usable, recordedSlot}
 use Rattle.values.specs.Entries.{value, newest, Linked}
 use Rattle.values.specs.Memory.{Memory, numberAt, markedAt, expressionKey, slotFound, limit, usableIn, usableAt, expressionIf, expressionAt, Ordered, atomIn, atomFound, HasNumber, Holds}
@@ -52,6 +52,22 @@ pub mark-same : (m m′ : Memory) (d : ℕ) → m′ .epoch ≡ m .epoch → m�
 unfolding markedAt
 mark-same m m′ d e f = rw (e, f)
 
+-- a mark of this epoch
+pub marked-word : (m : Memory) (d : ℕ) {r : ℕ} → markedAt m d ≡ At r → (m .mark d / 65536 ≡ m .epoch) × (m .mark d % 65536 ≡ r)
+unfolding markedAt
+marked-word m d {r} e = go (eqb (m .mark d / 65536) (m .epoch)) refl e
+  where
+    go : (t : Bool) → eqb (m .mark d / 65536) (m .epoch) ≡ t → cond t (At (m .mark d % 65536)) Nothing ≡ At r
+        → (m .mark d / 65536 ≡ m .epoch) × (m .mark d % 65536 ≡ r)
+    go true q z = (eqb-true (m .mark d / 65536) (m .epoch) q, cc)
+    go false q z = let w : _≡_ {A = ℕ} 0 1 = cc in absurd (omega arith)
+
+pub marked-low : {n S : ℕ} {m : Memory} → Ordered n S m → (d : ℕ) {r : ℕ} → d < limit n S m → markedAt m d ≡ At r → r < S
+marked-low {m} o d used e =
+    let w = marked-word m d e in
+    let few = o .few-constants in
+    rw (← w .1) (o .marks-low d (omega arith) (w .0))
+
 -- ---- lists of entries of the table of values
 
 -- the slot s recorded for the value w
@@ -66,16 +82,13 @@ pub slot-other : (es : List SlotEntry) (s : ℕ) (x w : Atom) → sameAtom x w �
 unfolding slotIn
 slot-other es s x w e = rw e
 
--- what holds of the slot and the value of a new entry and of those that were there holds of all
-slot-more : (P : Atom → ℕ → Type 0) (es : List SlotEntry) (s : ℕ) (x : Atom) → P x s → ((w : Atom) (r : ℕ) → slotIn es w ≡ some r → P w r)
-    → (w : Atom) (r : ℕ) → slotIn (record { slot = s; value = x } ∷ es) w ≡ some r → P w r
+-- what holds of the value of a new entry and of those that were there holds of all
+slot-more : (P : Atom → Type 0) (es : List SlotEntry) (s : ℕ) (x : Atom) → P x → ((w : Atom) (r : ℕ) → slotIn es w ≡ some r → P w)
+    → (w : Atom) (r : ℕ) → slotIn (record { slot = s; value = x } ∷ es) w ≡ some r → P w
 slot-more P es s x h f w r e = go (sameAtom x w) refl
   where
-    go : (t : Bool) → sameAtom x w ≡ t → P w r
-    go true q =
-        let z : some s ≡ some r = sym (slot-same es s x w q) ∙ e in
-        let g : s ≡ r = cc in
-        rw (← same-atom x w q, ← g) h
+    go : (t : Bool) → sameAtom x w ≡ t → P w
+    go true q = rw (← same-atom x w q) h
     go false q = f w r (sym (slot-other es s x w q) ∙ e)
 
 -- ---- memories that differ from another one in some words
@@ -149,6 +162,8 @@ module _ (n S : ℕ) (few : n ≤ 65536) where
           few-expressions = o .few-expressions;
           slots-past = λ r l. rw (slots r l) (o .slots-past r l);
           marks-past = marks (λ e w. e < S + 2 * n + 1 → w / 65536 ≤ m .epoch) (λ l. omega (arith, mark-epoch (m .epoch) s fits)) (λ e g l. o .marks-past e l);
+          marks-low = marks (λ e w. e < S + 2 * n + 1 → w / 65536 ≡ m .epoch → w % 65536 < S)
+              (λ l q. omega arith) (λ e g. o .marks-low e);
           fresh = marks (λ e w. limit n S m ≤ e → e < S + 2 * n + 1 → w / 65536 < m .epoch) (λ l g. absurd (omega arith)) (λ e g. o .fresh e);
           slots-low = λ r l. rw (number r l) (o .slots-low r l);
           values-low = o .values-low;
@@ -169,8 +184,7 @@ module _ (n S : ℕ) (few : n ≤ 65536) where
         record {
           slots = λ r l. rw (number r l) (h .slots r l);
           recorded = λ e l. go e l (eqb d e) refl;
-          recorded-low = slot-more (λ w r. r < S) (v .recorded) s (atomIn n S dest m d) low (h .recorded-low);
-          recorded-numbered = slot-more (λ w r. HasNumber n S dest (turned m slot mark) w) (v .recorded) s (atomIn n S dest m d) (record { number = d; low = used; is = refl })
+          recorded-numbered = slot-more (λ w. HasNumber n S dest (turned m slot mark) w) (v .recorded) s (atomIn n S dest m d) (record { number = d; low = used; is = refl })
               (λ w r q. let z = h .recorded-numbered w r q in record { number = z .number; low = z .low; is = z .is });
           expressions = λ op flags left right a b c e. same-found op flags left right ∙ h .expressions op flags left right a b c e;
           left-numbered = λ e w q. let z = h .left-numbered e w q in record { number = z .number; low = z .low; is = z .is };
@@ -230,6 +244,7 @@ module _ (n S : ℕ) (few : n ≤ 65536) where
           few-expressions = o .few-expressions;
           slots-past = past-put;
           marks-past = λ e l. rw (marks e) (o .marks-past e l);
+          marks-low = λ e. rw (marks e) (o .marks-low e);
           fresh = λ e l g. rw (marks e) (o .fresh e l g);
           slots-low = slots-put (λ r x. x < limit n S m) used (λ r l g. o .slots-low r l);
           values-low = o .values-low;
@@ -255,7 +270,6 @@ module _ (n S : ℕ) (few : n ≤ 65536) where
           slots = slots-put (λ r x. atomIn n S dest m x ≡ valueIn (record { slot = s; value = atomIn n S dest m d } ∷ v .slots) r)
               (rw (eq-eqb s s refl)) (λ r l g. rw (ne-eqb s r (λ e. g (sym e))) (h .slots r l));
           recorded = λ e l. rw (mark-same m put e refl (marks e)) (h .recorded e l);
-          recorded-low = h .recorded-low;
           recorded-numbered = λ w r q. let z = h .recorded-numbered w r q in record { number = z .number; low = z .low; is = z .is };
           expressions = λ op flags left right a b c e. found-put dest (expressionAt n S m (expressionKey op flags left right)) ∙ h .expressions op flags left right a b c e;
           left-numbered = λ e w q. let z = h .left-numbered e w q in record { number = z .number; low = z .low; is = z .is };
@@ -280,6 +294,7 @@ module _ (n S : ℕ) (few : n ≤ 65536) where
           few-expressions = omega arith;
           slots-past = λ s l. let f = slots s l in omega arith;
           marks-past = λ d l. let f = marks d l in omega arith;
+          marks-low = λ d l e. let f = marks d l in absurd (omega arith);
           fresh = λ d l f. marks d f;
           slots-low = λ s l. rw (own s l) (omega arith);
           values-low = λ j l. absurd (omega arith);
@@ -299,7 +314,6 @@ module _ (n S : ℕ) (few : n ≤ 65536) where
         record {
           slots = λ s l. rw (own s l) (atom-start n S dest (m .constantTable) s l);
           recorded = λ d l. let f : d < S + 2 * n + 1 = omega arith in rw (unmarked d f);
-          recorded-low = λ w r e. let z : _≡_ {A = ℕ} 0 1 = cc in absurd (omega arith);
           recorded-numbered = λ w r e. let z : _≡_ {A = ℕ} 0 1 = cc in absurd (omega arith);
           expressions = λ op flags left right a b c d. rw expressions;
           left-numbered = λ e w q. let z : _≡_ {A = ℕ} 0 1 = cc in absurd (omega arith);
@@ -308,30 +322,31 @@ module _ (n S : ℕ) (few : n ≤ 65536) where
 
   -- ---- the recorded slot where it still holds the value and has the type
   module _ {m : Memory} (o : Ordered n S m) (dest : ℕ → ℕ) {v : Values} (h : Holds n S dest v m) (types : List ℕ) (d type : ℕ) (used : d < limit n S m) where
-    usable-found : (f : Found) → slotFound f ≡ slotIn (v .recorded) (atomIn n S dest m d)
-        → slotFound (usableIn n S types m d type f) ≡ usable types v (atomIn n S dest m d) type (slotIn (v .recorded) (atomIn n S dest m d))
+    usable-found : (f : Found) → markedAt m d ≡ f
+        → slotFound (usableIn types m d type f) ≡ usable types v (atomIn n S dest m d) type (slotFound f)
     unfolding usableIn usable slotFound
-    usable-found Nothing e = rw (← e)
+    usable-found Nothing e = refl
     usable-found (At r) e =
-        let low : r < S = h .recorded-low (atomIn n S dest m d) r (sym e) in
-        rw (← e, lt-ltb r S low, ← h .slots r low, same-number n S few dest o (numberAt m r) d (o .slots-low r low) used) (go (eqb (numberAt m r) d && eqb (getD types r 0) type))
+        let low = marked-low o d used e in
+        rw (← h .slots r low, same-number n S few dest o (numberAt m r) d (o .slots-low r low) used) (go (eqb (numberAt m r) d && eqb (getD types r 0) type))
       where
         go : (t : Bool) → slotFound (cond t (At r) Nothing) ≡ cond t (some r) none
         go true = refl
         go false = refl
 
-    pub usable-holds : slotFound (usableAt n S types m d type) ≡ recordedSlot types v (atomIn n S dest m d) type
+    pub usable-holds : slotFound (usableAt types m d type) ≡ recordedSlot types v (atomIn n S dest m d) type
     unfolding recordedSlot
-    usable-holds = usable-found (markedAt m d) (h .recorded d used)
+    usable-holds = usable-found (markedAt m d) refl ∙ ap (usable types v (atomIn n S dest m d) type) (h .recorded d used)
 
-  -- a slot that is found to be usable is a slot, and has the number
-  pub usable-low : (types : List ℕ) (m : Memory) (d type : ℕ) (f : Found) (r : ℕ) → usableIn n S types m d type f ≡ At r → (r < S) × (numberAt m r ≡ d)
-  unfolding usableIn
-  usable-low types m d type Nothing r e = let z : _≡_ {A = ℕ} 0 1 = cc in absurd (omega arith)
-  usable-low types m d type (At q) r e = go (ltb q S) refl (eqb (numberAt m q) d) refl (eqb (getD types q 0) type) e
-    where
-      go : (t : Bool) → ltb q S ≡ t → (x : Bool) → eqb (numberAt m q) d ≡ x → (y : Bool) → cond t (cond (x && y) (At q) Nothing) Nothing ≡ At r → (r < S) × (numberAt m r ≡ d)
-      go true l true k true z = let p : q ≡ r = cc in rw (← p) (ltb-true q S l, eqb-true (numberAt m q) d k)
-      go true l true k false z = let w : _≡_ {A = ℕ} 0 1 = cc in absurd (omega arith)
-      go true l false k y z = let w : _≡_ {A = ℕ} 0 1 = cc in absurd (omega arith)
-      go false l x k y z = let w : _≡_ {A = ℕ} 0 1 = cc in absurd (omega arith)
+-- a slot that is found to be usable is the recorded one, and has the number
+pub usable-marked : (types : List ℕ) (m : Memory) (d type : ℕ) (f : Found) {r : ℕ} → usableIn types m d type f ≡ At r
+    → (f ≡ At r) × (numberAt m r ≡ d)
+unfolding usableIn
+usable-marked types m d type Nothing e = let z : _≡_ {A = ℕ} 0 1 = cc in absurd (omega arith)
+usable-marked types m d type (At q) {r} e = go (eqb (numberAt m q) d) refl (eqb (getD types q 0) type) e
+  where
+    go : (x : Bool) → eqb (numberAt m q) d ≡ x → (y : Bool) → cond (x && y) (At q) Nothing ≡ At r
+        → (At q ≡ At r) × (numberAt m r ≡ d)
+    go true k true z = let p : q ≡ r = cc in rw (← p) (refl, eqb-true (numberAt m q) d k)
+    go true k false z = let w : _≡_ {A = ℕ} 0 1 = cc in absurd (omega arith)
+    go false k y z = let w : _≡_ {A = ℕ} 0 1 = cc in absurd (omega arith)

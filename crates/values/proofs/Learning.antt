@@ -10,7 +10,7 @@ use lib.Dec.{eqb, ltb}
 use borrow.Author.Tests.{eqb-true, eqb-false, eq-eqb, ne-eqb, ltb-true, ltb-false}
 use Rattle.words.specs.Truth.{both, same-bool}
 use Rattle.values.specs.Table.{Values, Expression, slotIn, expressionIn, sameAtom, sameExpression, learn}
-use Rattle.values.specs.Entries.{Key, key, keyAt, value, newest, sameKey, Added}
+use Rattle.values.specs.Entries.{Key, keyAt, value, newest, sameKey, Added}
 use Rattle.values.specs.Search.{same-key, key-same, newest-le, newest-key}
 use Rattle.values.specs.Memory.{Memory, numberAt, markedAt, constantOf, constantKey, expressionKey, slotFound, limit, expressionIf, expressionAt, Ordered, atomIn, atomFound, HasNumber, Holds}
 use Rattle.values.specs.declared.Atom.{Atom}
@@ -65,6 +65,7 @@ module _ (n S : ℕ) (few : n ≤ 65536) where
           few-expressions = o .few-expressions;
           slots-past = λ r l. rw (slots r l) (o .slots-past r l);
           marks-past = λ e l. rw (marks e l) (o .marks-past e l);
+          marks-low = λ e l. rw (marks e l) (o .marks-low e l);
           fresh = λ e l f. rw (marks e f) (o .fresh e (omega arith) f);
           slots-low = λ r l. rw (kept-number r l) (omega (arith, o .slots-low r l));
           values-low = λ j l. omega (arith, o .values-low j l);
@@ -207,7 +208,6 @@ module _ (n S : ℕ) (few : n ≤ 65536) where
             record {
               slots = λ r l. rw (kept-number r l, atom-kept (numberAt m r) (o .slots-low r l)) (h .slots r l);
               recorded = recorded-more;
-              recorded-low = h .recorded-low;
               recorded-numbered = λ w r q. renumbered (h .recorded-numbered w r q);
               expressions = expressions-more;
               left-numbered = λ e w q. renumbered (h .left-numbered e w q);
@@ -243,6 +243,7 @@ module _ (n S : ℕ) (few : n ≤ 65536) where
           few-expressions = omega arith;
           slots-past = λ s y. rw (slots s y) (o .slots-past s y);
           marks-past = λ e y. rw (marks e y) (o .marks-past e y);
+          marks-low = λ e y. rw (marks e y) (o .marks-low e y);
           fresh = λ e y f. rw (marks e f) (o .fresh e y f);
           slots-low = λ s y. rw (number-same m learnt s refl (slots s y)) (o .slots-low s y);
           values-low = terms (λ j x y. y < limit n S m) used (λ j y. o .values-low j y);
@@ -332,7 +333,6 @@ module _ (n S : ℕ) (few : n ≤ 65536) where
           record {
             slots = λ s y. rw (number-same m learnt s refl (slots s y)) (h .slots s y);
             recorded = λ e y. let f : e < S + 2 * n + 1 = let z = o .few-constants in omega arith in rw (mark-same m learnt e refl (marks e f)) (h .recorded e y);
-            recorded-low = h .recorded-low;
             recorded-numbered = λ w s q. renamed (h .recorded-numbered w s q);
             expressions = asked-more;
             left-numbered = known-more (λ e. HasNumber n S dest learnt (e .left)) (record { number = left; low = l; is = refl }) (λ e w q. renamed (h .left-numbered e w q))

@@ -6,19 +6,16 @@ use mathlib.Core.List.{List}
 use mathlib.Core.Option.{none, some}
 use Prim.Native.Nat.{ℕ, zero, suc, _+_, _*_, _-_, _/_, _%_, _≤_, _<_}
 use native.Mathlib.Omega.{arith}
-use lib.Dec.{eqb, ltb}
+use lib.Dec.{eqb}
 use lib.ListN.{length, getD}
-use borrow.Author.Tests.{eq-eqb, ne-eqb, lt-ltb, le-ltb, ltb-true}
+use borrow.Author.Tests.{eq-eqb, ne-eqb, lt-ltb, le-ltb}
 use Rattle.words.specs.Regions.{get-mid}
-use Rattle.words.specs.Truth.{both}
-use Rattle.values.specs.Entries.{Key, keyAt, value, newest}
+use Rattle.values.specs.Entries.{Key, keyAt, newest}
 use Rattle.values.specs.Search.{newest-le}
-use Rattle.values.specs.Folded.{integerOf}
 use Rattle.values.specs.Memory.{constantsAt, expressionsAt, endAt, Memory, memoryOf, numberAt, markedAt, markedOr, slotOr, usableIn, usableAt, integerAt, expressionIf, expressionAt, limit, Ready}
-use Rattle.values.specs.declared.Atom.the-variants.{Integer, Float, Definition}
 use Rattle.values.specs.declared.Found.{Found}
 use Rattle.values.specs.declared.Found.the-variants.{At, Nothing}
-use Rattle.values.proofs.Holding.{usable-low}
+use Rattle.values.proofs.Holding.{marked-low, usable-marked}
 use Rattle.values.proofs.Recording.{few}
 
 module _ {n S : ℕ} {t : List ℕ} (g : Ready n S t) where
@@ -42,47 +39,46 @@ module _ {n S : ℕ} {t : List ℕ} (g : Ready n S t) where
 
   -- the recorded slot where it still has the number and the type
   module _ (types : List ℕ) (d type : ℕ) {f : Found} (e : f ≡ markedAt (memoryOf n S t) d) where
-    pub usable-none : f ≡ Nothing → Nothing ≡ usableAt n S types (memoryOf n S t) d type
+    pub usable-none : f ≡ Nothing → Nothing ≡ usableAt types (memoryOf n S t) d type
     unfolding usableIn
     usable-none q = rw (← e, q)
 
-    pub usable-far : {r : ℕ} → f ≡ At r → S ≤ r → Nothing ≡ usableAt n S types (memoryOf n S t) d type
+    pub usable-by : {r x : ℕ} (b : Bool) → f ≡ At r → x ≡ numberAt (memoryOf n S t) r → eqb x d && eqb (getD types r 0) type ≡ b
+        → cond b (At r) Nothing ≡ usableAt types (memoryOf n S t) d type
     unfolding usableIn
-    usable-far {r} q l = rw (← e, q, le-ltb r S l)
-
-    pub usable-by : {r x : ℕ} (b : Bool) → f ≡ At r → r < S → x ≡ numberAt (memoryOf n S t) r → eqb x d && eqb (getD types r 0) type ≡ b → cond b (At r) Nothing ≡ usableAt n S types (memoryOf n S t) d type
-    unfolding usableIn
-    usable-by {r} {x} b q l y z = rw (← e, q, lt-ltb r S l, ← y, z)
+    usable-by b q y z = rw (← e, q, ← y, z)
 
   -- the recorded slot, or s
-  pub marked-yes : (d s : ℕ) → eqb (memoryOf n S t .mark d / 65536) (memoryOf n S t .epoch) && ltb (memoryOf n S t .mark d % 65536) S ≡ true
-      → (memoryOf n S t .mark d % 65536 ≡ markedOr S (memoryOf n S t) d s) × (memoryOf n S t .mark d % 65536 < S)
-  marked-yes d s e = (rw e, ltb-true (m .mark d % 65536) S (both (eqb (m .mark d / 65536) (m .epoch)) (ltb (m .mark d % 65536) S) e .1))
-
-  pub marked-no : (d s : ℕ) → eqb (memoryOf n S t .mark d / 65536) (memoryOf n S t .epoch) && ltb (memoryOf n S t .mark d % 65536) S ≡ false → s < S
-      → (s ≡ markedOr S (memoryOf n S t) d s) × (s < S)
-  marked-no d s e l = (rw e, l)
+  pub marked-yes : (d s : ℕ) → d < limit n S (memoryOf n S t) → memoryOf n S t .mark d / 65536 ≡ memoryOf n S t .epoch
+      → (memoryOf n S t .mark d % 65536 ≡ markedOr (memoryOf n S t) d s) × (memoryOf n S t .mark d % 65536 < S)
+  marked-yes d s l e =
+      let f = g .order .few-constants in
+      (rw (eq-eqb (m .mark d / 65536) (m .epoch) e), g .order .marks-low d (omega arith) e)
 
   -- the slot that is usable, or s: s itself has the number and the type
-  pub usable-or : (types : List ℕ) (d s : ℕ) {c x : ℕ} (b : Bool) → c ≡ markedOr S (memoryOf n S t) d s → x ≡ numberAt (memoryOf n S t) c → eqb x d && eqb (getD types c 0) (getD types s 0) ≡ b
-      → cond b c s ≡ slotOr s (usableAt n S types (memoryOf n S t) d (getD types s 0))
+  pub usable-or : (types : List ℕ) (d s : ℕ) {c x : ℕ} (b : Bool) → c ≡ markedOr (memoryOf n S t) d s
+      → x ≡ numberAt (memoryOf n S t) c → eqb x d && eqb (getD types c 0) (getD types s 0) ≡ b
+      → cond b c s ≡ slotOr s (usableAt types (memoryOf n S t) d (getD types s 0))
   unfolding usableIn markedAt slotOr
-  usable-or types d s {c} {x} b k y z = go (eqb (m .mark d / 65536) (m .epoch)) (ltb (m .mark d % 65536) S) refl k b (rw y at z)
+  usable-or types d s {c} {x} b k y z = go (eqb (m .mark d / 65536) (m .epoch)) k b (rw y at z)
     where
       same : (b : Bool) → cond b s s ≡ s
       same true = refl
       same false = refl
 
-      go : (p q : Bool) → ltb (m .mark d % 65536) S ≡ q → c ≡ cond (p && q) (m .mark d % 65536) s → (b : Bool) → eqb (numberAt m c) d && eqb (getD types c 0) (getD types s 0) ≡ b
-          → cond b c s ≡ slotOr s (usableIn n S types m d (getD types s 0) (cond p (At (m .mark d % 65536)) Nothing))
-      go true true l e true z = rw (l, ← e, z)
-      go true true l e false z = rw (l, ← e, z)
-      go true false l e b z = rw (l, e) (same b)
-      go false q l e b z = rw e (same b)
+      go : (p : Bool) → c ≡ cond p (m .mark d % 65536) s → (b : Bool) → eqb (numberAt m c) d && eqb (getD types c 0) (getD types s 0) ≡ b
+          → cond b c s ≡ slotOr s (usableIn types m d (getD types s 0) (cond p (At (m .mark d % 65536)) Nothing))
+      go true e true z = rw (← e, z)
+      go true e false z = rw (← e, z)
+      go false e b z = rw e (same b)
 
-  -- a slot that is found fits 16 bits
-  pub found-fits : (types : List ℕ) (d type : ℕ) {f : Found} {r : ℕ} → f ≡ usableAt n S types (memoryOf n S t) d type → f ≡ At r → r < 65536
-  found-fits types d type {f} {r} e q = let low = usable-low n S (few g) types m d type (markedAt m d) r (sym e ∙ q) .0 in let a = g .order .locals in omega arith
+  -- a slot that is usable fits 16 bits
+  pub found-fits : (types : List ℕ) (d type : ℕ) {f : Found} {r : ℕ} → d < limit n S (memoryOf n S t)
+      → f ≡ usableAt types (memoryOf n S t) d type → f ≡ At r → r < 65536
+  found-fits types d type l e q =
+      let low = marked-low (g .order) d l (usable-marked types m d type (markedAt m d) (sym e ∙ q) .0) in
+      let a = g .order .locals in
+      omega arith
 
   -- the known integer of a number: none of a definition, 0, or what its entry says
   pub integer-none : (d : ℕ) → d < S + n → none ≡ integerAt n S (memoryOf n S t .constantTable) d

@@ -4,22 +4,22 @@ use mathlib.Core.Path.{_≡_, refl, sym, ap, _∙_}
 use mathlib.Core.Bool.{Bool, true, false, cond, _&&_}
 use mathlib.Core.List.{List, _∷_}
 use mathlib.Core.Option.{none, some}
-use Prim.Native.Nat.{ℕ, zero, suc, _+_, _*_, _-_, _/_, _%_, _≤_, _<_}
+use Prim.Native.Nat.{ℕ, _+_, _*_, _-_, _/_, _≤_, _<_}
 use native.Mathlib.Omega.{arith}
-use lib.Dec.{eqb, ltb}
+use lib.Dec.{eqb}
 use lib.ListN.{length, getD, set, length-set}
 use lib.Seq.{getD-set-same, getD-set-other, set-getD}
-use borrow.Rule.Slice.PartMut.{putMid, midOf}
-use borrow.Author.Tests.{eqb-true, eqb-false, eq-eqb, ltb-true}
-use Rattle.words.specs.Regions.{mid-long, mid-set-before}
-use Rattle.values.specs.Table.{Values, valueIn, valueOf, recordedSlot, representative, orItself, store}
+use borrow.Rule.Slice.PartMut.{midOf}
+use borrow.Author.Tests.{eqb-true, eqb-false, eq-eqb}
+use Rattle.words.specs.Regions.{mid-set-before}
+use Rattle.values.specs.Table.{Values, valueOf, recordedSlot, representative, orItself, store}
 use Rattle.values.specs.Entries.{Linked}
 use Rattle.values.specs.Adding.{next-epoch}
 use Rattle.values.specs.Memory.{marksAt, constantsAt, expressionsAt, endAt, Memory, memoryOf, numberAt, markedAt, slotOr, usableIn, usableAt, slotFound, limit, Ordered, Ready, atomIn, Holds}
 use Rattle.values.specs.Kept.{Kept, Same, Clears, Represents, Stores}
 use Rattle.values.specs.declared.Found.{Found}
 use Rattle.values.specs.declared.Found.the-variants.{At, Nothing}
-use Rattle.values.proofs.Holding.{turned, number-same, mark-same, mark-ordered, mark-holds, put-ordered, put-number, put-holds, nothing-ordered, nothing-holds, usable-holds, usable-low}
+use Rattle.values.proofs.Holding.{turned, number-same, mark-same, marked-word, marked-low, mark-ordered, mark-holds, put-ordered, put-number, put-holds, nothing-ordered, nothing-holds, usable-holds, usable-marked}
 
 -- a word of a slot or a mark stored: the counts and the tables of entries are as they were
 set-memory : (n S : ℕ) (t : List ℕ) (i w : ℕ) → 3 ≤ i → i < constantsAt n S
@@ -34,20 +34,8 @@ set-memory n S t i w l h =
     )
 
 -- the word of the mark of a slot that is found to be usable
-recorded-word : (n S : ℕ) (m : Memory) (types : List ℕ) (d type r : ℕ) → usableAt n S types m d type ≡ At r → 65536 * m .epoch + r ≡ m .mark d
-unfolding usableIn markedAt
-recorded-word n S m types d type r u = go (eqb (m .mark d / 65536) (m .epoch)) refl u
-  where
-    is : (q : ℕ) (x y : Bool) → cond x (cond y (At q) Nothing) Nothing ≡ At r → q ≡ r
-    is q true true z = cc
-    is q true false z = let w : _≡_ {A = ℕ} 0 1 = cc in absurd (omega arith)
-    is q false y z = let w : _≡_ {A = ℕ} 0 1 = cc in absurd (omega arith)
-
-    go : (p : Bool) → eqb (m .mark d / 65536) (m .epoch) ≡ p → usableIn n S types m d type (cond p (At (m .mark d % 65536)) Nothing) ≡ At r → 65536 * m .epoch + r ≡ m .mark d
-    go true e z =
-        let same = is (m .mark d % 65536) (ltb (m .mark d % 65536) S) (eqb (numberAt m (m .mark d % 65536)) d && eqb (getD types (m .mark d % 65536) 0) type) z in
-        let epoch = eqb-true (m .mark d / 65536) (m .epoch) e in omega arith
-    go false e z = let w : _≡_ {A = ℕ} 0 1 = cc in absurd (omega arith)
+recorded-word : (m : Memory) (types : List ℕ) (d type r : ℕ) → usableAt types m d type ≡ At r → 65536 * m .epoch + r ≡ m .mark d
+recorded-word m types d type r u = let w = marked-word m d (usable-marked types m d type (markedAt m d) u .0) in omega arith
 
 module _ {n S : ℕ} {t : List ℕ} (g : Ready n S t) where
   abbrev m : Memory
@@ -148,16 +136,16 @@ module _ {n S : ℕ} {t : List ℕ} (g : Ready n S t) where
     value : (dest : ℕ → ℕ) {v : Values} → Holds n S dest v m → valueOf v s ≡ atomIn n S dest m d
     value dest h = sym (h .slots s low) ∙ ap (atomIn n S dest m) (sym is)
 
-    represent-found : {f : Found} {r : ℕ} → f ≡ usableAt n S types (memoryOf n S t) d (getD types s 0) → f ≡ At r → Represents n S types t s d r t
+    represent-found : {f : Found} {r : ℕ} → f ≡ usableAt types (memoryOf n S t) d (getD types s 0) → f ≡ At r → Represents n S types t s d r t
     unfolding representative orItself slotFound
     represent-found {f} {r} e q =
-        let found : usableAt n S types m d (getD types s 0) ≡ At r = sym e ∙ q in
-        let lower = usable-low n S few types m d (getD types s 0) (markedAt m d) r found in
+        let found : usableAt types m d (getD types s 0) ≡ At r = sym e ∙ q in
+        let marked = usable-marked types m d (getD types s 0) (markedAt m d) found in
         record {
           kept = unchanged;
           same = same-self;
-          low = lower .0;
-          number = lower .1;
+          low = marked-low (g .order) d used (marked .0);
+          number = marked .1;
           holds = λ dest v h.
               let known : some r ≡ recordedSlot types v (valueOf v s) (getD types s 0)
               = ap slotFound (sym found) ∙ usable-holds n S few (g .order) dest h types d (getD types s 0) used ∙ ap (λ x. recordedSlot types v x (getD types s 0)) (sym (value dest h)) in
@@ -182,10 +170,10 @@ module _ {n S : ℕ} {t : List ℕ} (g : Ready n S t) where
     there₁ : (e : ℕ) → (e ≡ d → ⊥) → getD t₁ (marksAt S + e) 0 ≡ getD t (marksAt S + e) 0
     there₁ e f = getD-set-other t (3 + S + d) (marksAt S + e) (65536 * getD t 0 0 + s) 0 (λ q. f (omega arith))
 
-    represent-itself : {f : Found} → f ≡ usableAt n S types (memoryOf n S t) d (getD types s 0) → f ≡ Nothing → Represents n S types t s d s (set t (3 + S + d) (65536 * getD t 0 0 + s))
+    represent-itself : {f : Found} → f ≡ usableAt types (memoryOf n S t) d (getD types s 0) → f ≡ Nothing → Represents n S types t s d s (set t (3 + S + d) (65536 * getD t 0 0 + s))
     unfolding representative orItself slotFound
     represent-itself {f} e q =
-        let found : usableAt n S types m d (getD types s 0) ≡ Nothing = sym e ∙ q in
+        let found : usableAt types m d (getD types s 0) ≡ Nothing = sym e ∙ q in
         record {
           kept = kept-as memory₁ refl (length-set t (3 + S + d) (65536 * getD t 0 0 + s))
               (mark-ordered n S few (g .order) d s low used (λ r. getD t₁ (3 + r) 0) (λ e. getD t₁ (marksAt S + e) 0) slots₁ here₁ there₁) (omega arith) (omega arith);
@@ -199,12 +187,12 @@ module _ {n S : ℕ} {t : List ℕ} (g : Ready n S t) where
         }
 
     -- either way that slot is recorded
-    pub represents : (r : ℕ) → r ≡ slotOr s (usableAt n S types (memoryOf n S t) d (getD types s 0)) → Represents n S types t s d r (set t (3 + S + d) (65536 * getD t 0 0 + r))
+    pub represents : (r : ℕ) → r ≡ slotOr s (usableAt types (memoryOf n S t) d (getD types s 0)) → Represents n S types t s d r (set t (3 + S + d) (65536 * getD t 0 0 + r))
     unfolding slotOr
-    represents r e = go (usableAt n S types m d (getD types s 0)) refl e
+    represents r e = go (usableAt types m d (getD types s 0)) refl e
       where
-        go : (f : Found) → usableAt n S types m d (getD types s 0) ≡ f → r ≡ slotOr s f → Represents n S types t s d r (set t (3 + S + d) (65536 * getD t 0 0 + r))
-        go (At q) u k = rw (k, recorded-word n S m types d (getD types s 0) q u, set-getD t (3 + S + d) 0) (represent-found refl u)
+        go : (f : Found) → usableAt types m d (getD types s 0) ≡ f → r ≡ slotOr s f → Represents n S types t s d r (set t (3 + S + d) (65536 * getD t 0 0 + r))
+        go (At q) u k = rw (k, recorded-word m types d (getD types s 0) q u, set-getD t (3 + S + d) 0) (represent-found refl u)
         go Nothing u k = rw k (represent-itself refl u)
 
   -- a number stored in a slot, before the slot is represented
@@ -263,9 +251,9 @@ module _ {n S : ℕ} {t : List ℕ} (g : Ready n S t) where
     m₂ = turned m (λ r. getD t₂ (3 + r) 0) (λ e. getD t₂ (marksAt S + e) 0)
 
     -- whether a slot other than s is usable is as before
-    usable₂ : (types : List ℕ) → slotOr s (usableAt n S types (memoryOf n S t₂) d (getD types s 0)) ≡ slotOr s (usableAt n S types m d (getD types s 0))
+    usable₂ : (types : List ℕ) → slotOr s (usableAt types (memoryOf n S t₂) d (getD types s 0)) ≡ slotOr s (usableAt types m d (getD types s 0))
     unfolding usableIn slotOr
-    usable₂ types = rw (memory₂, mark-same m m₂ d refl (marks₂ d)) (go (markedAt m d))
+    usable₂ types = rw (memory₂, mark-same m m₂ d refl (marks₂ d)) (go (markedAt m d) refl)
       where
         own : numberAt m₂ s ≡ d
         own = put-number n S few (g .order) s d low used (λ r. getD t₂ (3 + r) 0) (λ e. getD t₂ (marksAt S + e) 0) here₂ there₂ marks₂
@@ -274,16 +262,15 @@ module _ {n S : ℕ} {t : List ℕ} (g : Ready n S t) where
         here true = refl
         here false = refl
 
-        at : (r : ℕ) (x : Bool) → ltb r S ≡ x → (y : Bool) → eqb r s ≡ y
-            → slotOr s (cond x (cond (eqb (numberAt m₂ r) d && eqb (getD types r 0) (getD types s 0)) (At r) Nothing) Nothing)
-            ≡ slotOr s (cond x (cond (eqb (numberAt m r) d && eqb (getD types r 0) (getD types s 0)) (At r) Nothing) Nothing)
-        at r true l true e = rw (eqb-true r s e, own, eq-eqb d d refl, eq-eqb (getD types s 0) (getD types s 0) refl) (here (eqb (numberAt m s) d && true))
-        at r true l false e = rw (number-same m m₂ r refl (there₂ r (ltb-true r S l) (eqb-false r s e)))
-        at r false l y e = refl
+        at : (r : ℕ) → r < S → (y : Bool) → eqb r s ≡ y
+            → slotOr s (cond (eqb (numberAt m₂ r) d && eqb (getD types r 0) (getD types s 0)) (At r) Nothing)
+            ≡ slotOr s (cond (eqb (numberAt m r) d && eqb (getD types r 0) (getD types s 0)) (At r) Nothing)
+        at r l true e = rw (eqb-true r s e, own, eq-eqb d d refl, eq-eqb (getD types s 0) (getD types s 0) refl) (here (eqb (numberAt m s) d && true))
+        at r l false e = rw (number-same m m₂ r refl (there₂ r l (eqb-false r s e)))
 
-        go : (f : Found) → slotOr s (usableIn n S types m₂ d (getD types s 0) f) ≡ slotOr s (usableIn n S types m d (getD types s 0) f)
-        go Nothing = refl
-        go (At r) = at r (ltb r S) refl (eqb r s) refl
+        go : (f : Found) → markedAt m d ≡ f → slotOr s (usableIn types m₂ d (getD types s 0) f) ≡ slotOr s (usableIn types m d (getD types s 0) f)
+        go Nothing e = refl
+        go (At r) e = at r (marked-low (g .order) d used e) (eqb r s) refl
 
 -- A number stored in a slot: the slot that was usable for it stays recorded, or the slot itself is.
 module _ {n S : ℕ} {t : List ℕ} (g : Ready n S t) (s d : ℕ) (low : s < S) (used : d < limit n S (memoryOf n S t)) (types : List ℕ) where
@@ -291,20 +278,20 @@ module _ {n S : ℕ} {t : List ℕ} (g : Ready n S t) (s d : ℕ) (low : s < S) 
   abbrev put : List ℕ
   put = set t (3 + s) (4294967296 * getD t 0 0 + d)
 
-  recorded : (r : ℕ) → slotOr s (usableAt n S types (memoryOf n S t) d (getD types s 0)) ≡ r → Represents n S types put s d r (set put (3 + S + d) (65536 * getD t 0 0 + r))
+  recorded : (r : ℕ) → slotOr s (usableAt types (memoryOf n S t) d (getD types s 0)) ≡ r → Represents n S types put s d r (set put (3 + S + d) (65536 * getD t 0 0 + r))
   recorded r e =
       let b : Represents n S types put s d r (set put (3 + S + d) (65536 * getD put 0 0 + r)) = represents (put-ready g s d low used) types s d low (put-is g s d low used) r (sym (usable₂ g s d low used types ∙ e)) in
       rw (epoch₂ g s d low used) at b
 
-  pub store-found : {f : Found} {r : ℕ} → f ≡ usableAt n S types (memoryOf n S t) d (getD types s 0) → f ≡ At r → Stores n S types t s d (set t (3 + s) (4294967296 * getD t 0 0 + d))
+  pub store-found : {f : Found} {r : ℕ} → f ≡ usableAt types (memoryOf n S t) d (getD types s 0) → f ≡ At r → Stores n S types t s d (set t (3 + s) (4294967296 * getD t 0 0 + d))
   unfolding slotOr
   store-found {f} {r} e q =
-      let found : usableAt n S types (memoryOf n S t) d (getD types s 0) ≡ At r = sym e ∙ q in
-      let word : 65536 * getD t 0 0 + r ≡ getD put (3 + S + d) 0 = recorded-word n S (memoryOf n S t) types d (getD types s 0) r found ∙ sym (marks₂ g s d low used d) in
+      let found : usableAt types (memoryOf n S t) d (getD types s 0) ≡ At r = sym e ∙ q in
+      let word : 65536 * getD t 0 0 + r ≡ getD put (3 + S + d) 0 = recorded-word (memoryOf n S t) types d (getD types s 0) r found ∙ sym (marks₂ g s d low used d) in
       let same : set put (3 + S + d) (65536 * getD t 0 0 + r) ≡ put = ap (set put (3 + S + d)) word ∙ set-getD put (3 + S + d) 0 in
       stores g s d low used types (rw same at (recorded r (ap (slotOr s) found)))
 
-  pub store-itself : {f : Found} → f ≡ usableAt n S types (memoryOf n S t) d (getD types s 0) → f ≡ Nothing
+  pub store-itself : {f : Found} → f ≡ usableAt types (memoryOf n S t) d (getD types s 0) → f ≡ Nothing
       → Stores n S types t s d (set (set t (3 + s) (4294967296 * getD t 0 0 + d)) (3 + S + d) (65536 * getD t 0 0 + s))
   unfolding slotOr
   store-itself {f} e q = stores g s d low used types (recorded s (ap (slotOr s) (sym e ∙ q)))

@@ -7,7 +7,7 @@ use mathlib.Core.Bool.{Bool, cond, _&&_}
 use mathlib.Core.List.{List}
 use Prim.Native.Nat.{ℕ, zero, suc, _+_, _*_, _/_, _%_, _^_, _≤_, _<_}
 use lib.ListN.{length, getD}
-use lib.Dec.{eqb}
+use lib.Dec.{eqb, ltb}
 
 pub record Key : Type 0 where
   pub left : ℕ
@@ -38,12 +38,13 @@ childOf x path = cond (eqb (path % 2) 0) x (x / 4294967296) % 4294967296
 unfoldable pub linkOf : ℕ → ℕ → ℕ
 linkOf i path = cond (eqb (path % 2) 0) i (4294967296 * i)
 
--- the bucket of a key: the high 32 bits of a sum of products, scaled to h
+-- a sum of products by odd constants
 unfoldable pub mixed : Key → ℕ
 mixed k = (k .left * 11400714819323198485 % 2 ^ 64 + k .right * 14029467366897019727 % 2 ^ 64) % 2 ^ 64
 
+-- the bucket of a key: its first word where that is below h, or the high 32 bits of the mixed key, scaled to h
 unfoldable pub bucketOf : ℕ → Key → ℕ
-bucketOf h k = mixed k / 4294967296 * h / 4294967296
+bucketOf h k = cond (ltb (k .left) h) (k .left) (mixed k / 4294967296 * h / 4294967296)
 
 abbrev pub bucketAt : List ℕ → ℕ → ℕ → ℕ
 bucketAt w h j = bucketOf h (keyAt w h j)

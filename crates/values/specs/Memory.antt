@@ -90,9 +90,17 @@ unfoldable pub slotOr : ℕ → Found → ℕ
 slotOr s (At r) = r
 slotOr s Nothing = s
 
--- the slot, of S, that was recorded for a number in this epoch, or slot s
-abbrev pub markedOr : ℕ → Memory → ℕ → ℕ → ℕ
-markedOr S m d s = cond (eqb (m .mark d / 65536) (m .epoch) && ltb (m .mark d % 65536) S) (m .mark d % 65536) s
+-- the slot that was recorded for a number in this epoch, or slot s
+abbrev pub markedOr : Memory → ℕ → ℕ → ℕ
+markedOr m d s = cond (eqb (m .mark d / 65536) (m .epoch)) (m .mark d % 65536) s
+
+-- the recorded slot where it still has the number and has the type
+unfoldable pub usableIn : List ℕ → Memory → ℕ → ℕ → Found → Found
+usableIn types m d type Nothing = Nothing
+usableIn types m d type (At r) = cond (eqb (numberAt m r) d && eqb (getD types r 0) type) (At r) Nothing
+
+abbrev pub usableAt : List ℕ → Memory → ℕ → ℕ → Found
+usableAt types m d type = usableIn types m d type (markedAt m d)
 
 module _ (n S : ℕ) where
   -- the numbers in use: one for each slot's value at the block's start, one for each place, one for Integer 0, then the constants
@@ -112,14 +120,6 @@ module _ (n S : ℕ) where
       cond (ltb d (S + n)) none
       (cond (eqb d (S + n)) (some 0) (cond (eqb (keyAt c n (d - (S + n + 1)) .right) 0) (some (keyAt c n (d - (S + n + 1)) .left)) none))
 
-  -- the recorded slot where it still has the number and has the type
-  unfoldable pub usableIn : List ℕ → Memory → ℕ → ℕ → Found → Found
-  usableIn types m d type Nothing = Nothing
-  usableIn types m d type (At r) = cond (ltb r S) (cond (eqb (numberAt m r) d && eqb (getD types r 0) type) (At r) Nothing) Nothing
-
-  abbrev pub usableAt : List ℕ → Memory → ℕ → ℕ → Found
-  usableAt types m d type = usableIn types m d type (markedAt m d)
-
   -- the number of an expression's value
   unfoldable pub expressionIf : List ℕ → ℕ → Found
   expressionIf w zero = Nothing
@@ -137,6 +137,8 @@ module _ (n S : ℕ) where
     pub few-expressions : m .expressions ≤ n
     pub slots-past : (s : ℕ) → s < S → m .slot s / 4294967296 ≤ m .epoch
     pub marks-past : (d : ℕ) → d < S + 2 * n + 1 → m .mark d / 65536 ≤ m .epoch
+    -- a mark of this epoch names a slot
+    pub marks-low : (d : ℕ) → d < S + 2 * n + 1 → m .mark d / 65536 ≡ m .epoch → m .mark d % 65536 < S
     -- no number that is not in use has a mark
     pub fresh : (d : ℕ) → limit m ≤ d → d < S + 2 * n + 1 → m .mark d / 65536 < m .epoch
     -- slots, and expressions with their values, have numbers in use
@@ -172,7 +174,6 @@ module _ (n S : ℕ) (dest : ℕ → ℕ) where
   pub record Holds (v : Values) (m : Memory) : Type 0 where
     pub slots : (s : ℕ) → s < S → atomIn m (numberAt m s) ≡ valueIn (v .slots) s
     pub recorded : (d : ℕ) → d < limit n S m → slotFound (markedAt m d) ≡ slotIn (v .recorded) (atomIn m d)
-    pub recorded-low : (w : Atom) (r : ℕ) → slotIn (v .recorded) w ≡ some r → r < S
     pub recorded-numbered : (w : Atom) (r : ℕ) → slotIn (v .recorded) w ≡ some r → HasNumber m w
     pub expressions : (op flags left right : ℕ) → op < 256 → flags < 256 → left < limit n S m → right < limit n S m
         → atomFound m (expressionAt n S m (expressionKey op flags left right))

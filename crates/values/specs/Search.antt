@@ -6,8 +6,8 @@ use mathlib.Core.List.{List}
 use Prim.Native.Nat.{ℕ, zero, suc, _*_, _-_, _/_, _^_, _≤_, _<_}
 use native.Mathlib.Nat.{mul-lt-mul-of-pos-right, mul-le-mul}
 use native.Mathlib.Omega.{arith}
-use lib.Dec.{eqb}
-use borrow.Author.Tests.{eqb-true, eq-eqb}
+use lib.Dec.{eqb, ltb}
+use borrow.Author.Tests.{eqb-true, eq-eqb, ltb-true}
 use Rattle.words.specs.Truth.{both}
 use Rattle.values.specs.Entries.{Key, key, keyAt, links, childOf, mixed, bucketOf, headAt, sameKey, newest, Leads, here, down, Linked}
 
@@ -53,7 +53,11 @@ scaled-fits m h l p =
 
 pub bucket-low : (h : ℕ) (k : Key) → 0 < h → bucketOf h k < h
 unfolding bucketOf mixed
-bucket-low h k l = scaled-low (mixed k / 4294967296) h (omega arith) l
+bucket-low h k l = go (ltb (k .left) h) refl
+  where
+    go : (t : Bool) → ltb (k .left) h ≡ t → cond t (k .left) (mixed k / 4294967296 * h / 4294967296) < h
+    go true e = ltb-true (k .left) h e
+    go false e = scaled-low (mixed k / 4294967296) h (omega arith) l
 
 -- no path leads on from 0
 pub leads-none : {w : List ℕ} {h path j : ℕ} → Leads w h path 0 (suc j) → ⊥

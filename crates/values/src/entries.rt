@@ -1,8 +1,8 @@
-// A table in one lent buffer `w`: `h` heads, then `count` entries of 4 words (a key of two, a value and two links of 32 bits). Each
-// bucket is a search tree: at an entry with another key, a look-up goes down to the side that the next bit of the key's first word
-// names, the lowest bit first. So it passes at most 64 entries with another first word, also where the keys were chosen to fall
-// into one bucket. A head has the epoch in which it was set: to clear the table is to go on to the next epoch with no entries. It
-// stands in for the `HashMap`s of `Values`.
+// A table in one lent buffer `w`: `h` heads, then `count` entries of 4 words (a key of two, a value and two links of 32 bits). A key's
+// bucket is its first word where that is below `h`, and a hash otherwise. Each bucket is a search tree: at an entry with another key,
+// a look-up goes down to the side that the next bit of the key's first word names, the lowest bit first. So it passes at most 64
+// entries with another first word, also where the keys were chosen to fall into one bucket. A head has the epoch in which it was set:
+// to clear the table is to go on to the next epoch with no entries. It stands in for the `HashMap`s of `Values`.
 ghost use mathlib.Core.Path.{_≡_};
 ghost use Prim.Native.Nat.{_+_, _*_, _≤_, _<_};
 ghost use lib.ListN.{length};
@@ -18,13 +18,19 @@ fn mix(left: u64, right: u64) -> u64
     std::num::wrapping_add_u64(x, y)
 }
 
-// The bucket of a key, by its high 32 bits.
+// The bucket of a key: a small first word is its own, so that the heads of small constants, the most frequent ones, lie side by
+// side; of others, by the high 32 bits of the mixed key.
 pub fn bucket(h: usize, left: u64, right: u64) -> usize
     requires { ⌜ (0 < h) × (h ≤ 65536) ⌝ }
     ensures { λ r. ⌜ (r ≡ bucketOf h (key left right)) × (r < h) ⌝ }
 {
     let high = (mix(left, right) / 4294967296) as usize;
-    high * h / 4294967296
+    let mixed = high * h / 4294967296;
+    if left < h as u64 {
+        left as usize
+    } else {
+        mixed
+    }
 }
 
 // The first entry of a bucket, counted from 1, or 0.

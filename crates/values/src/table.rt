@@ -51,7 +51,7 @@ fn marked(t: &[u64], n: usize, locals: usize, d: u64) -> Found
 // That slot "if it still holds the value and has the same type".
 pub fn usable(t: &[u64], types: &[u8], n: usize, d: u64, kind: u8) -> Found
     requires { ⌜ Ready n (length (now types)) (now t) × (d < limit n (length (now types)) (memoryOf n (length (now types)) (now t))) ⌝ }
-    ensures { λ r. ⌜ r ≡ usableAt n (length (now (types .entry))) (now (types .entry)) (memoryOf n (length (now (types .entry))) (now (t .entry))) d kind ⌝ }
+    ensures { λ r. ⌜ r ≡ usableAt (now (types .entry)) (memoryOf n (length (now (types .entry))) (now (t .entry))) d kind ⌝ }
 {
     let locals = types.len();
     let found = marked(t, n, locals, d);
@@ -59,9 +59,6 @@ pub fn usable(t: &[u64], types: &[u8], n: usize, d: u64, kind: u8) -> Found
         return Found::Nothing;
     };
     let at = r as usize;
-    if locals <= at {
-        return Found::Nothing;
-    }
     if (number(t, n, locals, at as u16) == d) & (types[at] == kind) {
         return Found::At(r);
     }
@@ -71,12 +68,11 @@ pub fn usable(t: &[u64], types: &[u8], n: usize, d: u64, kind: u8) -> Found
 // The slot that is recorded for the number d, or s.
 fn marked_or(t: &[u64], n: usize, locals: usize, d: u64, s: u16) -> u16
     requires { ⌜ Ready n locals (now t) × (d < limit n locals (memoryOf n locals (now t))) × (s < locals) ⌝ }
-    ensures { λ r. ⌜ (r ≡ markedOr locals (memoryOf n locals (now (t .entry))) d s) × (r < locals) ⌝ }
+    ensures { λ r. ⌜ (r ≡ markedOr (memoryOf n locals (now (t .entry))) d s) × (r < locals) ⌝ }
 {
     let w = t[3 + locals + (d as usize)];
-    let r = w % 65536;
-    if (w / 65536 == t[0]) & ((r as usize) < locals) {
-        return r as u16;
+    if w / 65536 == t[0] {
+        return (w % 65536) as u16;
     }
     s
 }
@@ -85,7 +81,7 @@ fn marked_or(t: &[u64], n: usize, locals: usize, d: u64, s: u16) -> u16
 // branch to predict.
 fn usable_or(t: &[u64], types: &[u8], n: usize, d: u64, s: u16) -> u16
     requires { ⌜ Ready n (length (now types)) (now t) × (s < length (now types)) × (d ≡ numberAt (memoryOf n (length (now types)) (now t)) s) ⌝ }
-    ensures { λ r. ⌜ r ≡ slotOr s (usableAt n (length (now (types .entry))) (now (types .entry)) (memoryOf n (length (now (types .entry))) (now (t .entry))) d (getD (now (types .entry)) s 0)) ⌝ }
+    ensures { λ r. ⌜ r ≡ slotOr s (usableAt (now (types .entry)) (memoryOf n (length (now (types .entry))) (now (t .entry))) d (getD (now (types .entry)) s 0)) ⌝ }
 {
     let locals = types.len();
     let c = marked_or(t, n, locals, d, s);
@@ -111,7 +107,7 @@ pub fn representative(t: &mut [u64], types: &[u8], n: usize, s: u16, d: u64) -> 
 // answer is the former.
 pub fn store(t: &mut [u64], types: &[u8], n: usize, s: u16, d: u64) -> Found
     requires { ⌜ Ready n (length (now types)) (now t) × (s < length (now types)) × (d < limit n (length (now types)) (memoryOf n (length (now types)) (now t))) ⌝ }
-    ensures { λ r. ⌜ (r ≡ usableAt n (length (now (types .entry))) (now (types .entry)) (memoryOf n (length (now (types .entry))) (now (t .entry))) d (getD (now (types .entry)) s 0)) × Stores n (length (now (types .entry))) (now (types .entry)) (now (t .entry)) s d (now (t .exit)) ⌝ }
+    ensures { λ r. ⌜ (r ≡ usableAt (now (types .entry)) (memoryOf n (length (now (types .entry))) (now (t .entry))) d (getD (now (types .entry)) s 0)) × Stores n (length (now (types .entry))) (now (types .entry)) (now (t .entry)) s d (now (t .exit)) ⌝ }
 {
     let epoch = t[0];
     let at = s as usize;

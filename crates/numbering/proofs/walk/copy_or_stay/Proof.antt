@@ -6,7 +6,10 @@ use Rattle.numbering.proofs.walk.copy_or_stay.Statement.{statement}
 use Rattle.numbering.proofs.walk.copy_or_stay.Tie as tie
 
 cast-new : tie.Need-cast-new
-cast-new c = record { fits = found-fits (c .before .before .before .before .before .before .before .before .before .pre .0) _ _ _ (c .before .before .before .before .before .store .ensures .0) (c .before .r .given .1) }
+cast-new c =
+    let s = c .before .before .before .before .before in
+    let h = s .before .before .before .before .pre in
+    record { fits = found-fits (h .0) _ _ _ (h .2) (s .store .ensures .0) (c .before .r .given .1) }
 
 returns : tie.Need-returns
 returns c =
