@@ -3,11 +3,10 @@
 -- specification; comparisons and BoolNot give 1 or 0; Trunc keeps the low 1, 2 or 4 bytes by flags modulo 128 (otherwise the
 -- whole word), sign-extended where flags reach 128."
 -- Assumes nothing.
-use mathlib.Core.Bool.{Bool, true, false, cond, not}
+use mathlib.Core.Bool.{Bool, true, cond, not}
 use mathlib.Core.List.{List, [], _∷_}
 use Prim.Native.Nat.{ℕ, zero, suc, _+_, _*_, _-_, _/_, _%_, _^_, min, max}
 use lib.Dec.{eqb, leb, ltb}
-use Rattle.words.specs.Lists.{isIn}
 use Rattle.words.specs.Word.{signedLess, signExtend}
 use Rattle.instruction.specs.Opcode as op
 

@@ -1,9 +1,9 @@
 -- The walk over the function: each instruction rewritten by the values known before it.
 -- Assumes nothing.
-use mathlib.Core.Bool.{Bool, true, false, cond, _&&_, _||_, not}
+use mathlib.Core.Bool.{Bool, cond, _&&_, _||_, not}
 use mathlib.Core.List.{List, [], _∷_}
 use mathlib.Core.Option.{Option, none, some}
-use Prim.Native.Nat.{ℕ, suc, _%_, _/_, _^_}
+use Prim.Native.Nat.{ℕ, suc, _%_, _^_}
 use lib.Dec.{eqb}
 use lib.ListN.{getD}
 use Rattle.words.specs.Lists.{isIn}
@@ -19,7 +19,7 @@ use Rattle.effects.specs.Shape.{Sections, Cell}
 use Rattle.values.specs.declared.Atom.{Atom}
 use Rattle.values.specs.declared.Atom.the-variants.{Integer, Float, Definition}
 use Rattle.values.specs.Fold.{foldingUnary, foldingBinary, foldWord, fitsImm32}
-use Rattle.values.specs.Table.{Values, Expression, Represented, empty, valueOf, recordedSlot, representative, store, learn, expressionIn}
+use Rattle.values.specs.Table.{Values, Expression, empty, valueOf, recordedSlot, representative, store, learn, expressionIn}
 
 -- an instruction as it becomes, and the table after it
 pub record Numbered : Type 0 where

@@ -1,7 +1,7 @@
 -- The table of values: "Within a block a slot's value is a known 64-bit integer, a float constant's bits, or a definition."
 -- Lists of entries, newest first: the first entry of a key counts.
 -- Assumes nothing.
-use mathlib.Core.Bool.{Bool, true, false, cond, _&&_}
+use mathlib.Core.Bool.{Bool, false, cond, _&&_}
 use mathlib.Core.List.{List, [], _∷_}
 use mathlib.Core.Option.{Option, none, some}
 use Prim.Native.Nat.{ℕ}

@@ -3,7 +3,6 @@ use mathlib.Core.Path.{sym}
 use mathlib.Core.List.{List, [], _∷_}
 use Prim.Native.Nat.{ℕ}
 use types.Run.{miss}
-use borrow.Author.Needs.{needs}
 use Rattle.numbering.proofs.walk.is_operator.Statement.{statement}
 use Rattle.numbering.proofs.walk.is_operator.Tie as tie
 
