@@ -12,7 +12,7 @@ ghost use Rattle.values.specs.Table.{valueOf, expressionIn, recordedSlot, learn
 ghost use Rattle.values.specs.Number.{loadOrStay, copyOrStay, constantAtom, stored as storedBy, byExpression, byValue, numberCopy, numberConstant, numberRead, numberJump, numberBy, number, numberCode};
 ghost use Rattle.values.specs.Folded.{expressionOf};
 ghost use Rattle.values.specs.Memory.{memoryOf, constantOf, constantKey, expressionKey, limit, expressionAt, atomIn, endAt, Ready};
-ghost use Rattle.values.specs.Entries.{key, bucketOf};
+ghost use Rattle.values.specs.Entries.{key, bucketOf, headAt};
 ghost use Rattle.values.specs.Kept.{Clears};
 ghost use Rattle.numbering.specs.Walk.{wordOf, Stands, Becomes, Room, Coded, Second, secondNumber, foldBy, binaryClass, operatorClass, onZero, atomOf, KindOf, operated, scalarIn, pureBy, undecidedBy, takes, otherBy, sectionsOf, Begins, Enters, Turns, Numberable};
 ghost use Rattle.values.specs.Named.{Named};
@@ -104,14 +104,15 @@ fn define(
     i: Instruction,
     p: u32,
     b: usize,
+    first: u64,
     word: u64,
 ) -> Instruction
-    requires { ⌜ Room n (length (now types)) (now t) × (i .a < length (now types)) × (p < n) × (b ≡ bucketOf n (key word 0)) × (b < n) × Coded n (length (now types)) (memoryOf n (length (now types)) (now t)) word × (expressionAt n (length (now types)) (memoryOf n (length (now types)) (now t)) (key word 0) ≡ Nothing) ⌝ }
+    requires { ⌜ Room n (length (now types)) (now t) × (i .a < length (now types)) × (p < n) × (b ≡ bucketOf n (key word 0)) × (b < n) × (first ≡ headAt (memoryOf n (length (now types)) (now t) .expressionTable) (memoryOf n (length (now types)) (now t) .epoch) b) × Coded n (length (now types)) (memoryOf n (length (now types)) (now t)) word × (expressionAt n (length (now types)) (memoryOf n (length (now types)) (now t)) (key word 0) ≡ Nothing) ⌝ }
     ensures { λ r. ⌜ ((op flags left right : ℕ) → op < 256 → flags < 256 → left < limit n (length (now (types .entry))) (memoryOf n (length (now (types .entry))) (now (t .entry))) → right < limit n (length (now (types .entry))) (memoryOf n (length (now (types .entry))) (now (t .entry))) → key word 0 ≡ expressionKey op flags left right → Becomes n (now (types .entry)) 0 0 1 (now (t .entry)) r (now (t .exit)) (λ dest constants. Stands n p i dest) (λ dest S x. storedBy S i (learn x (expressionOf op flags (atomIn n (length (now (types .entry))) dest (memoryOf n (length (now (types .entry))) (now (t .entry))) left) (atomIn n (length (now (types .entry))) dest (memoryOf n (length (now (types .entry))) (now (t .entry))) right)) (Definition p (i .a))) (Definition p (i .a)))) ⌝ }
 {
     let locals = types.len();
     let d = (locals + (p as usize)) as u64;
-    table::learn(t, n, locals, b, word, d);
+    table::learn(t, n, locals, b, first, word, d);
     store(t, types, n, i, d)
 }
 
@@ -130,9 +131,10 @@ fn by_expression(
 {
     let word = expression_word(i.op, i.flags, left, right);
     let b = entries::bucket(n, word, 0);
-    match table::find_expression(&t[..], n, types.len(), b, word) {
+    let first = table::first_expression(&t[..], n, types.len(), b);
+    match table::find_expression(&t[..], n, types.len(), first, word) {
         Found::At(d) => copy_or_stay(t, types, n, i, d),
-        Found::Nothing => define(t, types, n, i, p, b, word),
+        Found::Nothing => define(t, types, n, i, p, b, first, word),
     }
 }
 

@@ -189,7 +189,7 @@ module _ {w u : List ℕ} {h epoch count : ℕ} {k : Key} {v : ℕ} (g : Linked 
       }
 
 -- ---- what the code of `insert` is proved by
-module _ {w : List ℕ} {h epoch count b p : ℕ} {k : Key} (v : ℕ) (g : Addable w h epoch count b k) (f : p ≡ headAt w epoch b) where
+module _ {w : List ℕ} {h epoch count b p : ℕ} {k : Key} (v : ℕ) (g : Addable w h epoch count b p k) where
   abbrev x : List ℕ
   x = entered w (h + 4 * count) k v
 
@@ -217,7 +217,7 @@ module _ {w : List ℕ} {h epoch count b p : ℕ} {k : Key} (v : ℕ) (g : Addab
       head i m = go (eqb i b) refl
         where
           go : (t : Bool) → eqb i b ≡ t → (getD u i 0 / 4294967296 ≤ epoch) × Filled (suc count) (headAt w epoch i) (headAt u epoch i)
-          go true q = rw (eqb-true i b q, own .0, sym f ∙ z, own .1, add-one count) (omega arith, new)
+          go true q = rw (eqb-true i b q, own .0, sym (g .first) ∙ z, own .1, add-one count) (omega arith, new)
           go false q =
               let y : getD u i 0 ≡ getD w i 0 = away i (eqb-false i b q) ∙ head-kept i m in
               (rw y (g .linked .past i m), rw (head-same u w epoch i y) same)
@@ -240,7 +240,7 @@ module _ {w : List ℕ} {h epoch count b p : ℕ} {k : Key} (v : ℕ) (g : Addab
       later = λ j path m. rw (links-kept j m) (g .linked .forward .later j path m);
     },
     omega arith,
-    rw f (g .linked .heads b (g .low)),
+    rw (g .first) (g .linked .heads b (g .low)),
     g .few,
     simp length-set (omega (arith, g .room)),
   )
@@ -258,7 +258,7 @@ module _ {w : List ℕ} {h epoch count b p : ℕ} {k : Key} (v : ℕ) (g : Addab
             past = λ i m. rw (head i m) (g .linked .past i m);
             heads = λ i m. rw (head-same u w epoch i (head i m)) same;
             extends = λ j path m. rw (← links-kept j m) (s .extends j path m);
-            leads = rw (← g .bucket, head-same u w epoch b (head b (g .low)), ← f) (s .leads);
+            leads = rw (← g .bucket, head-same u w epoch b (head b (g .low)), ← g .first) (s .leads);
           }
 
 -- ---- an empty table: all heads are of an earlier epoch

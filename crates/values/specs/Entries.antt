@@ -102,11 +102,18 @@ pub record Attached (w u : List ℕ) (h count p path : ℕ) : Type 0 where
   pub extends : Extends w u h count
   pub leads : Leads u h path p (suc count)
 
--- what an insertion asks: room for one entry more, with a key of bucket b that has none
-pub record Addable (w : List ℕ) (h epoch count b : ℕ) (k : Key) : Type 0 where
+-- what a look-up asks: p is the head of the key's bucket, in the table's epoch
+pub record Findable (w : List ℕ) (h count p : ℕ) (k : Key) : Type 0 where
+  pub epoch : ℕ
+  pub linked : Linked w h epoch count
+  pub first : p ≡ headAt w epoch (bucketOf h k)
+
+-- what an insertion asks: room for one entry more, with a key that has none; its bucket is b, whose head is p
+pub record Addable (w : List ℕ) (h epoch count b p : ℕ) (k : Key) : Type 0 where
   pub linked : Linked w h epoch count
   pub bucket : b ≡ bucketOf h k
   pub low : b < h
+  pub first : p ≡ headAt w epoch b
   pub few : count < 65536
   pub room : h + 4 * count + 4 ≤ length w
   pub absent : newest w h count k ≡ 0

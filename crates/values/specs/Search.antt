@@ -89,11 +89,11 @@ pub record Walk (w : List ℕ) (h count : ℕ) (k : Key) (path p : ℕ) : Type 0
 
 module _ {w : List ℕ} {h epoch count : ℕ} {k : Key} (g : Linked w h epoch count) where
   -- from the head of the key's bucket
-  pub walk-start : {b p : ℕ} → b ≡ bucketOf h k → b < h → p ≡ headAt w epoch b → Walk w h count k (k .left) p
-  walk-start {b} {p} e l f =
+  pub walk-start : {p : ℕ} → p ≡ headAt w epoch (bucketOf h k) → Walk w h count k (k .left) p
+  walk-start f =
       record {
-        low = rw f (g .heads b l);
-        rest = λ j q. let found = newest-key w h k count j q in rw (f, e, ← found .1) (g .reached j (found .0));
+        low = rw f (g .heads (bucketOf h k) (bucket-low h k (g .some)));
+        rest = λ j q. let found = newest-key w h k count j q in rw (f, ← found .1) (g .reached j (found .0));
       }
 
   -- a turn, at entry p - 1

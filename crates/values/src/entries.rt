@@ -6,7 +6,7 @@
 ghost use mathlib.Core.Path.{_≡_};
 ghost use Prim.Native.Nat.{_+_, _*_, _≤_, _<_};
 ghost use lib.ListN.{length};
-ghost use Rattle.values.specs.Entries.{key, childOf, linkOf, mixed, bucketOf, headAt, sameKey, keyIn, newest, Forward, Linked, Attached, Addable, Added};
+ghost use Rattle.values.specs.Entries.{key, childOf, linkOf, mixed, bucketOf, headAt, sameKey, keyIn, newest, Forward, Attached, Findable, Addable, Added};
 use words::word;
 
 // A sum of products by odd constants: its high bits depend on all bits of the key.
@@ -34,7 +34,7 @@ pub fn bucket(h: usize, left: u64, right: u64) -> usize
 }
 
 // The first entry of a bucket, counted from 1, or 0.
-fn head(w: &[u64], epoch: u64, b: usize) -> u64
+pub fn head(w: &[u64], epoch: u64, b: usize) -> u64
     requires { ⌜ b < length (now w) ⌝ }
     ensures { λ r. ⌜ r ≡ headAt (now (w .entry)) epoch b ⌝ }
 {
@@ -68,13 +68,13 @@ fn link(entry: u64, path: u64) -> u64
     entry << (32 * (path % 2))
 }
 
-// The entry with the key, whose bucket is `b`, counted from 1, or 0.
-pub fn find(w: &[u64], h: usize, epoch: u64, count: usize, b: usize, left: u64, right: u64) -> usize
-    requires { ⌜ Linked (now w) h epoch count × (b ≡ bucketOf h (key left right)) × (b < h) ⌝ }
+// The entry with the key, whose bucket has the head `first`, counted from 1, or 0.
+pub fn find(w: &[u64], h: usize, count: usize, first: u64, left: u64, right: u64) -> usize
+    requires { ⌜ Findable (now w) h count first (key left right) ⌝ }
     ensures { λ r. ⌜ r ≡ newest (now (w .entry)) h count (key left right) ⌝ }
 {
     let mut path = left;
-    let mut p = head(w, epoch, b) as usize;
+    let mut p = first as usize;
     while p > 0 {
         let at = h + 4 * (p - 1);
         if holds(w, at, left, right) {
@@ -106,22 +106,22 @@ fn attach(w: &mut [u64], h: usize, count: usize, first: usize, left: u64)
     }
 }
 
-// One entry more, whose key has none yet.
+// One entry more, whose key has none yet. Its bucket has the head `first`, which the look-up before has read.
 pub fn insert(
     w: &mut [u64],
     h: usize,
     epoch: u64,
     count: usize,
     b: usize,
+    first: u64,
     left: u64,
     right: u64,
     v: u64,
 )
-    requires { ⌜ Addable (now w) h epoch count b (key left right) ⌝ }
+    requires { ⌜ Addable (now w) h epoch count b first (key left right) ⌝ }
     ensures { λ _. ⌜ Added (now (w .entry)) (now (w .exit)) h epoch count (key left right) v ⌝ }
 {
     let at = h + 4 * count;
-    let first = head(&w[..], epoch, b);
     w[at] = left;
     w[at + 1] = right;
     w[at + 2] = v;

@@ -5,7 +5,7 @@
 ghost use mathlib.Core.Path.{_≡_};
 ghost use Prim.Native.Nat.{ℕ, _+_, _*_, _≤_, _<_};
 ghost use lib.ListN.{length, getD};
-ghost use Rattle.values.specs.Entries.{key, bucketOf};
+ghost use Rattle.values.specs.Entries.{key, bucketOf, headAt};
 ghost use Rattle.values.specs.Folded.{integerOf};
 ghost use Rattle.values.specs.Memory.{memoryOf, numberAt, markedAt, markedOr, slotOr, usableAt, expressionAt, expressionKey, integerAt, limit, Ready};
 ghost use Rattle.values.specs.Kept.{Clears, Represents, Stores, Interns, Learns};
@@ -154,23 +154,34 @@ pub fn constant(t: &mut [u64], n: usize, locals: usize, kind: u64, bits: u64) ->
     let epoch = t[0];
     let count = t[1] as usize;
     let b = entries::bucket(n, bits, kind);
-    let f = entries::find(&t[start..end], n, epoch, count, b, bits, kind);
+    let first = entries::head(&t[start..end], epoch, b);
+    let f = entries::find(&t[start..end], n, count, first, bits, kind);
     if f > 0 {
         return (zero + f) as u64;
     }
-    entries::insert(&mut t[start..end], n, epoch, count, b, bits, kind, 0);
+    entries::insert(&mut t[start..end], n, epoch, count, b, first, bits, kind, 0);
     t[1] = (count + 1) as u64;
     (zero + 1 + count) as u64
 }
 
-// The number of an equal expression's value, by its key and its bucket.
-pub fn find_expression(t: &[u64], n: usize, locals: usize, b: usize, word: u64) -> Found
-    requires { ⌜ Ready n locals (now t) × (b ≡ bucketOf n (key word 0)) × (b < n) ⌝ }
+// The head of a bucket of expressions: `find_expression` and `learn` take it, so that it is read once.
+pub fn first_expression(t: &[u64], n: usize, locals: usize, b: usize) -> u64
+    requires { ⌜ Ready n locals (now t) × (b < n) ⌝ }
+    ensures { λ r. ⌜ r ≡ headAt (memoryOf n locals (now (t .entry)) .expressionTable) (memoryOf n locals (now (t .entry)) .epoch) b ⌝ }
+{
+    let start = 4 + 2 * locals + 7 * n;
+    let end = 4 + 2 * locals + 12 * n;
+    entries::head(&t[start..end], t[0], b)
+}
+
+// The number of an equal expression's value, by its key and the head of its bucket.
+pub fn find_expression(t: &[u64], n: usize, locals: usize, first: u64, word: u64) -> Found
+    requires { ⌜ Ready n locals (now t) × (first ≡ headAt (memoryOf n locals (now t) .expressionTable) (memoryOf n locals (now t) .epoch) (bucketOf n (key word 0))) ⌝ }
     ensures { λ r. ⌜ r ≡ expressionAt n locals (memoryOf n locals (now (t .entry))) (key word 0) ⌝ }
 {
     let start = 4 + 2 * locals + 7 * n;
     let end = 4 + 2 * locals + 12 * n;
-    let f = entries::find(&t[start..end], n, t[0], t[2] as usize, b, word, 0);
+    let f = entries::find(&t[start..end], n, t[2] as usize, first, word, 0);
     if f == 0 {
         return Found::Nothing;
     }
@@ -178,14 +189,14 @@ pub fn find_expression(t: &[u64], n: usize, locals: usize, b: usize, word: u64) 
 }
 
 // One expression more, which is not there yet: its value has the number d.
-pub fn learn(t: &mut [u64], n: usize, locals: usize, b: usize, word: u64, d: u64)
-    requires { ⌜ Ready n locals (now t) × (memoryOf n locals (now t) .expressions < n) × (b ≡ bucketOf n (key word 0)) × (b < n) × (d < limit n locals (memoryOf n locals (now t))) × (expressionAt n locals (memoryOf n locals (now t)) (key word 0) ≡ Nothing) ⌝ }
+pub fn learn(t: &mut [u64], n: usize, locals: usize, b: usize, first: u64, word: u64, d: u64)
+    requires { ⌜ Ready n locals (now t) × (memoryOf n locals (now t) .expressions < n) × (b ≡ bucketOf n (key word 0)) × (b < n) × (first ≡ headAt (memoryOf n locals (now t) .expressionTable) (memoryOf n locals (now t) .epoch) b) × (d < limit n locals (memoryOf n locals (now t))) × (expressionAt n locals (memoryOf n locals (now t)) (key word 0) ≡ Nothing) ⌝ }
     ensures { λ _. ⌜ ((op flags left right : ℕ) → op < 256 → flags < 256 → left < limit n locals (memoryOf n locals (now (t .entry))) → right < limit n locals (memoryOf n locals (now (t .entry))) → key word 0 ≡ expressionKey op flags left right → Learns n locals (now (t .entry)) op flags left right d (now (t .exit))) ⌝ }
 {
     let start = 4 + 2 * locals + 7 * n;
     let end = 4 + 2 * locals + 12 * n;
     let epoch = t[0];
     let count = t[2] as usize;
-    entries::insert(&mut t[start..end], n, epoch, count, b, word, 0, d);
+    entries::insert(&mut t[start..end], n, epoch, count, b, first, word, 0, d);
     t[2] = (count + 1) as u64;
 }

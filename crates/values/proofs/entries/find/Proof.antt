@@ -5,22 +5,22 @@ use Rattle.values.proofs.entries.find.Statement.{statement}
 use Rattle.values.proofs.entries.find.Tie as tie
 
 abbrev Inv-loop : tie.InvT-loop
-Inv-loop w h epoch count b left right path₀ p₀ path p = Walk w h count (key left right) path p
+Inv-loop w h count first left right path₀ p₀ path p = Walk w h count (key left right) path p
 
 abbrev μ-loop : tie.MeasureT-loop
-μ-loop w h epoch count b left right path₀ p₀ path p = ahead count p
+μ-loop w h count first left right path₀ p₀ path p = ahead count p
 
 loop-holds : tie.Need-loop-holds Inv-loop μ-loop
-loop-holds c = walk-start (c .before .before .pre .0) (c .before .before .pre .1) (c .before .before .pre .2) (c .head .ensures)
+loop-holds c = walk-start (c .before .pre .linked) (c .before .pre .first)
 
 returns : tie.Need-returns Inv-loop μ-loop
-returns c = walk-hit (c .before .before .before .before .before .before .pre .0) (c .before .before .before .loop .inv) (c .before .before .loop-test .taken) (c .before .holds .ensures) (c .if1 .taken)
+returns c = walk-hit (c .before .before .before .before .before .pre .linked) (c .before .before .before .loop .inv) (c .before .before .loop-test .taken) (c .before .holds .ensures) (c .if1 .taken)
 
 loop-less : tie.Need-loop-less Inv-loop μ-loop
-loop-less c = walk-less (c .before .before .before .before .before .before .before .before .pre .0) (c .before .before .before .before .before .loop .inv) (c .before .before .before .before .loop-test .taken) (c .child .ensures)
+loop-less c = walk-less (c .before .before .before .before .before .before .before .pre .linked) (c .before .before .before .before .before .loop .inv) (c .before .before .before .before .loop-test .taken) (c .child .ensures)
 
 loop-again : tie.Need-loop-again Inv-loop μ-loop
-loop-again c = walk-on (c .before .before .before .before .before .before .before .before .pre .0) (c .before .before .before .before .before .loop .inv) (c .before .before .before .before .loop-test .taken) (c .child .ensures) (c .before .before .before .holds .ensures) (c .before .before .if1 .left)
+loop-again c = walk-on (c .before .before .before .before .before .before .before .pre .linked) (c .before .before .before .before .before .loop .inv) (c .before .before .before .before .loop-test .taken) (c .child .ensures) (c .before .before .before .holds .ensures) (c .before .before .if1 .left)
 
 returns-2 : tie.Need-returns-2 Inv-loop μ-loop
 returns-2 c = walk-end (c .before .loop .inv) (c .loop-test .left)
@@ -31,7 +31,6 @@ find-spec =
     (tie.spec
     Inv-loop
     μ-loop
-    (λ c κs. search needs)
     loop-holds
     (λ c. search needs)
     (λ c. search needs)

@@ -18,13 +18,13 @@ slice-write-w-5 : tie.Need-slice-write-w-5
 slice-write-w-5 c = simp length-set (omega arith)
 
 returns : tie.Need-returns
-returns c = first-added (c .before .before .before .before .args .v) (c .before .before .before .before .pre) (c .before .head .ensures) (c .if1 .taken)
+returns c = first-added (c .before .before .args .v) (c .before .before .pre) (c .if1 .taken)
 
 attach-requires : tie.Need-attach-requires
-attach-requires c κs = attach-asks (c .before .before .before .before .before .args .v) (c .before .before .before .before .before .pre) (c .before .before .head .ensures) (c .before .if1 .left)
+attach-requires c κs = attach-asks (c .before .before .before .args .v) (c .before .before .before .pre) (c .before .if1 .left)
 
 returns-2 : tie.Need-returns-2
-returns-2 c = later-added (c .before .before .before .before .before .before .before .before .args .v) (c .before .before .before .before .before .before .before .before .pre) (c .before .before .before .before .before .head .ensures) (c .before .before .attach .ensures)
+returns-2 c = later-added (c .before .before .before .before .before .before .args .v) (c .before .before .before .before .before .before .pre) (c .before .before .attach .ensures)
 
 same-length-2 : tie.Need-same-length-2
 same-length-2 c = returns-2 c .long
@@ -35,7 +35,6 @@ insert-spec =
     (tie.spec
     (λ c. search needs)
     (λ c. search needs)
-    (λ c κs. search needs)
     (λ c. search needs)
     (λ c. search needs)
     (λ c. search needs)

@@ -4,10 +4,10 @@ use Rattle.values.proofs.table.learn.Statement.{statement}
 use Rattle.values.proofs.table.learn.Tie as tie
 
 insert-requires : tie.Need-insert-requires
-insert-requires c κs = let r = expressions-room (c .before .before .before .before .pre .0) (c .before .before .before .before .pre .1) in record { linked = c .before .before .before .before .pre .0 .order .expressions; bucket = c .before .before .before .before .pre .2; low = c .before .before .before .before .pre .3; few = r .0; room = r .1; absent = expression-new (c .before .before .before .before .pre .0) _ (c .before .before .before .before .pre .5) }
+insert-requires c κs = let s = c .before .before .before .before in let r = expressions-room (s .pre .0) (s .pre .1) in record { linked = s .pre .0 .order .expressions; bucket = s .pre .2; low = s .pre .3; first = s .pre .4; few = r .0; room = r .1; absent = expression-new (s .pre .0) _ (s .pre .6) }
 
 returns : tie.Need-returns
-returns c = λ op flags left right a b l r e. learns (c .before .before .before .before .before .before .before .pre .0) op flags left right (c .before .before .before .before .before .before .before .args .d) a b l r (c .before .before .before .before .before .before .before .pre .4) (c .before .before .before .before .before .before .before .pre .1) _ (rw e at (c .before .before .insert .ensures))
+returns c = let s = c .before .before .before .before .before .before .before in λ op flags left right a b l r e. learns (s .pre .0) op flags left right (s .args .d) a b l r (s .pre .5) (s .pre .1) _ (rw e at (c .before .before .insert .ensures))
 
 pub learn-spec : {M : Type 1} → statement M
 learn-spec =
