@@ -1,4 +1,5 @@
--- Hints, jumps and loops: of slots, a conditional jump reads its condition a, and ForLoop reads a and b and writes a.
+-- Hints, jumps and loops: of slots, a conditional jump reads its condition a, and ForLoop reads its index a and its limit b and
+-- writes a.
 -- Assumes nothing.
 use mathlib.Core.Path.{_≡_, refl}
 use mathlib.Core.Bool.{Bool, true, false}

@@ -13,7 +13,7 @@ pub fn is_branching(k: u64) -> bool
     (1921u64 >> k) % 2 == 1
 }
 
-// Of these, does it read a? All but Hint and Jump do.
+// Of these, does it read a, the condition or a loop's index? All but Hint and Jump do.
 pub fn reads_condition(k: u64) -> bool
     requires { ⌜ k < 15 ⌝ }
     ensures { λ r. ⌜ ((x : Class) → k ≡ numberOf x → r ≡ readsCondition x) ⌝ }
@@ -21,7 +21,7 @@ pub fn reads_condition(k: u64) -> bool
     (1792u64 >> k) % 2 == 1
 }
 
-// Is it ForLoop? That reads b too, and writes a.
+// Is it ForLoop? That reads its limit b too, and writes a.
 pub fn is_loop(k: u64) -> bool
     requires { ⌜ k < 15 ⌝ }
     ensures { λ r. ⌜ ((x : Class) → k ≡ numberOf x → r ≡ isLoop x) ⌝ }

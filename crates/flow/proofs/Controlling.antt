@@ -1,7 +1,7 @@
 -- The loop of `check_operands`: what is listed after p places. The words stand before the list.
 -- Assumes nothing.
 use mathlib.Core.Path.{_≡_, refl, sym, ap, _∙_}
-use mathlib.Core.Bool.{Bool, true, false, cond}
+use mathlib.Core.Bool.{Bool, true, false}
 use mathlib.Core.List.{List}
 use Prim.Native.Nat.{ℕ, _+_, _≤_, _<_}
 use native.Mathlib.Nat.{zero-add, add-zero}
@@ -9,14 +9,12 @@ use native.Mathlib.Numerals.{add-one}
 use native.Mathlib.Omega.{arith}
 use lib.ListN.{length, getD, set, length-set}
 use lib.Seq.{getD-set-same}
+use mir.Val.{boolByte}
 use borrow.Rule.Slice.PartMut.{midOf}
 use Rattle.words.specs.Regions.{get-mid, mid-more, mid-set-after, Outside, outside-same, outside-set, outside-front}
 use Rattle.instruction.specs.Instruction.{class, ofWord}
+use Rattle.flow.specs.BranchLaws.{byte-below}
 use Rattle.flow.specs.Control.{isControl, Controls, controls-none, controls-listed, controls-passed}
-
-pub bit-most : (t : Bool) → cond t 1 0 ≤ 1
-bit-most true = omega arith
-bit-most false = omega arith
 
 pub record Controlling (xs : List ℕ) (n at : ℕ) (w : List ℕ) (count p : ℕ) : Type 0 where
   pub within : p ≤ n
@@ -40,7 +38,7 @@ module _ {xs : List ℕ} {n at : ℕ} {w : List ℕ} {count p : ℕ} (l : Contro
       ∙ ap (λ (k : List ℕ). getD k p 0) (outside-front at n (l .same) n after)
 
   -- the place that was stored is listed, or the next one will take its position
-  more : (t : Bool) → isControl (class (ofWord (getD (midOf 0 n xs) p 0))) ≡ t → Controls (midOf 0 n xs) (midOf at (count + cond t 1 0) (set w (at + count) p)) (p + 1)
+  more : (t : Bool) → isControl (class (ofWord (getD (midOf 0 n xs) p 0))) ≡ t → Controls (midOf 0 n xs) (midOf at (count + boolByte t) (set w (at + count) p)) (p + 1)
   more true e =
       let few = l .few in
       let long = l .long in
@@ -50,10 +48,10 @@ module _ {xs : List ℕ} {n at : ℕ} {w : List ℕ} {count p : ℕ} (l : Contro
       (controls-listed (midOf 0 n xs) (midOf at count w) p (l .controls))
   more false e = rw (add-zero count, mid-set-after w at count count p (omega arith), add-one p) (controls-passed (midOf 0 n xs) (midOf at count w) p (l .controls) e)
 
-  pub controlling-turn : (v : ℕ) → v ≡ cond (isControl (class (ofWord (getD w p 0)))) 1 0
+  pub controlling-turn : (v : ℕ) → v ≡ boolByte (isControl (class (ofWord (getD w p 0))))
       → Controlling xs n at (set w (at + count) p) (count + v) (p + 1)
   controlling-turn v e =
-      let bit = bit-most (isControl (class (ofWord (getD w p 0)))) in
+      let bit = byte-below (isControl (class (ofWord (getD w p 0)))) in
       record {
         within = omega arith;
         few = omega (arith, l .few, e, bit);

@@ -1,7 +1,8 @@
 // The check of all operands, and the list of the control places, where the sweeps over branches, blocks and hints find something to do.
 ghost use mathlib.Core.Path.{_≡_};
-ghost use mathlib.Core.Bool.{true, cond};
+ghost use mathlib.Core.Bool.{true};
 ghost use Prim.Native.Nat.{ℕ, _+_, _*_, _/_, _≤_, _<_};
+ghost use mir.Val.{boolByte};
 ghost use lib.ListN.{length};
 ghost use borrow.Rule.Slice.PartMut.{midOf};
 ghost use Rattle.words.specs.Regions.{Outside};
@@ -19,7 +20,7 @@ use instruction::opcode;
 
 // 1 for the word of a hint or of what ends a block, by the bit of its class's number: 0 and 7 to 12.
 fn control(w: u64) -> u64
-    ensures { λ r. ⌜ r ≡ cond (isControl (class (ofWord w))) 1 0 ⌝ }
+    ensures { λ r. ⌜ r ≡ boolByte (isControl (class (ofWord w))) ⌝ }
 {
     (8065u64 >> opcode::class_number((w % 256) as u8)) % 2
 }

@@ -12,6 +12,7 @@ use borrow.Rule.Slice.PartMut.{put-same}
 use Rattle.words.specs.Bits.{member}
 use Rattle.words.specs.Lists.{tabulate}
 use Rattle.words.specs.Regions.{mid-long}
+use Rattle.words.specs.Truth.{beq-true}
 use Rattle.effects.specs.Shape.{Sections, Cell, cellAt}
 use Rattle.effects.specs.Effects.{allReads}
 use Rattle.flow.specs.Branch.{branchInside}
@@ -39,12 +40,6 @@ rows-long S n leaders keep p [] rows = refl
 rows-long S n leaders keep p (x ∷ xs) rows = perhaps-long (eqb (getD leaders p 0) 1) (roundFrom S n leaders keep (suc p) xs rows .rows) (blockOf leaders p) _ ∙ rows-long S n leaders keep (suc p) xs rows
 
 -- ---- the test on rows
-
-beq-true : (a b : Bool) → Bool·beq a b ≡ true → a ≡ b
-beq-true true true e = refl
-beq-true true false e = absurd (false≢true e)
-beq-true false true e = absurd (false≢true e)
-beq-true false false e = refl
 
 beq-refl : (a : Bool) → Bool·beq a a ≡ true
 beq-refl true = refl

@@ -1,4 +1,4 @@
--- Hints, jumps and loops: of slots, a conditional jump reads its condition a, and ForLoop reads a and b and writes a.
+-- What hints, jumps and loops read and write, as sets of slots.
 -- Assumes nothing.
 use mathlib.Core.Path.{_≡_, refl}
 use mathlib.Core.Bool.{Bool, true, false, _&&_, _||_}
@@ -10,14 +10,14 @@ use Rattle.instruction.specs.declared.Instruction.{Instruction}
 use Rattle.instruction.specs.declared.Class.{Class}
 use Rattle.instruction.specs.Class.{numberOf, isPure}
 use Rattle.instruction.specs.Instruction.{ofWord, class}
-use Rattle.effects.specs.Shape.{Tables, Cell}
+use Rattle.effects.specs.Shape.{Tables}
 use Rattle.effects.specs.Effects.{rangeHas, anyOf}
 use Rattle.effects.specs.Form.{emptyRange}
 use Rattle.effects.specs.ByClass.{readsByClass, writesByClass, reads-by-class, writes-by-class}
 use Rattle.effects.specs.Branching.{isBranching, readsCondition, isLoop, by-branching, branching-inside}
 use Rattle.unit.specs.declared.Metadata.{Metadata}
 use Rattle.use_def.specs.Sets.{Put, range, slotIf, slot-within}
-use Rattle.use_def.specs.Touched.{touches, writing, Fits, Before, before-read, put-slot-write, put-slot-reads, reads-in}
+use Rattle.use_def.specs.Touched.{cell, touches, writing, Fits, Before, before-read, put-slot-write, put-slot-reads, reads-in}
 use Rattle.use_def.specs.Free.{deadBy}
 
 -- such an instruction's word, whose slots all have a bit in a set of that many words
@@ -25,7 +25,7 @@ pub record BranchFits (count w : ℕ) : Type 0 where
   pub some : 0 < count
   pub branching : isBranching (class (ofWord w)) ≡ true
   pub condition : readsCondition (class (ofWord w)) ≡ true → ofWord w .a < 64 * count
-  pub bound : isLoop (class (ofWord w)) ≡ true → ofWord w .b < 64 * count
+  pub limit : isLoop (class (ofWord w)) ≡ true → ofWord w .b < 64 * count
 
 -- the ranges that they read and write
 module _ (k : Class) (e : isBranching k ≡ true) where
@@ -43,9 +43,9 @@ module _ (k : Class) (e : isBranching k ≡ true) where
     unfolding numberOf readsByClass
     condition-read = by-branching (λ k. slotIf (readsCondition k) (i .a) ≡ getD (readsByClass k i) 0 emptyRange) refl refl refl refl refl k e
 
-    bound-read : slotIf (isLoop k) (i .b) ≡ getD (readsByClass k i) 1 emptyRange
+    limit-read : slotIf (isLoop k) (i .b) ≡ getD (readsByClass k i) 1 emptyRange
     unfolding numberOf readsByClass
-    bound-read = by-branching (λ k. slotIf (isLoop k) (i .b) ≡ getD (readsByClass k i) 1 emptyRange) refl refl refl refl refl k e
+    limit-read = by-branching (λ k. slotIf (isLoop k) (i .b) ≡ getD (readsByClass k i) 1 emptyRange) refl refl refl refl refl k e
 
     not-read : (t : ℕ) → touches (readsByClass k i) t ≡ false → touches (writesByClass k i) t ≡ false
     unfolding anyOf readsByClass writesByClass
@@ -60,9 +60,6 @@ module _ (k : Class) (e : isBranching k ≡ true) where
 
 -- ---- by the instruction's word
 
-abbrev cell : ℕ → Metadata → Cell
-cell w m = record { instruction = ofWord w; metadata = m }
-
 pub branch-fits : (count w : ℕ) (T : Tables) (m : Metadata) → 0 < count → isBranching (class (ofWord w)) ≡ true → Fits count T (cell w m) → BranchFits count w
 branch-fits count w T m some e f =
     let i : Instruction = ofWord w in
@@ -71,7 +68,7 @@ branch-fits count w T m some e f =
       some = some;
       branching = e;
       condition = slot-within (64 * count) (i .a) (readsCondition k) (reads-in T (cell w m) k refl (branching-inside k e) (64 * count) 0 _ (f .reads-fit) (condition-read k e i));
-      bound = slot-within (64 * count) (i .b) (isLoop k) (reads-in T (cell w m) k refl (branching-inside k e) (64 * count) 1 _ (f .reads-fit) (bound-read k e i));
+      limit = slot-within (64 * count) (i .b) (isLoop k) (reads-in T (cell w m) k refl (branching-inside k e) (64 * count) 1 _ (f .reads-fit) (limit-read k e i));
     }
 
 module _ (w : ℕ) (e : isBranching (class (ofWord w)) ≡ true) (T : Tables) (m : Metadata) where
@@ -87,7 +84,7 @@ module _ (w : ℕ) (e : isBranching (class (ofWord w)) ≡ true) (T : Tables) (m
       let inside = branching-inside k e in
       before-read T (cell w m) l l₂
       (λ t n. rw (writes-by-class T (cell w m) inside) (not-read k e (ofWord w) t (rw (reads-by-class T (cell w m) inside) at n)))
-      (put-slot-reads T (cell w m) k refl inside l l₁ l₂ x y a b (rw (f, d) (condition-read k e (ofWord w))) (rw (g, h) (bound-read k e (ofWord w))) q s)
+      (put-slot-reads T (cell w m) k refl inside l l₁ l₂ x y a b (rw (f, d) (condition-read k e (ofWord w))) (rw (g, h) (limit-read k e (ofWord w))) q s)
 
 -- it is no store, so it is not dead
 impure : (k : Class) → isBranching k ≡ true → isPure k ≡ false

@@ -20,7 +20,7 @@ use Rattle.effects.specs.Single.{isSingle, readsFirst, readsSecond, by-single, 
 use Rattle.unit.specs.Entry.{typeValue, typeFloat}
 use Rattle.unit.specs.declared.Metadata.{Metadata}
 use Rattle.use_def.specs.Sets.{Put, Same, range, slotIf, slot-within}
-use Rattle.use_def.specs.Touched.{reading, writing, Fits, put-slot-write, put-slot-reads, reads-in, writes-in}
+use Rattle.use_def.specs.Touched.{cell, reading, writing, Fits, put-slot-write, put-slot-reads, reads-in, writes-in}
 use Rattle.use_def.specs.Free.{freeSlot, deadBy, one-free, Spans}
 
 -- such an instruction's word, whose slots all have a bit in a set of that many words
@@ -56,9 +56,6 @@ module _ (k : Class) (e : isSingle k ≡ true) where
   no-second = by-single (λ k. readsFirst k ≡ false → readsSecond k ≡ false) (λ f. refl) (λ f. refl) (λ f. refl) (λ f. refl) (λ f. absurd (true≢false f)) k e
 
 -- ---- by the instruction's word
-
-abbrev cell : ℕ → Metadata → Cell
-cell w m = record { instruction = ofWord w; metadata = m }
 
 pub single-fits : (count w : ℕ) (T : Tables) (m : Metadata) → 0 < count → isSingle (class (ofWord w)) ≡ true → Fits count T (cell w m) → SingleFits count w
 single-fits count w T m some e f =

@@ -13,7 +13,8 @@ use Rattle.words.specs.Bits.{member}
 use Rattle.instruction.specs.declared.Instruction.{Instruction}
 use Rattle.instruction.specs.declared.Class.{Class}
 use Rattle.instruction.specs.declared.Class.the-variants.{Hint, LoadInt, LoadConst, Copy, CopyN, Unary, Binary, Jump, JumpIf, JumpIfNot, ForLoop, Return, Panic, Outside, Invalid}
-use Rattle.instruction.specs.Instruction.{class}
+use Rattle.instruction.specs.Instruction.{ofWord, class}
+use Rattle.unit.specs.declared.Metadata.{Metadata}
 use Rattle.effects.specs.declared.Range.{Range}
 use Rattle.effects.specs.Shape.{Tables, Cell}
 use Rattle.effects.specs.Effects.{allReads, writes, rangeHas, rangeWithin, anyOf, allOf}
@@ -23,6 +24,10 @@ use Rattle.effects.specs.Operands.{all-at}
 use Rattle.effects.specs.Ranges.{CasesInside}
 use Rattle.effects.specs.ByClass.{isOutside, readsByClass, writesByClass, reads-by-class, writes-by-class}
 use Rattle.use_def.specs.Sets.{Put, slotIf, put-more, put-as, put-slot, has-none}
+
+-- an instruction's word with metadata
+abbrev pub cell : ℕ → Metadata → Cell
+cell w m = record { instruction = ofWord w; metadata = m }
 
 -- a slot is one of those of the ranges
 abbrev pub touches : List Range → ℕ → Bool

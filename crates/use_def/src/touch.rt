@@ -17,7 +17,7 @@ ghost use Rattle.effects.specs.Form.{emptyRange};
 ghost use Rattle.effects.specs.Ranges.{CasesInside};
 ghost use Rattle.effects.specs.ByClass.{isOutside, readsByClass, writesByClass};
 ghost use Rattle.use_def.specs.Sets.{Put, Same};
-ghost use Rattle.use_def.specs.Touched.{Within, reading, writing, Fits, Before};
+ghost use Rattle.use_def.specs.Touched.{cell, Within, reading, writing, Fits, Before};
 ghost use Rattle.use_def.specs.Single.{SingleFits};
 ghost use Rattle.use_def.specs.Branching.{BranchFits};
 use crate::row;
@@ -180,7 +180,7 @@ pub fn put_writes(
 // Takes out the slot that it writes.
 pub fn take_single_write(row: &mut [u64], w: u64)
     requires { ⌜ SingleFits (length (now row)) w ⌝ }
-    ensures { λ _. ⌜ ((T : Tables) (m : Metadata) → Put false (writing T (record { instruction = ofWord w; metadata = m })) (now (row .entry)) (now (row .exit))) × Put false (λ t. eqb t (ofWord w .a)) (now (row .entry)) (now (row .exit)) ⌝ }
+    ensures { λ _. ⌜ ((T : Tables) (m : Metadata) → Put false (writing T (cell w m)) (now (row .entry)) (now (row .exit))) × Put false (λ t. eqb t (ofWord w .a)) (now (row .entry)) (now (row .exit)) ⌝ }
 {
     row::put(row, form::field(w, 0), false);
 }
@@ -189,7 +189,7 @@ pub fn take_single_write(row: &mut [u64], w: u64)
 // loads read nothing, and to go past both puts there is worth one.
 fn put_single_reads(row: &mut [u64], w: u64, k: u64, live: bool)
     requires { ⌜ SingleFits (length (now row)) w × (k ≡ numberOf (class (ofWord w))) ⌝ }
-    ensures { λ _. ⌜ (live ≡ true → (T : Tables) (m : Metadata) → Put true (reading T (record { instruction = ofWord w; metadata = m })) (now (row .entry)) (now (row .exit))) × (live ≡ false → Same (now (row .entry)) (now (row .exit))) ⌝ }
+    ensures { λ _. ⌜ (live ≡ true → (T : Tables) (m : Metadata) → Put true (reading T (cell w m)) (now (row .entry)) (now (row .exit))) × (live ≡ false → Same (now (row .entry)) (now (row .exit))) ⌝ }
 {
     if !single::reads_first(k) {
         return;
@@ -203,7 +203,7 @@ fn put_single_reads(row: &mut [u64], w: u64, k: u64, live: bool)
 // and the processor has no branch to predict.
 pub fn single_before(row: &mut [u64], w: u64, k: u64, live: bool)
     requires { ⌜ SingleFits (length (now row)) w × (k ≡ numberOf (class (ofWord w))) ⌝ }
-    ensures { λ _. ⌜ (live ≡ true → (T : Tables) (m : Metadata) → Before T (record { instruction = ofWord w; metadata = m }) (now (row .entry)) (now (row .exit))) × (live ≡ false → member (now (row .entry)) (ofWord w .a) ≡ false → Same (now (row .entry)) (now (row .exit))) ⌝ }
+    ensures { λ _. ⌜ (live ≡ true → (T : Tables) (m : Metadata) → Before T (cell w m) (now (row .entry)) (now (row .exit))) × (live ≡ false → member (now (row .entry)) (ofWord w .a) ≡ false → Same (now (row .entry)) (now (row .exit))) ⌝ }
 {
     take_single_write(row, w);
     put_single_reads(row, w, k, live);
@@ -212,7 +212,7 @@ pub fn single_before(row: &mut [u64], w: u64, k: u64, live: bool)
 // Of a hint, a jump or a loop: takes out the slot that a loop writes.
 pub fn take_loop_write(row: &mut [u64], w: u64, k: u64)
     requires { ⌜ BranchFits (length (now row)) w × (k ≡ numberOf (class (ofWord w))) ⌝ }
-    ensures { λ _. ⌜ ((T : Tables) (m : Metadata) → Put false (writing T (record { instruction = ofWord w; metadata = m })) (now (row .entry)) (now (row .exit))) ⌝ }
+    ensures { λ _. ⌜ ((T : Tables) (m : Metadata) → Put false (writing T (cell w m)) (now (row .entry)) (now (row .exit))) ⌝ }
 {
     row::put_if(row, form::field(w, 0), branching::is_loop(k), false);
 }
@@ -220,7 +220,7 @@ pub fn take_loop_write(row: &mut [u64], w: u64, k: u64)
 // Of the same, what is live before it: a loop reads the slot that it writes, so that no slot is taken out.
 pub fn branch_before(row: &mut [u64], w: u64, k: u64)
     requires { ⌜ BranchFits (length (now row)) w × (k ≡ numberOf (class (ofWord w))) ⌝ }
-    ensures { λ _. ⌜ ((T : Tables) (m : Metadata) → Before T (record { instruction = ofWord w; metadata = m }) (now (row .entry)) (now (row .exit))) ⌝ }
+    ensures { λ _. ⌜ ((T : Tables) (m : Metadata) → Before T (cell w m) (now (row .entry)) (now (row .exit))) ⌝ }
 {
     row::put_if(row, form::field(w, 0), branching::reads_condition(k), true);
     row::put_if(row, form::field(w, 1), branching::is_loop(k), true);

@@ -8,7 +8,7 @@ use Rattle.effects.proofs.branching.is_branching.Tie as tie
 
 returns : tie.Need-returns
 unfolding every namedClass numberOf
-returns c = λ x e. class-bit 1921 isBranching refl x _ e
+returns c = λ x e. class-bit _ isBranching refl x _ e
 
 pub is-branching-spec : {M : Type 1} → statement M
 is-branching-spec = tie.close (tie.spec (λ c. search needs) returns)

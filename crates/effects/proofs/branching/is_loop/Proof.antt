@@ -8,7 +8,7 @@ use Rattle.effects.proofs.branching.is_loop.Tie as tie
 
 returns : tie.Need-returns
 unfolding every namedClass numberOf
-returns c = λ x e. class-bit 1024 isLoop refl x _ e
+returns c = λ x e. class-bit _ isLoop refl x _ e
 
 pub is-loop-spec : {M : Type 1} → statement M
 is-loop-spec = tie.close (tie.spec (λ c. search needs) returns)

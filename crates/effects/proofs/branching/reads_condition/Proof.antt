@@ -8,7 +8,7 @@ use Rattle.effects.proofs.branching.reads_condition.Tie as tie
 
 returns : tie.Need-returns
 unfolding every namedClass numberOf
-returns c = λ x e. class-bit 1792 readsCondition refl x _ e
+returns c = λ x e. class-bit _ readsCondition refl x _ e
 
 pub reads-condition-spec : {M : Type 1} → statement M
 reads-condition-spec = tie.close (tie.spec (λ c. search needs) returns)

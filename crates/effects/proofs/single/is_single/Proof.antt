@@ -8,7 +8,7 @@ use Rattle.effects.proofs.single.is_single.Tie as tie
 
 returns : tie.Need-returns
 unfolding every namedClass numberOf
-returns c = λ x e. class-bit 110 isSingle refl x _ e
+returns c = λ x e. class-bit _ isSingle refl x _ e
 
 pub is-single-spec : {M : Type 1} → statement M
 is-single-spec = tie.close (tie.spec (λ c. search needs) returns)

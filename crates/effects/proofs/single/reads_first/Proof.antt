@@ -8,7 +8,7 @@ use Rattle.effects.proofs.single.reads_first.Tie as tie
 
 returns : tie.Need-returns
 unfolding every namedClass numberOf
-returns c = λ x e. class-bit 104 readsFirst refl x _ e
+returns c = λ x e. class-bit _ readsFirst refl x _ e
 
 pub reads-first-spec : {M : Type 1} → statement M
 reads-first-spec = tie.close (tie.spec (λ c. search needs) returns)

@@ -8,7 +8,7 @@ use Rattle.effects.proofs.single.reads_second.Tie as tie
 
 returns : tie.Need-returns
 unfolding every namedClass numberOf
-returns c = λ x e. class-bit 64 readsSecond refl x _ e
+returns c = λ x e. class-bit _ readsSecond refl x _ e
 
 pub reads-second-spec : {M : Type 1} → statement M
 reads-second-spec = tie.close (tie.spec (λ c. search needs) returns)

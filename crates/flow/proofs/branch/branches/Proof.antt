@@ -10,7 +10,7 @@ use Rattle.flow.proofs.branch.branches.Tie as tie
 
 returns : tie.Need-returns
 unfolding every namedClass branches
-returns c = λ x e. bit-byte _ _ (omega arith) (class-bit 1920 branches refl x _ e)
+returns c = λ x e. bit-byte _ _ (omega arith) (class-bit _ branches refl x _ e)
 
 pub branches-spec : {M : Type 1} → statement M
 branches-spec = tie.close (tie.spec (λ c. search needs) returns)

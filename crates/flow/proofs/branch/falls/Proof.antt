@@ -10,7 +10,7 @@ use Rattle.flow.proofs.branch.falls.Tie as tie
 
 returns : tie.Need-returns
 unfolding every namedClass falls
-returns c = λ x e. bit-byte _ _ (omega arith) (class-bit 10111 falls refl x _ e)
+returns c = λ x e. bit-byte _ _ (omega arith) (class-bit _ falls refl x _ e)
 
 pub falls-spec : {M : Type 1} → statement M
 falls-spec = tie.close (tie.spec (λ c. search needs) returns)

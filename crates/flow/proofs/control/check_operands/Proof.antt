@@ -11,7 +11,8 @@ use Rattle.effects.specs.Cells.{cellOf}
 use Rattle.effects.specs.Laws.{Unrefused, refused-first, refused-none, refused-later, refused-here}
 use Rattle.flow.specs.Control.{isControl}
 use Rattle.flow.specs.Listing.{checkOf, ListedBy}
-use Rattle.flow.proofs.Controlling.{Controlling, controlling-begin, controlling-word, controlling-turn, controlling-end, bit-most}
+use Rattle.flow.specs.BranchLaws.{byte-below}
+use Rattle.flow.proofs.Controlling.{Controlling, controlling-begin, controlling-word, controlling-turn, controlling-end}
 use borrow.Author.Needs.{needs}
 use Rattle.flow.proofs.control.check_operands.Statement.{statement}
 use Rattle.flow.proofs.control.check_operands.Tie as tie
@@ -66,7 +67,7 @@ slice-write-memory : tie.Need-slice-write-memory Inv-loop μ-loop
 slice-write-memory c = let h = c .before .before .before .before in omega (arith, h .loop .inv .1 .few, h .loop .inv .1 .long)
 
 add-count : tie.Need-add-count Inv-loop μ-loop
-add-count c = let h = c .before .before .before .before .before in omega (arith, h .loop .inv .1 .few, h .loop .inv .1 .within, c .control .ensures, bit-most (isControl (class (ofWord (getD (h .loop .memory) (h .loop .p) 0)))))
+add-count c = let h = c .before .before .before .before .before in omega (arith, h .loop .inv .1 .few, h .loop .inv .1 .within, c .control .ensures, byte-below (isControl (class (ofWord (getD (h .loop .memory) (h .loop .p) 0)))))
 
 loop-again : tie.Need-loop-again Inv-loop μ-loop
 loop-again c =

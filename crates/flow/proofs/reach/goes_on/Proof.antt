@@ -1,9 +1,10 @@
-use mathlib.Core.Path.{_≡_, refl, sym}
-use mathlib.Core.Bool.{Bool, true, false, not, _&&_, Bool·beq}
+use mathlib.Core.Path.{_≡_, refl}
+use mathlib.Core.Bool.{Bool, not, _&&_, Bool·beq}
 use Prim.Native.Nat.{ℕ, _<_}
 use native.Mathlib.Omega.{arith}
 use lib.Dec.{ltb, leb}
 use Rattle.words.specs.Lists.{every, every-at}
+use Rattle.words.specs.Truth.{beq-true}
 use Rattle.instruction.specs.Class.{single, classOf, numberOf}
 use Rattle.instruction.specs.Opcode.{maxValid}
 use Rattle.flow.specs.Block.{endsBlock}
@@ -19,13 +20,7 @@ tested o = not (endsBlock (classOf o)) && ltb 0 o && leb o maxValid
 
 each : (o : ℕ) → o < 256 → tested o ≡ goesOn o
 unfolding every goesOn endsBlock falls classOf single numberOf
-each o h = same (tested o) (goesOn o) (every-at 256 (λ o. Bool·beq (tested o) (goesOn o)) refl o h)
-  where
-    same : (s t : Bool) → Bool·beq s t ≡ true → s ≡ t
-    same true true e = refl
-    same true false e = sym e
-    same false true e = e
-    same false false e = refl
+each o h = beq-true (tested o) (goesOn o) (every-at 256 (λ o. Bool·beq (tested o) (goesOn o)) refl o h)
 
 returns : tie.Need-returns
 returns c = rw (c .ends-block .ensures) (each (c .before .args .op) (omega arith))

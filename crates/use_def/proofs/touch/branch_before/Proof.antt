@@ -19,7 +19,7 @@ is-loop-requires c κs = rw (c .before .before .before .before .before .before .
 put-if-requires-2 : tie.Need-put-if-requires-2
 put-if-requires-2 c κs =
     let p = c .before .before .before .before .before .before .before .before .before .before .pre in
-    rw (c .before .before .before .before .before .put-if .kept .0, c .before .field2 .ensures) (p .0 .some, λ e. p .0 .bound (sym (c .is-loop .ensures _ (p .1)) ∙ e))
+    rw (c .before .before .before .before .before .put-if .kept .0, c .before .field2 .ensures) (p .0 .some, λ e. p .0 .limit (sym (c .is-loop .ensures _ (p .1)) ∙ e))
 
 returns : tie.Need-returns
 returns c =
