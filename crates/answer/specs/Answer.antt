@@ -6,7 +6,7 @@ use Prim.Native.Nat.{ℕ}
 use lib.Dec.{eqb, leb}
 use Rattle.words.specs.Lists.{tabulate}
 use Rattle.instruction.specs.Instruction.{instructionAt}
-use Rattle.unit.specs.declared.Header.{Header}
+use Rattle.unit.specs.declared.Counts.{Counts}
 use Rattle.unit.specs.Refusal.{notUnit, shortBuffer, metadataCount, typeCount}
 use Rattle.unit.specs.Size.{outputRoom, work32Room, work64Room}
 use Rattle.unit.specs.Entry.{metadataAt}
@@ -36,29 +36,42 @@ pub record Lent : Type 0 where
   pub work32 : ℕ
   pub work64 : ℕ
 
--- "a lent buffer shorter than stated"
-unfoldable pub roomFor : Header → Lent → Bool
-roomFor h l =
-    leb (outputRoom (h .counts .instructions)) (l .out)
-    && leb (work32Room (h .counts .instructions)) (l .work32)
-    && leb (work64Room (h .counts .instructions) (h .counts .locals)) (l .work64)
+abbrev pub lentOf : ℕ → ℕ → ℕ → Lent
+lentOf out work32 work64 = record { out = out; work32 = work32; work64 = work64 }
+
+-- is every lent buffer as long as stated?
+unfoldable pub roomFor : Counts → Lent → Bool
+roomFor c l =
+    leb (outputRoom (c .instructions)) (l .out)
+    && leb (work32Room (c .instructions)) (l .work32)
+    && leb (work64Room (c .instructions) (c .locals)) (l .work64)
+
+-- "n under 2, above 65,536, or defer"
+unfoldable pub isSkipped : Counts → Bool
+isSkipped c = not (isWorkedOn (c .instructions)) || eqb (c .defer) 1
+
+-- The rows of document 01's table up to refusal 4, from the last upward: each is what its test says, or else the rows below it.
+-- Whether the lent buffers are long enough is all that they ask of those, so that one pass and the cleaning share the rows.
+
+-- "refused 3, place 0: m is not n", "refused 4, place 0: number of types is not s"
+unfoldable pub afterRoom : List ℕ → Outcome
+afterRoom u =
+    let c = headerOf u .counts in
+    let worked = optimized (sectionsOf u) (cellsOf u) in
+    let typed = cond (eqb (c .types) (c .locals)) worked (refused typeCount 0) in
+    cond (eqb (c .metadata) (c .instructions)) typed (refused metadataCount 0)
+
+-- "refused 2, place 0: a lent buffer shorter than stated"
+unfoldable pub afterSkipped : Bool → List ℕ → Outcome
+afterSkipped room u = let rest = afterRoom u in cond room rest (refused shortBuffer 0)
 
 -- "unchanged: n under 2, above 65,536, or defer"
-unfoldable pub isLeft : Header → Bool
-isLeft h = not (isWorkedOn (h .counts .instructions)) || eqb (h .counts .defer) 1
+unfoldable pub afterLayout : Bool → List ℕ → Outcome
+afterLayout room u = let rest = afterSkipped room u in cond (isSkipped (headerOf u .counts)) unchanged rest
 
--- refusals 3 and 4, then `go`
-unfoldable pub countsChecked : Header → Outcome → Outcome
-countsChecked h go =
-    cond (eqb (h .counts .metadata) (h .counts .instructions))
-    (cond (eqb (h .counts .types) (h .counts .locals)) go (refused typeCount 0))
-    (refused metadataCount 0)
+-- "refused 1, place 0: unit not as above"
+unfoldable pub answerWith : Bool → List ℕ → Outcome
+answerWith room u = let rest = afterLayout room u in cond (isUnit u) rest (refused notUnit 0)
 
 unfoldable pub passAnswer : List ℕ → Lent → Outcome
-passAnswer u l =
-    let h = headerOf u in
-    let worked = optimized (sectionsOf u) (cellsOf u) in
-    let counted = countsChecked h worked in
-    let lent = cond (roomFor h l) counted (refused shortBuffer 0) in
-    let left = cond (isLeft h) unchanged lent in
-    cond (isUnit u) left (refused notUnit 0)
+passAnswer u l = answerWith (roomFor (headerOf u .counts) l) u

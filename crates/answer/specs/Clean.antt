@@ -5,14 +5,13 @@ use mathlib.Core.List.{List, [], _∷_, map}
 use Prim.Native.Nat.{ℕ, zero, suc}
 use lib.Dec.{leb}
 use lib.ListN.{getD}
-use Rattle.unit.specs.declared.Header.{Header}
-use Rattle.unit.specs.Refusal.{notUnit, shortBuffer}
+use Rattle.unit.specs.declared.Counts.{Counts}
 use Rattle.unit.specs.Size.{outputRoom}
-use Rattle.unit.specs.Layout.{headerOf, isUnit}
+use Rattle.unit.specs.Layout.{headerOf}
 use Rattle.unit.specs.Result.{Retained}
 use Rattle.effects.specs.Shape.{Sections, Cell}
-use Rattle.answer.specs.Pass.{Outcome, unchanged, refused, rewritten, pass, optimized}
-use Rattle.answer.specs.Answer.{Lent, cellsOf, sectionsOf, roomFor, isLeft, countsChecked}
+use Rattle.answer.specs.Pass.{Outcome, unchanged, refused, rewritten, pass}
+use Rattle.answer.specs.Answer.{Lent, sectionsOf, roomFor, answerWith}
 
 -- an outcome and the number of the last pass run
 pub record Cleaned : Type 0 where
@@ -52,15 +51,10 @@ cleanedFirst S (refused k p) = record { outcome = refused k p; passes = 1 }
 cleanedFirst S (rewritten kept) = cleanFrom S 2 1 kept
 
 -- "The three-pass cleaning also needs 2 × (16 + 28n) spare bytes": one buffer is read while the other is written
-unfoldable pub spareFor : Header → ℕ → ℕ → Bool
-spareFor h first second = leb (outputRoom (h .counts .instructions)) first && leb (outputRoom (h .counts .instructions)) second
+unfoldable pub spareFor : Counts → ℕ → ℕ → Bool
+spareFor c first second = leb (outputRoom (c .instructions)) first && leb (outputRoom (c .instructions)) second
 
 unfoldable pub cleanAnswer : List ℕ → Lent → ℕ → ℕ → Cleaned
 cleanAnswer u l first second =
-    let h = headerOf u in
-    let worked = optimized (sectionsOf u) (cellsOf u) in
-    let counted = countsChecked h worked in
-    let room = roomFor h l && spareFor h first second in
-    let lent = cond room counted (refused shortBuffer 0) in
-    let left = cond (isLeft h) unchanged lent in
-    cleanedFirst (sectionsOf u) (cond (isUnit u) left (refused notUnit 0))
+    let c = headerOf u .counts in
+    cleanedFirst (sectionsOf u) (answerWith (roomFor c l && spareFor c first second) u)

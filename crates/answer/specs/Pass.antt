@@ -5,10 +5,11 @@ use mathlib.Core.List.{List, [], _∷_}
 use Prim.Native.Nat.{ℕ}
 use lib.Dec.{eqb, ltb}
 use lib.ListN.{length, getD}
+use borrow.Rule.Slice.PartMut.{putMid}
 use Rattle.words.specs.Lists.{mapFrom}
 use Rattle.instruction.specs.Instruction.{toWord}
-use Rattle.unit.specs.Result.{Retained}
-use Rattle.unit.specs.Size.{maxInstructions}
+use Rattle.unit.specs.Result.{Retained, resultBytes}
+use Rattle.unit.specs.Size.{resultSize, maxInstructions}
 use Rattle.effects.specs.declared.Check.{Check}
 use Rattle.effects.specs.declared.Check.the-variants.{Passed, Refused}
 use Rattle.effects.specs.Shape.{Sections, Cell}
@@ -26,6 +27,12 @@ pub data Outcome : Type 0 where
   unchanged : Outcome
   refused : ℕ → ℕ → Outcome
   rewritten : List Retained → Outcome
+
+-- "Only "rewritten" alters the output, in its first 16 + 28n' bytes": what the output buffer holds then
+unfoldable pub outputAfter : Outcome → List ℕ → List ℕ
+outputAfter unchanged out = out
+outputAfter (refused k p) out = out
+outputAfter (rewritten kept) out = putMid 0 (resultSize (length kept)) out (resultBytes kept)
 
 -- go on where a check passed
 unfoldable pub checked : Check → Outcome → Outcome
@@ -56,16 +63,30 @@ removal cells code keep =
     let moved = checked (relocationCheck keep code) (rewritten (retainFrom keep 0 code)) in
     cond (sameCode cells code && allKept keep) unchanged moved
 
--- refusals 5 to 10, unchanged and rewritten, of a function that is worked on
-unfoldable pub optimized : Sections → List Cell → Outcome
-optimized S cells =
+-- The rows of document 01's table from refusal 5 on, from the last upward: each is what its check says, or else the rows below it.
+
+-- from "unchanged: same code, all kept" on: the numbered code and its reached places are known
+unfoldable pub afterLoops : Sections → List Cell → List ℕ → List Cell → List ℕ → Outcome
+afterLoops S cells leads code marks = removal cells code (keptPlaces S leads marks code)
+
+-- from refusal 9 on: the leaders and the numbered code are known
+unfoldable pub afterBranches : Sections → List Cell → List ℕ → List Cell → Outcome
+afterBranches S cells leads code =
+    let marks = reachedPlaces code in
+    let rest = afterLoops S cells leads code marks in
+    checked (loopCheck marks code) rest
+
+-- from refusal 8 on
+unfoldable pub afterOperands : Sections → List Cell → Outcome
+afterOperands S cells =
     let leads = leaders cells in
     let code = numberCode S leads cells in
-    let marks = reachedPlaces code in
-    let swept = removal cells code (keptPlaces S leads marks code) in
-    let sound = checked (loopCheck marks code) swept in
-    let inside = checked (branchCheck cells) sound in
-    checked (operandCheck (S .locals) (S .tables) cells) inside
+    let rest = afterBranches S cells leads code in
+    checked (branchCheck cells) rest
+
+-- from refusals 5, 6 and 7 on: what is made of a function that is worked on
+unfoldable pub optimized : Sections → List Cell → Outcome
+optimized S cells = let rest = afterOperands S cells in checked (operandCheck (S .locals) (S .tables) cells) rest
 
 -- "unchanged: n under 2, above 65,536" comes before all of them
 unfoldable pub isWorkedOn : ℕ → Bool

@@ -12,25 +12,25 @@ use Rattle.unit.specs.Size.{resultSize}
 use Rattle.effects.specs.Shape.{Sections}
 use Rattle.answer.specs.Answer.{sectionsOf}
 use Rattle.answer.specs.Clean.{Cleaned as Cleaning, cellsAfter, placedBy, afterPass, cleanFrom}
-use Rattle.answer.specs.Pass.{Outcome, unchanged, refused, rewritten, pass}
+use Rattle.answer.specs.Pass.{Outcome, unchanged, refused, rewritten, pass, outputAfter}
 use Rattle.optimize.specs.declared.Answer.{Answer}
 use Rattle.optimize.specs.declared.Answer.the-variants.{Unchanged, Refused, Rewritten}
 use Rattle.clean.specs.declared.Cleaned.{Cleaned}
-use Rattle.optimize.specs.Parts.{told, written, Tells}
-use Rattle.clean.specs.Reading.{AllFit, retainedIn}
+use Rattle.optimize.specs.Parts.{answerOf, Answers}
+use Rattle.run.specs.Reading.{AllFit, retainedIn}
 use Rattle.clean.specs.Ready.{Ready, placedOutcome, laterOutcome, before-long, later-made, written-back, written-ready, casesIn}
-use Rattle.clean.specs.Told.{To, told-unchanged, told-refused, told-rewritten}
+use Rattle.clean.specs.Later.{To, outcome-unchanged, outcome-refused, outcome-rewritten}
 
 -- document 01's answer of the cleaning as the value that is returned
-unfoldable pub toldCleaned : Cleaning → Cleaned
-toldCleaned c = record { answer = told (c .outcome); passes = c .passes }
+unfoldable pub cleanedOf : Cleaning → Cleaned
+cleanedOf c = record { answer = answerOf (c .outcome); passes = c .passes }
 
 -- and what the output holds then
-abbrev pub TellsCleaned : Cleaning → Cleaned → List ℕ → List ℕ → Type 0
-TellsCleaned c r out out′ = (r ≡ toldCleaned c) × (out′ ≡ written (c .outcome) out)
+abbrev pub AnswersCleaned : Cleaning → Cleaned → List ℕ → List ℕ → Type 0
+AnswersCleaned c r out out′ = (r ≡ cleanedOf c) × (out′ ≡ outputAfter (c .outcome) out)
 
-pub tells-cleaned : (c d : Cleaning) (r : Cleaned) (out out′ : List ℕ) → c ≡ d → TellsCleaned d r out out′ → TellsCleaned c r out out′
-tells-cleaned c d r out out′ e t = rw e t
+pub answers-cleaned : (c d : Cleaning) (r : Cleaned) (out out′ : List ℕ) → c ≡ d → AnswersCleaned d r out out′ → AnswersCleaned c r out out′
+answers-cleaned c d r out out′ e t = rw e t
 
 -- a cleaning that ends
 abbrev pub finished : List Retained → ℕ → Cleaning
@@ -39,15 +39,15 @@ finished kept j = record { outcome = rewritten kept; passes = j }
 abbrev pub stopped : ℕ → ℕ → ℕ → Cleaning
 stopped k p j = record { outcome = refused k p; passes = j }
 
-pub give-tells : (k j : ℕ) (from out out′ : List ℕ) (r : Cleaned) → midOf 0 (resultSize k) from ≡ resultBytes (retainedIn k from)
+pub give-answers : (k j : ℕ) (from out out′ : List ℕ) (r : Cleaned) → midOf 0 (resultSize k) from ≡ resultBytes (retainedIn k from)
     → r ≡ record { answer = Rewritten k; passes = j } → out′ ≡ putMid 0 (resultSize k) out (midOf 0 (resultSize k) from)
-    → TellsCleaned (finished (retainedIn k from) j) r out out′
-unfolding toldCleaned told written
-give-tells k j from out out′ r whole e f = (e ∙ rw (before-long k from), f ∙ rw (whole, before-long k from))
+    → AnswersCleaned (finished (retainedIn k from) j) r out out′
+unfolding cleanedOf answerOf outputAfter
+give-answers k j from out out′ r whole e f = (e ∙ rw (before-long k from), f ∙ rw (whole, before-long k from))
 
-pub stop-tells : (k p j : ℕ) (out : List ℕ) → TellsCleaned (stopped k p j) (record { answer = Refused k p; passes = j }) out out
-unfolding toldCleaned told written
-stop-tells k p j out = (refl, refl)
+pub stop-answers : (k p j : ℕ) (out : List ℕ) → AnswersCleaned (stopped k p j) (record { answer = Refused k p; passes = j }) out out
+unfolding cleanedOf answerOf outputAfter
+stop-answers k p j out = (refl, refl)
 
 -- ---- a pass more
 
@@ -60,14 +60,14 @@ from-step S i j before = go (pass S (cellsAfter before))
     go (refused k p) = refl
     go (rewritten kept) = refl
 
-module _ (S : Sections) (i j : ℕ) (before : List Retained) (to to₁ : List ℕ) (a : Answer) (w : Tells (laterOutcome S before) a to to₁) where
+module _ (S : Sections) (i j : ℕ) (before : List Retained) (to to₁ : List ℕ) (a : Answer) (w : Answers (laterOutcome S before) a to to₁) where
   pub from-unchanged : a ≡ Unchanged → cleanFrom S (suc i) j before ≡ finished before (suc j)
   unfolding afterPass
-  from-unchanged e = from-step S i j before ∙ ap (afterPass (suc j) before (cleanFrom S i (suc j))) (told-unchanged (laterOutcome S before) (sym e ∙ w .0))
+  from-unchanged e = from-step S i j before ∙ ap (afterPass (suc j) before (cleanFrom S i (suc j))) (outcome-unchanged (laterOutcome S before) (sym e ∙ w .0))
 
   pub from-refused : (k p : ℕ) → a ≡ Refused k p → cleanFrom S (suc i) j before ≡ stopped k p (suc j)
   unfolding afterPass
-  from-refused k p e = from-step S i j before ∙ ap (afterPass (suc j) before (cleanFrom S i (suc j))) (told-refused (laterOutcome S before) k p (sym e ∙ w .0))
+  from-refused k p e = from-step S i j before ∙ ap (afterPass (suc j) before (cleanFrom S i (suc j))) (outcome-refused (laterOutcome S before) k p (sym e ∙ w .0))
 
 -- lengths stay
 pub ready-as : {u from : List ℕ} {k t work32 work64 : ℕ} → Ready u from k t work32 work64 → (t′ a b : ℕ) → t′ ≡ t → a ≡ work32 → b ≡ work64 → Ready u from k t′ a b
@@ -85,16 +85,16 @@ module _ {u from : List ℕ} {k t work32 work64 : ℕ} (r : Ready u from k t wor
   abbrev S : Sections
   S = sectionsOf u
 
-  module _ (to to₁ : List ℕ) (a : Answer) (w : Tells (laterOutcome S before) a to to₁) (long : length to ≡ t) (m : ℕ) (e : a ≡ Rewritten m) where
+  module _ (to to₁ : List ℕ) (a : Answer) (w : Answers (laterOutcome S before) a to to₁) (long : length to ≡ t) (m : ℕ) (e : a ≡ Rewritten m) where
     made : To (laterOutcome S before) m
-    made = told-rewritten (laterOutcome S before) m (sym e ∙ w .0)
+    made = outcome-rewritten (laterOutcome S before) m (sym e ∙ w .0)
 
     abbrev kept : List Retained
     kept = made .kept
 
     put : to₁ ≡ putMid 0 (resultSize (length kept)) to (resultBytes kept)
-    unfolding written
-    put = w .1 ∙ ap (λ (q : Outcome). written q to) (made .is)
+    unfolding outputAfter
+    put = w .1 ∙ ap (λ (q : Outcome). outputAfter q to) (made .is)
 
     later : (AllFit (casesIn u) kept) × (length kept ≤ k)
     later = later-made r bu bf kept (made .is)

@@ -10,99 +10,105 @@ use lib.ListN.{length}
 use borrow.Author.Tests.{eqb-true}
 use borrow.Rule.Slice.PartMut.{putMid}
 use Rattle.words.specs.Bytes.{Bytes, bytes-mid}
-use Rattle.unit.specs.declared.Header.{Header}
+use Rattle.unit.specs.declared.Counts.{Counts}
 use Rattle.unit.specs.Layout.{headerOf, metadataOf, isUnit}
 use Rattle.unit.specs.Refusal.{notUnit, shortBuffer, metadataCount, typeCount}
 use Rattle.unit.specs.Result.{Retained, resultBytes}
 use Rattle.unit.specs.Size.{metadataSize, outputRoom, work32Room, work64Room, resultSize, maxInstructions}
 use Rattle.words.specs.Truth.{left-true, right-true}
 use Rattle.effects.specs.Shape.{Sections}
-use Rattle.answer.specs.Answer.{Lent, cellsOf, sectionsOf, roomFor, isLeft, countsChecked}
+use Rattle.answer.specs.Answer.{Lent, lentOf, cellsOf, sectionsOf, roomFor, isSkipped, afterRoom, afterSkipped, afterLayout, answerWith}
 use Rattle.answer.specs.Clean.{Cleaned as Cleaning, cleanFrom, cleanedFirst, spareFor, cleanAnswer}
-use Rattle.answer.specs.Pass.{Outcome, unchanged, refused, rewritten, optimized}
-use Rattle.run.specs.Given.{given-well, cell-at, cells-long}
+use Rattle.answer.specs.Pass.{Outcome, unchanged, refused, rewritten, optimized, outputAfter}
+use Rattle.run.specs.Given.{given-well, cell-at, cells-long, metadata-fields}
 use Rattle.run.specs.Returned.{givenFunction}
 use Rattle.optimize.specs.declared.Answer.{Answer}
 use Rattle.optimize.specs.declared.Answer.the-variants.{Unchanged, Refused, Rewritten}
-use Rattle.optimize.specs.Parts.{Tells, told, written}
-use Rattle.optimize.specs.Whole.{lentOf, given-unit, room-for}
+use Rattle.optimize.specs.Parts.{Answers, answerOf}
+use Rattle.optimize.specs.Whole.{given-unit, room-for}
 use Rattle.optimize.specs.Whole as whole
-use Rattle.clean.specs.Reading.{AllFit, retainedIn}
-use Rattle.clean.specs.Fitting.{AllSound, Again, optimized-again, again-fits}
-use Rattle.clean.specs.Ready.{Ready, casesIn, worked-on, metadata-fields, written-back, written-ready}
-use Rattle.clean.specs.Told.{To, told-unchanged, told-refused, told-rewritten}
-use Rattle.clean.specs.Cleaning.{toldCleaned, TellsCleaned, stopped}
+use Rattle.run.specs.Reading.{AllFit, retainedIn}
+use Rattle.run.specs.Fitting.{AllSound, Again, optimized-again, again-fits}
+use Rattle.clean.specs.Ready.{Ready, casesIn, worked-on, written-back, written-ready}
+use Rattle.clean.specs.Later.{To, outcome-unchanged, outcome-refused, outcome-rewritten}
+use Rattle.clean.specs.Cleaning.{cleanedOf, AnswersCleaned, stopped}
 
 -- a unit that is returned as it is
 abbrev pub unaltered : Cleaning
 unaltered = record { outcome = unchanged; passes = 1 }
 
-pub unaltered-tells : (out : List ℕ) → TellsCleaned unaltered (record { answer = Unchanged; passes = 1 }) out out
-unfolding toldCleaned told written
-unaltered-tells out = (refl, refl)
+pub unaltered-answers : (out : List ℕ) → AnswersCleaned unaltered (record { answer = Unchanged; passes = 1 }) out out
+unfolding cleanedOf answerOf outputAfter
+unaltered-answers out = (refl, refl)
 
 -- ---- before the first pass
 
 module _ (u : List ℕ) (l : Lent) (first second : ℕ) where
   pub clean-refused : isUnit u ≡ false → cleanAnswer u l first second ≡ stopped notUnit 0 1
-  unfolding cleanAnswer cleanedFirst
+  unfolding cleanAnswer cleanedFirst answerWith
   clean-refused e = rw e
 
   module _ (laid : isUnit u ≡ true) where
-    pub clean-left : isLeft (headerOf u) ≡ true → cleanAnswer u l first second ≡ unaltered
-    unfolding cleanAnswer cleanedFirst
-    clean-left e = rw (laid, e)
+    pub clean-skipped : isSkipped (headerOf u .counts) ≡ true → cleanAnswer u l first second ≡ unaltered
+    unfolding cleanAnswer cleanedFirst answerWith afterLayout
+    clean-skipped e = rw (laid, e)
 
-    pub clean-short : isLeft (headerOf u) ≡ false → (roomFor (headerOf u) l && spareFor (headerOf u) first second) ≡ false → cleanAnswer u l first second ≡ stopped shortBuffer 0 1
-    unfolding cleanAnswer cleanedFirst
+    pub clean-short : isSkipped (headerOf u .counts) ≡ false → (roomFor (headerOf u .counts) l && spareFor (headerOf u .counts) first second) ≡ false → cleanAnswer u l first second ≡ stopped shortBuffer 0 1
+    unfolding cleanAnswer cleanedFirst answerWith afterLayout afterSkipped
     clean-short e f = rw (laid, e, f)
 
-    pub clean-first : isLeft (headerOf u) ≡ false → (roomFor (headerOf u) l && spareFor (headerOf u) first second) ≡ true
-        → cleanAnswer u l first second ≡ cleanedFirst (sectionsOf u) (countsChecked (headerOf u) (optimized (sectionsOf u) (cellsOf u)))
-    unfolding cleanAnswer
+    pub clean-first : isSkipped (headerOf u .counts) ≡ false → (roomFor (headerOf u .counts) l && spareFor (headerOf u .counts) first second) ≡ true
+        → cleanAnswer u l first second ≡ cleanedFirst (sectionsOf u) (afterRoom u)
+    unfolding cleanAnswer answerWith afterLayout afterSkipped
     clean-first e f = rw (laid, e, f)
 
-pub spare-test : (h : Header) (n room first second : ℕ) → h .counts .instructions ≡ n → room ≡ outputRoom n → (leb room first && leb room second) ≡ spareFor h first second
+pub spare-test : (c : Counts) (room first second : ℕ) → room ≡ outputRoom (c .instructions) → (leb room first && leb room second) ≡ spareFor c first second
 unfolding spareFor
-spare-test h n room first second e f = rw (e, f)
+spare-test c room first second e = rw e
 
 -- a spare buffer is as long as the output
-room-in : (h : Header) (out work32 work64 to : ℕ) → roomFor h (lentOf out work32 work64) ≡ true → leb (outputRoom (h .counts .instructions)) to ≡ true → roomFor h (lentOf to work32 work64) ≡ true
+room-in : (h : Counts) (out work32 work64 to : ℕ) → roomFor h (lentOf out work32 work64) ≡ true → leb (outputRoom (h .instructions)) to ≡ true → roomFor h (lentOf to work32 work64) ≡ true
 unfolding roomFor
 room-in h out work32 work64 to e f =
-    let a = leb (outputRoom (h .counts .instructions)) out in
-    let b = leb (work32Room (h .counts .instructions)) work32 in
-    let c = leb (work64Room (h .counts .instructions) (h .counts .locals)) work64 in
+    let a = leb (outputRoom (h .instructions)) out in
+    let b = leb (work32Room (h .instructions)) work32 in
+    let c = leb (work64Room (h .instructions) (h .locals)) work64 in
     rw (f, right-true a b (left-true (a && b) c e), right-true (a && b) c e)
 
-pub room-first : (h : Header) (out work32 work64 first second : ℕ) → (roomFor h (lentOf out work32 work64) && spareFor h first second) ≡ true
+pub room-first : (h : Counts) (out work32 work64 first second : ℕ) → (roomFor h (lentOf out work32 work64) && spareFor h first second) ≡ true
     → (roomFor h (lentOf out work32 work64) ≡ true) × (roomFor h (lentOf first work32 work64) ≡ true) × (roomFor h (lentOf second work32 work64) ≡ true)
 unfolding spareFor
 room-first h out work32 work64 first second e =
-    let lent = left-true (roomFor h (lentOf out work32 work64)) (leb (outputRoom (h .counts .instructions)) first && leb (outputRoom (h .counts .instructions)) second) e in
-    let spare = right-true (roomFor h (lentOf out work32 work64)) (leb (outputRoom (h .counts .instructions)) first && leb (outputRoom (h .counts .instructions)) second) e in (
+    let lent = left-true (roomFor h (lentOf out work32 work64)) (leb (outputRoom (h .instructions)) first && leb (outputRoom (h .instructions)) second) e in
+    let spare = right-true (roomFor h (lentOf out work32 work64)) (leb (outputRoom (h .instructions)) first && leb (outputRoom (h .instructions)) second) e in (
       lent,
-      room-in h out work32 work64 first lent (left-true (leb (outputRoom (h .counts .instructions)) first) (leb (outputRoom (h .counts .instructions)) second) spare),
-      room-in h out work32 work64 second lent (right-true (leb (outputRoom (h .counts .instructions)) first) (leb (outputRoom (h .counts .instructions)) second) spare),
+      room-in h out work32 work64 first lent (left-true (leb (outputRoom (h .instructions)) first) (leb (outputRoom (h .instructions)) second) spare),
+      room-in h out work32 work64 second lent (right-true (leb (outputRoom (h .instructions)) first) (leb (outputRoom (h .instructions)) second) spare),
     )
 
 -- ---- the first pass
 
 -- refusals 3 and 4 are past
-counted : (h : Header) (o : Outcome) (kept : List Retained) → countsChecked h o ≡ rewritten kept
-    → (h .counts .metadata ≡ h .counts .instructions) × (h .counts .types ≡ h .counts .locals) × (o ≡ rewritten kept)
-unfolding countsChecked
-counted h o kept e = go (eqb (h .counts .metadata) (h .counts .instructions)) refl (eqb (h .counts .types) (h .counts .locals)) refl e
+counted : (u : List ℕ) (kept : List Retained) → afterRoom u ≡ rewritten kept
+    → (headerOf u .counts .metadata ≡ headerOf u .counts .instructions) × (headerOf u .counts .types ≡ headerOf u .counts .locals) × (optimized (sectionsOf u) (cellsOf u) ≡ rewritten kept)
+unfolding afterRoom
+counted u kept e = go (eqb (c .metadata) (c .instructions)) refl (eqb (c .types) (c .locals)) refl e
   where
-    go : (s : Bool) → eqb (h .counts .metadata) (h .counts .instructions) ≡ s → (t : Bool) → eqb (h .counts .types) (h .counts .locals) ≡ t
+    c : Counts
+    c = headerOf u .counts
+
+    o : Outcome
+    o = optimized (sectionsOf u) (cellsOf u)
+
+    go : (s : Bool) → eqb (c .metadata) (c .instructions) ≡ s → (t : Bool) → eqb (c .types) (c .locals) ≡ t
         → cond s (cond t o (refused typeCount 0)) (refused metadataCount 0) ≡ rewritten kept
-        → (h .counts .metadata ≡ h .counts .instructions) × (h .counts .types ≡ h .counts .locals) × (o ≡ rewritten kept)
-    go true f true g e = (eqb-true (h .counts .metadata) (h .counts .instructions) f, eqb-true (h .counts .types) (h .counts .locals) g, e)
+        → (c .metadata ≡ c .instructions) × (c .types ≡ c .locals) × (o ≡ rewritten kept)
+    go true f true g e = (eqb-true (c .metadata) (c .instructions) f, eqb-true (c .types) (c .locals) g, e)
     go true f false g e = let z : _≡_ {A = ℕ} 0 1 = cc in absurd (omega arith)
     go false f t g e = let z : _≡_ {A = ℕ} 0 1 = cc in absurd (omega arith)
 
-module _ (u : List ℕ) (b : Bytes u) (out work32 work64 first second : ℕ) (laid : isUnit u ≡ true) (worked : isLeft (headerOf u) ≡ false)
-    (room : (roomFor (headerOf u) (lentOf out work32 work64) && spareFor (headerOf u) first second) ≡ true) where
+module _ (u : List ℕ) (b : Bytes u) (out work32 work64 first second : ℕ) (laid : isUnit u ≡ true) (worked : isSkipped (headerOf u .counts) ≡ false)
+    (room : (roomFor (headerOf u .counts) (lentOf out work32 work64) && spareFor (headerOf u .counts) first second) ≡ true) where
   abbrev n : ℕ
   n = headerOf u .counts .instructions
 
@@ -110,36 +116,36 @@ module _ (u : List ℕ) (b : Bytes u) (out work32 work64 first second : ℕ) (la
   S = sectionsOf u
 
   abbrev o : Outcome
-  o = countsChecked (headerOf u) (optimized (sectionsOf u) (cellsOf u))
+  o = afterRoom u
 
-  module _ (to to₁ : List ℕ) (a : Answer) (w : Tells o a to to₁) where
+  module _ (to to₁ : List ℕ) (a : Answer) (w : Answers o a to to₁) where
     pub first-unchanged : a ≡ Unchanged → cleanedFirst S o ≡ unaltered
     unfolding cleanedFirst
-    first-unchanged e = ap (cleanedFirst S) (told-unchanged o (sym e ∙ w .0))
+    first-unchanged e = ap (cleanedFirst S) (outcome-unchanged o (sym e ∙ w .0))
 
     pub first-refused : (k p : ℕ) → a ≡ Refused k p → cleanedFirst S o ≡ stopped k p 1
     unfolding cleanedFirst
-    first-refused k p e = ap (cleanedFirst S) (told-refused o k p (sym e ∙ w .0))
+    first-refused k p e = ap (cleanedFirst S) (outcome-refused o k p (sym e ∙ w .0))
 
     module _ (long : length to ≡ first) (k : ℕ) (e : a ≡ Rewritten k) where
       made : To o k
-      made = told-rewritten o k (sym e ∙ w .0)
+      made = outcome-rewritten o k (sym e ∙ w .0)
 
       abbrev kept : List Retained
       kept = made .kept
 
       put : to₁ ≡ putMid 0 (resultSize (length kept)) to (resultBytes kept)
-      unfolding written
-      put = w .1 ∙ ap (λ (q : Outcome). written q to) (made .is)
+      unfolding outputAfter
+      put = w .1 ∙ ap (λ (q : Outcome). outputAfter q to) (made .is)
 
       counts : (headerOf u .counts .metadata ≡ n) × (headerOf u .counts .types ≡ headerOf u .counts .locals) × (optimized S (cellsOf u) ≡ rewritten kept)
-      counts = counted (headerOf u) (optimized S (cellsOf u)) kept (made .is)
+      counts = counted u kept (made .is)
 
-      rooms : (roomFor (headerOf u) (lentOf out work32 work64) ≡ true) × (roomFor (headerOf u) (lentOf first work32 work64) ≡ true) × (roomFor (headerOf u) (lentOf second work32 work64) ≡ true)
-      rooms = room-first (headerOf u) out work32 work64 first second room
+      rooms : (roomFor (headerOf u .counts) (lentOf out work32 work64) ≡ true) × (roomFor (headerOf u .counts) (lentOf first work32 work64) ≡ true) × (roomFor (headerOf u .counts) (lentOf second work32 work64) ≡ true)
+      rooms = room-first (headerOf u .counts) out work32 work64 first second room
 
       sizes : (1 < n) × (n ≤ maxInstructions)
-      sizes = whole.worked-on (headerOf u) worked
+      sizes = whole.worked-on (headerOf u .counts) worked
 
       sound : AllSound (casesIn u) (cellsOf u)
       sound p h =

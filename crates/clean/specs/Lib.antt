@@ -1,7 +1,5 @@
-pub mod Reading
-pub mod Fitting
 pub mod Placing
 pub mod Ready
-pub mod Told
+pub mod Later
 pub mod Cleaning
 pub mod First

@@ -14,8 +14,9 @@ use Rattle.words.specs.Regions.{mid-long, mid-more, put-more, put-put}
 use Rattle.unit.specs.Result.{Retained, placeBytes}
 use Rattle.answer.specs.Clean.{placedBy}
 use Rattle.pc_map.specs.Retaining.{place-section}
-use Rattle.clean.specs.Reading.{placeSize, retainedAt, noRetained, place-back}
-use Rattle.clean.specs.Fitting.{placed-at, placed-long}
+use Rattle.unit.specs.Size.{placeSize}
+use Rattle.run.specs.Reading.{retainedAt, noRetained, place-back}
+use Rattle.run.specs.Fitting.{placed-at, placed-long}
 
 -- ---- a buffer's front copied
 

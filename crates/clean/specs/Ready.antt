@@ -18,20 +18,20 @@ use Rattle.instruction.specs.Instruction.{instructionAt}
 use Rattle.unit.specs.Entry.{metadataAt, goodMetadata}
 use Rattle.unit.specs.Laws.{MetadataFields, unit-laid, result-long, result-header-long, code-bytes-long, metadata-bytes-all-long, place-bytes-long}
 use Rattle.unit.specs.Layout.{headerOf, typesOf, constantsOf, functionsOf, externsOf, casesOf, isUnit}
-use Rattle.unit.specs.Result.{Retained, resultHeader, codeBytes, metadataBytesAll, placeBytes, resultBytes, resultMetadataAt, resultPlacesAt}
-use Rattle.unit.specs.Size.{instructionSize, metadataSize, constantSize, caseSize, resultHeaderSize, resultSize, setWords, maxSetWords, maxInstructions}
+use Rattle.unit.specs.Result.{Retained, retainedFrom, resultHeader, codeBytes, metadataBytesAll, placeBytes, resultBytes, resultMetadataAt, resultPlacesAt}
+use Rattle.unit.specs.Size.{placeSize, instructionSize, metadataSize, constantSize, caseSize, resultHeaderSize, resultSize, setWords, maxSetWords, maxInstructions}
 use Rattle.effects.specs.Shape.{Sections, cellAt, noCell}
 use Rattle.answer.specs.Answer.{sectionsOf}
 use Rattle.answer.specs.Clean.{cellOf, cellsAfter, placedBy}
 use Rattle.answer.specs.Pass.{Outcome, unchanged, refused, rewritten, isWorkedOn, optimized, pass}
 use Rattle.run.specs.Checked.{Well}
-use Rattle.run.specs.Given.{instruction-fields, constants-below}
+use Rattle.run.specs.Given.{instruction-fields, constants-below, metadata-fields}
 use Rattle.run.specs.Program.{Function}
 use Rattle.run.specs.Returned.{resultFunction}
 use Rattle.removal.specs.Kept.{sectionsIn}
 use Rattle.optimize.specs.Parts.{Given, Room, cellsIn, cells-in}
-use Rattle.clean.specs.Reading.{AllFit, placeSize, codeIn, metadataIn, placesIn, retainedIn, retainedAt, noRetained, metadata-in, places-in, metadata-back, retained-back}
-use Rattle.clean.specs.Fitting.{AllSound, Again, optimized-again, placed-long, placed-fits}
+use Rattle.run.specs.Reading.{AllFit, codeIn, metadataIn, placesIn, retainedIn, retainedAt, noRetained, metadata-in, places-in, metadata-back, retained-back}
+use Rattle.run.specs.Fitting.{AllSound, Again, optimized-again, placed-long, placed-fits}
 use Rattle.clean.specs.Placing.{composed}
 
 -- room for n instructions is room for fewer
@@ -70,12 +70,12 @@ abbrev pub laterOutcome : Sections → List Retained → Outcome
 laterOutcome S before = placedOutcome before (pass S (cellsAfter before))
 
 pub before-long : (k : ℕ) (from : List ℕ) → length (retainedIn k from) ≡ k
-unfolding retainedIn
+unfolding retainedFrom
 before-long k from = length-tabulate k _
 
 before-at : (k : ℕ) (from : List ℕ) (p : ℕ) → p < k
     → retainedAt (retainedIn k from) p ≡ record { instruction = instructionAt (codeIn k from) p; metadata = metadataAt (metadataIn k from) p; place = u32At (placesIn k from) (placeSize * p) }
-unfolding retainedIn
+unfolding retainedFrom
 before-at k from p h = getD-tabulate k _ p noRetained h
 
 cell-before : (k : ℕ) (from : List ℕ) (p : ℕ) → p < k
@@ -90,18 +90,6 @@ cells-before k from b =
     cells-in k (codeIn k from) (metadataIn k from) (bytes-mid 16 (instructionSize * k) from b)
     ∙ ext-getD noCell (tabulate k _) (cellsAfter (retainedIn k from)) (length-tabulate k _ ∙ sym (cells-before-long k from))
     (λ p h. let l : p < k = rw (length-tabulate k _) at h in getD-tabulate k _ p noCell l ∙ sym (cell-before k from p l))
-
-pub metadata-fields : (l : List ℕ) (p : ℕ) → Bytes l → MetadataFields (metadataAt l p)
-unfolding metadataAt
-metadata-fields l p b =
-    record {
-      kind-fits = b (metadataSize * p);
-      ok-fits = b (metadataSize * p + 1);
-      array-fits = le-fits 2 l (metadataSize * p + 2) b;
-      first-fits = le-fits 4 l (metadataSize * p + 4) b;
-      second-fits = le-fits 4 l (metadataSize * p + 8) b;
-      end-fits = le-fits 4 l (metadataSize * p + 12) b;
-    }
 
 pub worked-on : (n : ℕ) → 1 < n → n ≤ maxInstructions → isWorkedOn n ≡ true
 unfolding isWorkedOn

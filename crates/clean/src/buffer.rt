@@ -5,7 +5,7 @@ ghost use lib.ListN.{length};
 ghost use borrow.Rule.Slice.PartMut.{midOf, putMid};
 ghost use Rattle.words.specs.Le.{u32At};
 ghost use Rattle.unit.specs.Size.{maxInstructions};
-ghost use Rattle.clean.specs.Reading.{placeSize};
+ghost use Rattle.unit.specs.Size.{placeSize};
 ghost use Rattle.clean.specs.Placing.{composed};
 use words::le;
 

@@ -7,11 +7,12 @@ ghost use Rattle.unit.specs.Result.{resultPlacesAt};
 ghost use Rattle.answer.specs.Answer.{sectionsOf};
 ghost use Rattle.answer.specs.Clean.{cellsAfter};
 ghost use Rattle.answer.specs.Pass.{optimized};
-ghost use Rattle.optimize.specs.Parts.{Tells};
-ghost use Rattle.clean.specs.Reading.{placeSize, placesIn, retainedIn};
+ghost use Rattle.optimize.specs.Parts.{Answers};
+ghost use Rattle.unit.specs.Size.{placeSize};
+ghost use Rattle.run.specs.Reading.{placesIn, retainedIn};
 ghost use Rattle.clean.specs.Placing.{composed};
 ghost use Rattle.clean.specs.Ready.{Ready, laterOutcome};
-ghost use Rattle.clean.specs.Told.{Placeable};
+ghost use Rattle.clean.specs.Later.{Placeable};
 use crate::buffer;
 use optimize::Answer;
 use optimize::parts;
@@ -28,7 +29,7 @@ fn work(
     k: usize,
 ) -> Answer
     requires { ⌜ Ready (now unit) (now from) k (length (now to)) (length (now work32)) (length (now work64)) × (1 < k) ⌝ }
-    ensures { λ r. ⌜ Tells (optimized (sectionsOf (now (unit .entry))) (cellsAfter (retainedIn k (now (from .entry))))) r (now (to .entry)) (now (to .exit)) ⌝ }
+    ensures { λ r. ⌜ Answers (optimized (sectionsOf (now (unit .entry))) (cellsAfter (retainedIn k (now (from .entry))))) r (now (to .entry)) (now (to .exit)) ⌝ }
 {
     let metadata = result::metadata_at(k);
     let places = result::places_at(k);
@@ -57,7 +58,7 @@ fn place(from: &[u8], to: &mut [u8], k: usize, j: usize)
     buffer::compose(&from[old..old + 4 * k], &mut to[new..new + 4 * j], j);
 }
 
-// "n under 2" is unchanged; what the pass rewrote has old places in the given unit.
+// "n under 2" is unchanged; what the pass rewrote has old places in the given unit. What the work buffers hold then is free.
 pub fn later(
     unit: &[u8],
     from: &[u8],
@@ -67,7 +68,7 @@ pub fn later(
     k: usize,
 ) -> Answer
     requires { ⌜ Ready (now unit) (now from) k (length (now to)) (length (now work32)) (length (now work64)) ⌝ }
-    ensures { λ r. ⌜ Tells (laterOutcome (sectionsOf (now (unit .entry))) (retainedIn k (now (from .entry)))) r (now (to .entry)) (now (to .exit)) ⌝ }
+    ensures { λ r. ⌜ Answers (laterOutcome (sectionsOf (now (unit .entry))) (retainedIn k (now (from .entry)))) r (now (to .entry)) (now (to .exit)) ⌝ }
 {
     if k < 2 {
         return Answer::Unchanged;

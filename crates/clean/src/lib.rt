@@ -1,21 +1,18 @@
 // The cleaning: up to three passes. Each reads the code of the pass before from one spare buffer and writes to the other.
 ghost use mathlib.Core.Path.{_≡_};
 ghost use mathlib.Core.Bool.{true, false, _&&_};
-ghost use Prim.Native.Nat.{_^_, _≤_, _<_};
-ghost use lib.ListN.{length, replicate};
+ghost use Prim.Native.Nat.{_≤_};
+ghost use lib.ListN.{length};
 ghost use borrow.Rule.Slice.PartMut.{midOf};
 ghost use Rattle.unit.specs.Layout.{headerOf, isUnit};
 ghost use Rattle.unit.specs.Result.{resultBytes};
 ghost use Rattle.unit.specs.Size.{resultSize, maxInstructions};
-ghost use Rattle.unit.specs.declared.Header.{Header};
-ghost use Rattle.answer.specs.Answer.{isLeft, roomFor, countsChecked, cellsOf, sectionsOf};
+ghost use Rattle.answer.specs.Answer.{lentOf, sectionsOf, isSkipped, roomFor, afterRoom};
 ghost use Rattle.answer.specs.Clean.{cleanFrom, cleanedFirst, spareFor, cleanAnswer};
-ghost use Rattle.answer.specs.Pass.{optimized};
-ghost use Rattle.run.specs.Returned.{RunsAlike};
-ghost use Rattle.optimize.specs.Whole.{lentOf};
-ghost use Rattle.clean.specs.Reading.{retainedIn};
+ghost use Rattle.run.specs.Contract.{CleanContract, buffers, spares};
+ghost use Rattle.run.specs.Reading.{retainedIn};
 ghost use Rattle.clean.specs.Ready.{Ready};
-ghost use Rattle.clean.specs.Cleaning.{TellsCleaned, finished};
+ghost use Rattle.clean.specs.Cleaning.{cleanedOf, AnswersCleaned, finished};
 
 mod buffer;
 mod later;
@@ -37,7 +34,7 @@ pub struct Cleaned {
 // "it gives the last rewritten code": the k instructions in a spare buffer.
 fn give(from: &[u8], out: &mut [u8], k: usize, passes: u32) -> Cleaned
     requires { ⌜ (k ≤ maxInstructions) × (resultSize k ≤ length (now from)) × (resultSize k ≤ length (now out)) × (midOf 0 (resultSize k) (now from) ≡ resultBytes (retainedIn k (now from))) ⌝ }
-    ensures { λ r. ⌜ TellsCleaned (finished (retainedIn k (now (from .entry))) passes) r (now (out .entry)) (now (out .exit)) ⌝ }
+    ensures { λ r. ⌜ AnswersCleaned (finished (retainedIn k (now (from .entry))) passes) r (now (out .entry)) (now (out .exit)) ⌝ }
 {
     buffer::copy(from, out, size::output_room(k));
     Cleaned {
@@ -57,7 +54,7 @@ fn third_pass(
     k: usize,
 ) -> Cleaned
     requires { ⌜ Ready (now unit) (now from) k (length (now to)) (length (now work32)) (length (now work64)) × (resultSize k ≤ length (now out)) ⌝ }
-    ensures { λ r. ⌜ TellsCleaned (cleanFrom (sectionsOf (now (unit .entry))) 1 2 (retainedIn k (now (from .entry)))) r (now (out .entry)) (now (out .exit)) ⌝ }
+    ensures { λ r. ⌜ AnswersCleaned (cleanFrom (sectionsOf (now (unit .entry))) 1 2 (retainedIn k (now (from .entry)))) r (now (out .entry)) (now (out .exit)) ⌝ }
 {
     match later::later(unit, from, to, work32, work64, k) {
         Answer::Unchanged => give(from, out, k, 3),
@@ -80,7 +77,7 @@ fn second_pass(
     k: usize,
 ) -> Cleaned
     requires { ⌜ Ready (now unit) (now from) k (length (now to)) (length (now work32)) (length (now work64)) × (resultSize k ≤ length (now out)) ⌝ }
-    ensures { λ r. ⌜ TellsCleaned (cleanFrom (sectionsOf (now (unit .entry))) 2 1 (retainedIn k (now (from .entry)))) r (now (out .entry)) (now (out .exit)) ⌝ }
+    ensures { λ r. ⌜ AnswersCleaned (cleanFrom (sectionsOf (now (unit .entry))) 2 1 (retainedIn k (now (from .entry)))) r (now (out .entry)) (now (out .exit)) ⌝ }
 {
     match later::later(unit, &from[..], to, work32, work64, k) {
         Answer::Unchanged => give(&from[..], out, k, 2),
@@ -102,8 +99,8 @@ fn first_pass(
     second: &mut [u8],
     c: Counts,
 ) -> Cleaned
-    requires { ⌜ (isUnit (now unit) ≡ true) × (c ≡ headerOf (now unit) .counts) × (isLeft (headerOf (now unit)) ≡ false) × ((roomFor (headerOf (now unit)) (lentOf (length (now out)) (length (now work32)) (length (now work64))) && spareFor (headerOf (now unit)) (length (now first)) (length (now second))) ≡ true) ⌝ }
-    ensures { λ r. ⌜ TellsCleaned (cleanedFirst (sectionsOf (now (unit .entry))) (countsChecked (headerOf (now (unit .entry))) (optimized (sectionsOf (now (unit .entry))) (cellsOf (now (unit .entry)))))) r (now (out .entry)) (now (out .exit)) ⌝ }
+    requires { ⌜ (isUnit (now unit) ≡ true) × (c ≡ headerOf (now unit) .counts) × (isSkipped c ≡ false) × ((roomFor c (lentOf (length (now out)) (length (now work32)) (length (now work64))) && spareFor c (length (now first)) (length (now second))) ≡ true) ⌝ }
+    ensures { λ r. ⌜ AnswersCleaned (cleanedFirst (sectionsOf (now (unit .entry))) (afterRoom (now (unit .entry)))) r (now (out .entry)) (now (out .exit)) ⌝ }
 {
     match pass::counted(unit, first, work32, work64, c) {
         Answer::Unchanged => Cleaned {
@@ -121,11 +118,11 @@ fn first_pass(
 }
 
 // Is each spare buffer as long as stated?
-fn has_spare(n: usize, first: usize, second: usize) -> bool
-    requires { ⌜ n < 2 ^ 32 ⌝ }
-    ensures { λ r. ⌜ ((h : Header) → h .counts .instructions ≡ n → r ≡ spareFor h first second) ⌝ }
+fn has_spare(c: Counts, first: usize, second: usize) -> bool
+    requires { ⌜ c .instructions ≤ maxInstructions ⌝ }
+    ensures { λ r. ⌜ r ≡ spareFor c first second ⌝ }
 {
-    let room = size::output_room(n);
+    let room = size::output_room(c.instructions);
     (room <= first) & (room <= second)
 }
 
@@ -140,17 +137,16 @@ fn laid(
     c: Counts,
 ) -> Cleaned
     requires { ⌜ (isUnit (now unit) ≡ true) × (c ≡ headerOf (now unit) .counts) ⌝ }
-    ensures { λ r. ⌜ TellsCleaned (cleanAnswer (now (unit .entry)) (lentOf (length (now (out .entry))) (length (now (work32 .entry))) (length (now (work64 .entry)))) (length (now (first .entry))) (length (now (second .entry)))) r (now (out .entry)) (now (out .exit)) ⌝ }
+    ensures { λ r. ⌜ AnswersCleaned (cleanAnswer (now (unit .entry)) (lentOf (length (now (out .entry))) (length (now (work32 .entry))) (length (now (work64 .entry)))) (length (now (first .entry))) (length (now (second .entry)))) r (now (out .entry)) (now (out .exit)) ⌝ }
 {
-    let n = c.instructions;
-    if pass::is_left(n, c.defer) {
+    if pass::is_skipped(c) {
         return Cleaned {
             answer: Answer::Unchanged,
             passes: 1,
         };
     }
-    if !(pass::has_room(n, c.locals, out.len(), work32.len(), work64.len())
-        & has_spare(n, first.len(), second.len())) {
+    if !(pass::has_room(c, out.len(), work32.len(), work64.len())
+        & has_spare(c, first.len(), second.len())) {
         return Cleaned {
             answer: Answer::Refused(refusal::SHORT_BUFFER, 0),
             passes: 1,
@@ -168,7 +164,7 @@ fn answer(
     first: &mut [u8],
     second: &mut [u8],
 ) -> Cleaned
-    ensures { λ r. ⌜ TellsCleaned (cleanAnswer (now (unit .entry)) (lentOf (length (now (out .entry))) (length (now (work32 .entry))) (length (now (work64 .entry)))) (length (now (first .entry))) (length (now (second .entry)))) r (now (out .entry)) (now (out .exit)) ⌝ }
+    ensures { λ r. ⌜ AnswersCleaned (cleanAnswer (now (unit .entry)) (lentOf (length (now (out .entry))) (length (now (work32 .entry))) (length (now (work64 .entry)))) (length (now (first .entry))) (length (now (second .entry)))) r (now (out .entry)) (now (out .exit)) ⌝ }
 {
     match parse::check(unit) {
         Layout::Refused(k, p) => Cleaned {
@@ -189,7 +185,7 @@ pub fn clean(
     first: &mut [u8],
     second: &mut [u8],
 ) -> Cleaned
-    ensures { λ r. ⌜ TellsCleaned (cleanAnswer (now (unit .entry)) (lentOf (length (now (out .entry))) (length (now (work32 .entry))) (length (now (work64 .entry)))) (length (now (first .entry))) (length (now (second .entry)))) r (now (out .entry)) (now (out .exit)) × (now (work32 .exit) ≡ replicate (length (now (work32 .entry))) 0) × (now (work64 .exit) ≡ replicate (length (now (work64 .entry))) 0) × (now (first .exit) ≡ replicate (length (now (first .entry))) 0) × (now (second .exit) ≡ replicate (length (now (second .entry))) 0) × RunsAlike (now (unit .entry)) (cleanAnswer (now (unit .entry)) (lentOf (length (now (out .entry))) (length (now (work32 .entry))) (length (now (work64 .entry)))) (length (now (first .entry))) (length (now (second .entry))) .outcome) ⌝ }
+    ensures { λ r. ⌜ CleanContract cleanedOf (now (unit .entry)) (buffers (now (out .entry)) (now (work32 .entry)) (now (work64 .entry))) (spares (now (first .entry)) (now (second .entry))) r (buffers (now (out .exit)) (now (work32 .exit)) (now (work64 .exit))) (spares (now (first .exit)) (now (second .exit))) ⌝ }
 {
     let r = answer(unit, out, work32, work64, first, second);
     fill::zero_u32(work32);

@@ -115,22 +115,6 @@ fn ranges_hold(
     false
 }
 
-pub fn effects_sound(
-    i: Instruction,
-    m: Metadata,
-    functions: &[u8],
-    externs: &[u8],
-    cases: &[u8],
-) -> bool
-    requires { ⌜ goodMetadata (length (now cases) / caseSize) m ≡ true ⌝ }
-    ensures { λ r. ⌜ r ≡ effectsSound (tablesOf (now (functions .entry)) (now (externs .entry)) (now (cases .entry))) (record { instruction = i; metadata = m }) ⌝ }
-{
-    if demand::demands_met(i, m, functions, externs) {
-        return ranges_hold(SLOTS, i, m, functions, externs, cases);
-    }
-    false
-}
-
 // The refusal of a valid instruction's operands, by all its ranges.
 fn ranges_refusal(
     locals: usize,

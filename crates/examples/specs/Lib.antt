@@ -1,2 +1,4 @@
+pub mod Computed
 pub mod Unit
 pub mod Table
+pub mod Runs

@@ -56,7 +56,7 @@ fn distance(i: Instruction, looped: bool) -> u64
     if looped { near } else { far }
 }
 
-// The target of a branch at place p, by the number of its class.
+// The target of a branch at place p, by the number of its class; of what is no branch the answer is free.
 pub fn branch_target(p: usize, i: Instruction, k: u64) -> u64
     requires { ⌜ (p ≤ maxInstructions) × (k ≡ numberOf (class i)) ⌝ }
     ensures { λ r. ⌜ (branches (class i) ≡ true → r ≡ target p i) ⌝ }

@@ -1,14 +1,8 @@
 // The entries for a host program in C or Rust: include/lampruda.h declares them. They hold no state: threads may call them at once,
 // each with buffers of its own.
 ghost use mathlib.Core.Path.{_≡_};
-ghost use lib.ListN.{length, replicate};
-ghost use Rattle.answer.specs.Answer.{passAnswer};
-ghost use Rattle.answer.specs.Clean.{cleanAnswer};
-ghost use Rattle.run.specs.Returned.{RunsAlike};
-ghost use Rattle.optimize.specs.Parts.{told, written};
-ghost use Rattle.optimize.specs.Whole.{lentOf};
-ghost use Rattle.clean.specs.Cleaning.{toldCleaned};
-ghost use Rattle.host.specs.Numbers.{numbersOf, cleanedNumbersOf};
+ghost use Rattle.run.specs.Contract.{PassContract, CleanContract, buffers, spares};
+ghost use Rattle.host.specs.Numbers.{numbersOf, numbersOfOutcome, numbersOfCleaning};
 use clean::clean;
 use optimize::Answer;
 use optimize::pass;
@@ -60,7 +54,7 @@ pub extern "C" fn lampruda_pass(
     work32: &mut [u32],
     work64: &mut [u64],
 ) -> Numbers
-    ensures { λ r. ⌜ (r ≡ numbersOf (told (passAnswer (now (unit .entry)) (lentOf (length (now (out .entry))) (length (now (work32 .entry))) (length (now (work64 .entry))))))) × (now (out .exit) ≡ written (passAnswer (now (unit .entry)) (lentOf (length (now (out .entry))) (length (now (work32 .entry))) (length (now (work64 .entry))))) (now (out .entry))) × (now (work32 .exit) ≡ replicate (length (now (work32 .entry))) 0) × (now (work64 .exit) ≡ replicate (length (now (work64 .entry))) 0) × RunsAlike (now (unit .entry)) (passAnswer (now (unit .entry)) (lentOf (length (now (out .entry))) (length (now (work32 .entry))) (length (now (work64 .entry))))) ⌝ }
+    ensures { λ r. ⌜ PassContract numbersOfOutcome (now (unit .entry)) (buffers (now (out .entry)) (now (work32 .entry)) (now (work64 .entry))) r (buffers (now (out .exit)) (now (work32 .exit)) (now (work64 .exit))) ⌝ }
 {
     in_numbers(pass::pass(unit, out, work32, work64))
 }
@@ -75,7 +69,7 @@ pub extern "C" fn lampruda_clean(
     first: &mut [u8],
     second: &mut [u8],
 ) -> CleanedNumbers
-    ensures { λ r. ⌜ (r ≡ cleanedNumbersOf (toldCleaned (cleanAnswer (now (unit .entry)) (lentOf (length (now (out .entry))) (length (now (work32 .entry))) (length (now (work64 .entry)))) (length (now (first .entry))) (length (now (second .entry)))))) × (now (out .exit) ≡ written (cleanAnswer (now (unit .entry)) (lentOf (length (now (out .entry))) (length (now (work32 .entry))) (length (now (work64 .entry)))) (length (now (first .entry))) (length (now (second .entry))) .outcome) (now (out .entry))) × (now (work32 .exit) ≡ replicate (length (now (work32 .entry))) 0) × (now (work64 .exit) ≡ replicate (length (now (work64 .entry))) 0) × (now (first .exit) ≡ replicate (length (now (first .entry))) 0) × (now (second .exit) ≡ replicate (length (now (second .entry))) 0) × RunsAlike (now (unit .entry)) (cleanAnswer (now (unit .entry)) (lentOf (length (now (out .entry))) (length (now (work32 .entry))) (length (now (work64 .entry)))) (length (now (first .entry))) (length (now (second .entry))) .outcome) ⌝ }
+    ensures { λ r. ⌜ CleanContract numbersOfCleaning (now (unit .entry)) (buffers (now (out .entry)) (now (work32 .entry)) (now (work64 .entry))) (spares (now (first .entry)) (now (second .entry))) r (buffers (now (out .exit)) (now (work32 .exit)) (now (work64 .exit))) (spares (now (first .exit)) (now (second .exit))) ⌝ }
 {
     let c = clean(unit, out, work32, work64, first, second);
     let answer = c.answer;

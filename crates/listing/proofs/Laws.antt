@@ -19,12 +19,11 @@ use Rattle.instruction.specs.Instruction.{instructionAt}
 use Rattle.unit.specs.Result.{resultBytes, resultPlacesAt}
 use Rattle.unit.specs.Laws.{result-long}
 use Rattle.unit.specs.Size.{resultSize}
-use Rattle.answer.specs.Pass.{Outcome, unchanged, refused, rewritten}
-use Rattle.answer.specs.Answer.{Lent, passAnswer}
+use Rattle.answer.specs.Pass.{Outcome, unchanged, refused, rewritten, outputAfter}
+use Rattle.answer.specs.Answer.{Lent, lentOf, passAnswer}
 use Rattle.optimize.specs.declared.Answer.{Answer}
 use Rattle.optimize.specs.declared.Answer.the-variants.{Refused}
-use Rattle.optimize.specs.Parts.{told, written}
-use Rattle.optimize.specs.Whole.{lentOf}
+use Rattle.optimize.specs.Parts.{answerOf}
 use Rattle.listing.specs.Puts.{Puts, Fits, puts-one, puts-long, puts-then, puts-text}
 use Rattle.listing.specs.Text.{decimal, ended, fields, line, textOf, listingWith, listing}
 
@@ -85,11 +84,11 @@ line-puts result n p e f g q =
     rw whole at (rw (e, f, g) at q)
 
 -- what a pass tells of lies within the output
-pub fits-told : (o : Outcome) (out out′ : List ℕ) → out′ ≡ written o out → length out′ ≡ length out → length out ≤ 8192 → Fits (told o) (length out′)
-unfolding told written
-fits-told unchanged out out′ e l h = tt
-fits-told (refused k p) out out′ e l h = tt
-fits-told (rewritten kept) out out′ e l h =
+pub fits-answer : (o : Outcome) (out out′ : List ℕ) → out′ ≡ outputAfter o out → length out′ ≡ length out → length out ≤ 8192 → Fits (answerOf o) (length out′)
+unfolding answerOf outputAfter
+fits-answer unchanged out out′ e l h = tt
+fits-answer (refused k p) out out′ e l h = tt
+fits-answer (rewritten kept) out out′ e l h =
     let long : length out′ ≡ length (resultBytes kept) + length (postOf 0 (resultSize (length kept)) out) = ap length e ∙ length-append (resultBytes kept) _ in
     record { within = omega (arith, long, result-long kept); few = omega arith }
 
@@ -106,7 +105,7 @@ pub listed : {end : ℕ} {xs text text′ : List ℕ} (u : List ℕ) → xs ≡ 
 listed u e p = rw e at (puts-text p)
 
 -- the text of what a pass tells
-pub told-puts : (u out out′ : List ℕ) (l : Lent) {r : Answer} {text text′ : List ℕ} {end : ℕ} → r ≡ told (passAnswer u l) → out′ ≡ written (passAnswer u l) out
+pub outcome-puts : (u out out′ : List ℕ) (l : Lent) {r : Answer} {text text′ : List ℕ} {end : ℕ} → r ≡ answerOf (passAnswer u l) → out′ ≡ outputAfter (passAnswer u l) out
     → Puts 0 (textOf r out′) text text′ end → Puts 0 (listingWith u out l) text text′ end
 unfolding listingWith
-told-puts u out out′ l e w p = rw (e, w) at p
+outcome-puts u out out′ l e w p = rw (e, w) at p

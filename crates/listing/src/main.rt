@@ -3,7 +3,7 @@ ghost use mathlib.Core.Path.{_≡_};
 ghost use Prim.Native.Nat.{_≤_};
 ghost use lib.ListN.{length, take};
 ghost use Rattle.io.specs.Counts.{Counts};
-ghost use Rattle.optimize.specs.Whole.{lentOf};
+ghost use Rattle.answer.specs.Answer.{lentOf};
 ghost use Rattle.listing.specs.Text.{listing, listingWith};
 ghost use Rattle.listing.specs.Puts.{Puts};
 use libc::STDIN_FILENO;

@@ -110,7 +110,7 @@ fn summarize_block(
     }
 }
 
-// The sets of all blocks.
+// The sets of all blocks. What the memory holds beside code and sets, the row among it, is free.
 pub fn summarize(
     memory: &mut [u64],
     sets: Layout,

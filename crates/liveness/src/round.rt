@@ -50,7 +50,7 @@ fn round(memory: &mut [u64], sets: Layout, blocks: &[u32], starts: &[u32]) -> bo
     changed
 }
 
-// At most so many rounds, until one changes nothing. The answer is whether one did not.
+// At most so many rounds, until one changes nothing. The answer is whether one did not; the row is free.
 pub fn solve(memory: &mut [u64], sets: Layout, blocks: &[u32], starts: &[u32], limit: usize) -> bool
     requires { ⌜ Ready sets (now memory) (now blocks) (now starts) ⌝ }
     ensures { λ r. ⌜ ((S : Sections) (leaders keep metadata : List ℕ) (rows : List Row) → Around S leaders keep (cellsBy (codeOf sets (now (memory .entry))) metadata) (sets .width) (sets .count) rows (now (blocks .entry)) (now (starts .entry)) (usesOf sets (now (memory .entry))) (preservedOf sets (now (memory .entry))) (liveOf sets (now (memory .entry))) → Solved S leaders keep (cellsBy (codeOf sets (now (memory .entry))) metadata) (sets .width) limit rows (liveOf sets (now (memory .exit))) r) × (codeOf sets (now (memory .exit)) ≡ codeOf sets (now (memory .entry))) × (usesOf sets (now (memory .exit)) ≡ usesOf sets (now (memory .entry))) × (preservedOf sets (now (memory .exit)) ≡ preservedOf sets (now (memory .entry))) ⌝ }

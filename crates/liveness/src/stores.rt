@@ -89,7 +89,7 @@ fn drop_stores(
 }
 
 // Memory holds the code's n words and has room for the sets behind them. The table holds, for n places, leaders, blocks (at n), where
-// the blocks start (at 2 * n, one more) and the flags of kept places (at 3 * n + 1).
+// the blocks start (at 2 * n, one more) and the flags of kept places (at 3 * n + 1). What the memory holds behind the code is free.
 pub fn drop_dead_stores(
     memory: &mut [u64],
     table: &mut [u32],

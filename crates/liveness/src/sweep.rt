@@ -99,7 +99,7 @@ fn sweep_place(
 }
 
 // Drops the dead stores, given what is live at the start of each block. The table holds, for n places, leaders, blocks (at n) and
-// the flags of kept places (at 3 * n + 1).
+// the flags of kept places (at 3 * n + 1). What the memory holds beside the code is free.
 pub fn sweep(
     memory: &mut [u64],
     table: &mut [u32],

@@ -502,7 +502,7 @@ fn turn(t: &mut [u64], types: &[u8], constants: &[u8], n: usize, leader: u32, w:
 
 // Value numbering of a whole function: its code, one word an instruction at the memory's start, is rewritten. `leaders` has 1 where
 // a block starts. The table of values takes 12 numbers of the memory after the code for each instruction, 2 for each slot and 4
-// more; what they hold is free.
+// more; what they hold, before and after, is free.
 pub fn number_code(memory: &mut [u64], leaders: &[u32], types: &[u8], constants: &[u8])
     requires { ⌜ Numberable (midOf 0 (length (now leaders)) (now memory)) (now leaders) (now types) (now memory) ⌝ }
     ensures { λ _. ⌜ ((metadata : List ℕ) (locals : ℕ) (tables : Tables) → midOf 0 (length (now (leaders .entry))) (now (memory .exit)) ≡ map (λ (x : Cell). toWord (x .instruction)) (numberCode (sectionsOf (now (types .entry)) (now (constants .entry)) locals tables) (now (leaders .entry)) (cellsBy (midOf 0 (length (now (leaders .entry))) (now (memory .entry))) metadata))) ⌝ }

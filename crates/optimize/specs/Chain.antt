@@ -28,7 +28,7 @@ use Rattle.pc_map.specs.Listed.{keptList}
 use Rattle.answer.specs.Pass.{Outcome, refused, checked, removal}
 use Rattle.values.specs.Named.{Named}
 use Rattle.run.specs.Operands.{named-of}
-use Rattle.optimize.specs.Parts.{Given, Room, Checked, wordsIn, words-long, wordsOf, cellsIn, numberedCode, reachedMarks, retainedPlaces, afterLoops}
+use Rattle.optimize.specs.Parts.{Given, Room, Checked, wordsIn, words-long, wordsOf, cellsIn, numberedCode, reachedMarks, retainedPlaces, fromLoops, loops-removal}
 use Rattle.removal.specs.Kept.{sectionsIn, keepAt, listAt, Retainable, Retains}
 use Rattle.optimize.specs.Numbered.{given-long, numbered-size, cells-back, numbered-operands, numbered-none, numbered-inside}
 use Rattle.optimize.specs.Steps.{ListedControls, list-kept, Renumbered, Marks, Reached, Numberable, Finished}
@@ -160,8 +160,8 @@ module _ (n : ℕ) (code metadata : List ℕ) (S : Sections) (g : Given n code m
             keep-long : length (midOf (keepAt n) n work32′) ≡ n
             keep-long = mid-long work32′ (keepAt n) n (omega (arith, r .room32, long32))
 
-        pub kept-answer : afterLoops S cells ≡ removal cells (cellsBy (midOf 0 n work64′) metadata) (midOf (keepAt n) n work32′)
-        kept-answer = rw (kept-cells, kept-places)
+        pub kept-answer : fromLoops S cells ≡ removal cells (cellsBy (midOf 0 n work64′) metadata) (midOf (keepAt n) n work32′)
+        kept-answer = loops-removal S cells ∙ rw (kept-cells, kept-places)
 
 -- ---- the code is loaded
 module _ (n k : ℕ) (code work64 words : List ℕ) (e : k ≡ n) (room : n ≤ length work64) (w : words ≡ wordsIn (length (midOf 0 k work64)) code) where

@@ -28,10 +28,10 @@ use Rattle.pc_map.specs.Listed.{Listed, kept-many}
 use Rattle.pc_map.specs.Movable.{Writable, writable}
 use Rattle.pc_map.specs.Relocate.{relocationCheck, retainFrom}
 use Rattle.pc_map.specs.Retaining.{retain-all}
-use Rattle.answer.specs.Pass.{unchanged, refused, rewritten, checked, sameCode, allKept, removal}
+use Rattle.answer.specs.Pass.{unchanged, refused, rewritten, checked, sameCode, allKept, removal, outputAfter}
 use Rattle.run.specs.Given.{instruction-fields}
 use Rattle.optimize.specs.declared.Answer.the-variants.{Rewritten}
-use Rattle.optimize.specs.Parts.{Tells, told, written, wordsIn, words-long, sameWords, cellsIn}
+use Rattle.optimize.specs.Parts.{Answers, answerOf, wordsIn, words-long, sameWords, cellsIn}
 
 abbrev Words : List ℕ → Type 0
 Words l = (i : ℕ) → getD l i 0 < 2 ^ 64
@@ -121,10 +121,10 @@ module _ {code words keep bounds kept : List ℕ} (k : Known code words keep bou
     retained-long : length (retainFrom keep 0 cells) ≡ boundary keep (length words)
     retained-long = retain-all keep (k .listed .mapped .flags) cells (k .listed .long ∙ sym (cells-long words metadata)) ∙ ap (boundary keep) (cells-long words metadata)
 
-    pub conclude-told : (out out′ : List ℕ) → relocationCheck keep cells ≡ Passed → out′ ≡ putMid 0 (resultSize (length kept)) out (resultBytes (retainFrom keep 0 cells))
-        → Tells (removal given cells keep) (Rewritten (getD bounds (length words) 0)) out out′
-    unfolding told written
-    conclude-told out out′ r e =
+    pub conclude-answers : (out out′ : List ℕ) → relocationCheck keep cells ≡ Passed → out′ ≡ putMid 0 (resultSize (length kept)) out (resultBytes (retainFrom keep 0 cells))
+        → Answers (removal given cells keep) (Rewritten (getD bounds (length words) 0)) out out′
+    unfolding answerOf outputAfter
+    conclude-answers out out′ r e =
         let l = k .listed in
         let count : getD bounds (length words) 0 ≡ length (retainFrom keep 0 cells) = mapped-at keep bounds (l .mapped) (length words) (omega arith) ∙ sym retained-long in
         let many : length kept ≡ length (retainFrom keep 0 cells) = ap length (l .list) ∙ kept-many keep (l .mapped .flags) ∙ ap (boundary keep) (l .long) ∙ sym retained-long in

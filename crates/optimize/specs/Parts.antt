@@ -7,12 +7,10 @@ use Prim.Native.Nat.{ℕ, _*_, _/_, _≤_, _<_}
 use lib.Dec.{eqb}
 use lib.ListN.{length}
 use lib.Seq.{ext-getD}
-use borrow.Rule.Slice.PartMut.{putMid}
 use Rattle.words.specs.Bytes.{Bytes}
 use Rattle.words.specs.Lists.{tabulate, length-tabulate, getD-tabulate}
 use Rattle.instruction.specs.Instruction.{instructionAt, toWord, of-to}
 use Rattle.unit.specs.Entry.{metadataAt, goodMetadata}
-use Rattle.unit.specs.Result.{resultBytes}
 use Rattle.unit.specs.Size.{instructionSize, metadataSize, caseSize, resultSize, work32Room, work64Room, maxInstructions, maxLocalSlots}
 use Rattle.effects.specs.declared.Check.the-variants.{Passed}
 use Rattle.effects.specs.Check.{operandCheck}
@@ -22,37 +20,31 @@ use Rattle.flow.specs.Branch.{branchCheck}
 use Rattle.flow.specs.Block.{leaders}
 use Rattle.flow.specs.Loop.{reachedPlaces, loopCheck}
 use Rattle.values.specs.Number.{numberCode}
-use Rattle.answer.specs.Pass.{Outcome, unchanged, refused, rewritten, checked, removal, keptPlaces, optimized}
+use Rattle.answer.specs.Pass.{Outcome, unchanged, refused, rewritten, outputAfter, checked, removal, keptPlaces, afterLoops, afterBranches, afterOperands, optimized}
 use Rattle.run.specs.Given.{instruction-fields}
 use Rattle.optimize.specs.declared.Answer.{Answer}
 use Rattle.optimize.specs.declared.Answer.the-variants.{Unchanged, Refused, Rewritten}
 
--- document 01's answer as the value that is returned, and what the output holds then: "Only "rewritten" alters the output, in its
--- first 16 + 28n' bytes"
-unfoldable pub told : Outcome → Answer
-told unchanged = Unchanged
-told (refused k p) = Refused k p
-told (rewritten kept) = Rewritten (length kept)
+-- document 01's answer as the value that is returned
+unfoldable pub answerOf : Outcome → Answer
+answerOf unchanged = Unchanged
+answerOf (refused k p) = Refused k p
+answerOf (rewritten kept) = Rewritten (length kept)
 
-unfoldable pub written : Outcome → List ℕ → List ℕ
-written unchanged out = out
-written (refused k p) out = out
-written (rewritten kept) out = putMid 0 (resultSize (length kept)) out (resultBytes kept)
+-- an answer r, and the output before and after it, are those of an outcome
+abbrev pub Answers : Outcome → Answer → List ℕ → List ℕ → Type 0
+Answers o r out out′ = (r ≡ answerOf o) × (out′ ≡ outputAfter o out)
 
--- both, of an answer r, the output before it and the output after it
-abbrev pub Tells : Outcome → Answer → List ℕ → List ℕ → Type 0
-Tells o r out out′ = (r ≡ told o) × (out′ ≡ written o out)
+pub answers-unchanged : (o : Outcome) (out : List ℕ) → o ≡ unchanged → Answers o Unchanged out out
+unfolding answerOf outputAfter
+answers-unchanged o out e = rw e (refl, refl)
 
-pub tells-unchanged : (o : Outcome) (out : List ℕ) → o ≡ unchanged → Tells o Unchanged out out
-unfolding told written
-tells-unchanged o out e = rw e (refl, refl)
+pub answers-refused : (o : Outcome) (k p : ℕ) (out : List ℕ) → o ≡ refused k p → Answers o (Refused k p) out out
+unfolding answerOf outputAfter
+answers-refused o k p out e = rw e (refl, refl)
 
-pub tells-refused : (o : Outcome) (k p : ℕ) (out : List ℕ) → o ≡ refused k p → Tells o (Refused k p) out out
-unfolding told written
-tells-refused o k p out e = rw e (refl, refl)
-
-pub tells-same : (o o′ : Outcome) (r : Answer) (out out′ : List ℕ) → o ≡ o′ → Tells o′ r out out′ → Tells o r out out′
-tells-same o o′ r out out′ e t = rw e t
+pub answers-same : (o o′ : Outcome) (r : Answer) (out out′ : List ℕ) → o ≡ o′ → Answers o′ r out out′ → Answers o r out out′
+answers-same o o′ r out out′ e t = rw e t
 
 -- the words of the first n instructions of a code section
 unfoldable pub wordsIn : ℕ → List ℕ → List ℕ
@@ -101,19 +93,29 @@ module _ (S : Sections) (cells : List Cell) where
   abbrev pub retainedPlaces : List ℕ
   retainedPlaces = keptPlaces S (leaders cells) reachedMarks numberedCode
 
-  -- the answers from each check on
-  abbrev pub afterLoops : Outcome
-  afterLoops = removal cells numberedCode retainedPlaces
+  -- the answers from refusal 9 on, and from "same code, all kept" on, of a function's cells
+  abbrev pub fromBranches : Outcome
+  fromBranches = afterBranches S cells (leaders cells) numberedCode
 
-  abbrev pub afterBranches : Outcome
-  afterBranches = checked (loopCheck reachedMarks numberedCode) afterLoops
+  abbrev pub fromLoops : Outcome
+  fromLoops = afterLoops S cells (leaders cells) numberedCode reachedMarks
 
-  abbrev pub afterOperands : Outcome
-  afterOperands = checked (branchCheck cells) afterBranches
-
-  pub optimized-steps : optimized S cells ≡ checked (operandCheck (S .locals) (S .tables) cells) afterOperands
+  -- each row of the table is a check and the rows below it
+  pub optimized-operands : optimized S cells ≡ checked (operandCheck (S .locals) (S .tables) cells) (afterOperands S cells)
   unfolding optimized
-  optimized-steps = refl
+  optimized-operands = refl
+
+  pub operands-branches : afterOperands S cells ≡ checked (branchCheck cells) fromBranches
+  unfolding afterOperands
+  operands-branches = refl
+
+  pub branches-loops : fromBranches ≡ checked (loopCheck reachedMarks numberedCode) fromLoops
+  unfolding afterBranches
+  branches-loops = refl
+
+  pub loops-removal : fromLoops ≡ removal cells numberedCode retainedPlaces
+  unfolding afterLoops
+  loops-removal = refl
 
 -- code in memory, one word an instruction
 abbrev pub wordsOf : List Cell → List ℕ

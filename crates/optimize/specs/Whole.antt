@@ -9,6 +9,7 @@ use lib.Dec.{eqb, leb}
 use lib.ListN.{length}
 use borrow.Author.Tests.{lt-ltb, le-ltb, leb-true, eq-eqb, ne-eqb}
 use Rattle.words.specs.Bytes.{Bytes, bytes-mid}
+use Rattle.unit.specs.declared.Counts.{Counts}
 use Rattle.unit.specs.declared.Header.{Header}
 use Rattle.unit.specs.Laws.{unit-laid}
 use Rattle.unit.specs.Size.{instructionSize, constantSize, caseSize, outputRoom, work32Room, work64Room, maxInstructions}
@@ -20,47 +21,33 @@ use Rattle.removal.specs.Kept.{sectionsIn}
 use Rattle.optimize.specs.Parts.{Given, Room, cellsIn, cells-in}
 use Rattle.unit.specs.Layout.{headerOf, codeOf, metadataOf, typesOf, constantsOf, functionsOf, externsOf, casesOf, isUnit}
 use Rattle.unit.specs.Refusal.{notUnit, shortBuffer, metadataCount, typeCount}
-use Rattle.answer.specs.Pass.{Outcome, unchanged, refused, optimized}
-use Rattle.answer.specs.Answer.{Lent, cellsOf, sectionsOf, roomFor, isLeft, countsChecked, passAnswer}
-
-abbrev pub lentOf : ℕ → ℕ → ℕ → Lent
-lentOf out work32 work64 = record { out = out; work32 = work32; work64 = work64 }
-
-module _ (u : List ℕ) (l : Lent) where
-  -- from "n under 2, above 65,536, or defer" on
-  abbrev pub afterLayout : Outcome
-  afterLayout =
-      cond (isLeft (headerOf u)) unchanged
-      (cond (roomFor (headerOf u) l) (countsChecked (headerOf u) (optimized (sectionsOf u) (cellsOf u))) (refused shortBuffer 0))
-
-  pub pass-steps : passAnswer u l ≡ cond (isUnit u) afterLayout (refused notUnit 0)
-  unfolding passAnswer
-  pass-steps = refl
+use Rattle.answer.specs.Pass.{unchanged, refused, optimized}
+use Rattle.answer.specs.Answer.{Lent, lentOf, cellsOf, sectionsOf, roomFor, isSkipped, afterRoom, afterSkipped, afterLayout, answerWith, passAnswer}
 
 -- ---- "n under 2, above 65,536, or defer"
 
-pub left-small : (n defer : ℕ) → n < 2 → true ≡ (not (isWorkedOn n) || eqb defer 1)
-unfolding isWorkedOn
-left-small n defer h = rw (le-ltb 1 n (omega arith)) refl
+pub skipped-small : (c : Counts) → c .instructions < 2 → true ≡ isSkipped c
+unfolding isSkipped isWorkedOn
+skipped-small c h = rw (le-ltb 1 (c .instructions) (omega arith)) refl
 
-pub left-large : (n defer : ℕ) → 65536 < n → true ≡ (not (isWorkedOn n) || eqb defer 1)
-unfolding isWorkedOn
-left-large n defer h = rw (lt-ltb 1 n (omega arith), lt-ltb maxInstructions n h) refl
+pub skipped-large : (c : Counts) → maxInstructions < c .instructions → true ≡ isSkipped c
+unfolding isSkipped isWorkedOn
+skipped-large c h = rw (lt-ltb 1 (c .instructions) (omega arith), lt-ltb maxInstructions (c .instructions) h) refl
 
-pub left-else : (n defer : ℕ) → 2 ≤ n → n ≤ 65536 → eqb defer 1 ≡ (not (isWorkedOn n) || eqb defer 1)
-unfolding isWorkedOn
-left-else n defer h k = rw (lt-ltb 1 n (omega arith), le-ltb maxInstructions n k) refl
+pub skipped-else : (c : Counts) → 2 ≤ c .instructions → c .instructions ≤ maxInstructions → eqb (c .defer) 1 ≡ isSkipped c
+unfolding isSkipped isWorkedOn
+skipped-else c h k = rw (lt-ltb 1 (c .instructions) (omega arith), le-ltb maxInstructions (c .instructions) k) refl
 
-not-left : (w d : Bool) → (not w || d) ≡ false → w ≡ true
-not-left true d e = refl
-not-left false d e = absurd (true≢false e)
+not-skipped : (w d : Bool) → (not w || d) ≡ false → w ≡ true
+not-skipped true d e = refl
+not-skipped false d e = absurd (true≢false e)
 
-pub worked-on : (h : Header) → isLeft h ≡ false → (1 < h .counts .instructions) × (h .counts .instructions ≤ maxInstructions)
-unfolding isLeft
-worked-on h e = worked-size (h .counts .instructions) (not-left (isWorkedOn (h .counts .instructions)) (eqb (h .counts .defer) 1) e)
+pub worked-on : (c : Counts) → isSkipped c ≡ false → (1 < c .instructions) × (c .instructions ≤ maxInstructions)
+unfolding isSkipped
+worked-on c e = worked-size (c .instructions) (not-skipped (isWorkedOn (c .instructions)) (eqb (c .defer) 1) e)
 
--- what a unit is that is neither left nor refused for its counts or the lent room
-module _ (u : List ℕ) (l : Lent) (laid : isUnit u ≡ true) (worked : isLeft (headerOf u) ≡ false) (room : roomFor (headerOf u) l ≡ true)
+-- what a unit is that is neither skipped nor refused for its counts or the lent room
+module _ (u : List ℕ) (l : Lent) (laid : isUnit u ≡ true) (worked : isSkipped (headerOf u .counts) ≡ false) (room : roomFor (headerOf u .counts) l ≡ true)
     (described : headerOf u .counts .metadata ≡ headerOf u .counts .instructions) (typed : headerOf u .counts .types ≡ headerOf u .counts .locals) where
   abbrev n : ℕ
   n = headerOf u .counts .instructions
@@ -90,8 +77,8 @@ module _ (u : List ℕ) (l : Lent) (laid : isUnit u ≡ true) (worked : isLeft (
       let u-laid = unit-laid u laid in
       let cases : length (casesOf u) / caseSize ≡ headerOf u .counts .cases = let e = u-laid .lengths .cases in omega arith in
       record {
-        some = worked-on (headerOf u) worked .0;
-        few = worked-on (headerOf u) worked .1;
+        some = worked-on (headerOf u .counts) worked .0;
+        few = worked-on (headerOf u .counts) worked .1;
         code-long = let e = u-laid .lengths .code in omega arith;
         metadata-long = rw (← described) (u-laid .lengths .metadata);
         slots = rw long-types (u-laid .locals);
@@ -117,41 +104,46 @@ module _ (u : List ℕ) (l : Lent) (laid : isUnit u ≡ true) (worked : isLeft (
     pub parts-answer : optimized (sectionsOf u) (cellsOf u) ≡ optimized (sectionsIn types constants functions externs cases) (cellsIn n₁ code metadata)
     parts-answer = rw (e₀, e₁, e₂, e₃, e₄, e₅, e₆, e₇, ← same-sections, ← same-cells b)
 
--- ---- refusals 3 and 4
-module _ (h : Header) (go : Outcome) where
-  pub counts-metadata : (h .counts .metadata ≡ h .counts .instructions → ⊥) → countsChecked h go ≡ refused metadataCount 0
-  unfolding countsChecked
-  counts-metadata e = rw (ne-eqb (h .counts .metadata) (h .counts .instructions) e)
+-- ---- the rows of the table
+module _ (u : List ℕ) where
+  abbrev c : Counts
+  c = headerOf u .counts
 
-  pub counts-types : h .counts .metadata ≡ h .counts .instructions → (h .counts .types ≡ h .counts .locals → ⊥) → countsChecked h go ≡ refused typeCount 0
-  unfolding countsChecked
-  counts-types e f = rw (eq-eqb (h .counts .metadata) (h .counts .instructions) e, ne-eqb (h .counts .types) (h .counts .locals) f)
+  pub room-metadata : (headerOf u .counts .metadata ≡ headerOf u .counts .instructions → ⊥) → afterRoom u ≡ refused metadataCount 0
+  unfolding afterRoom
+  room-metadata e = rw (ne-eqb (c .metadata) (c .instructions) e)
 
-  pub counts-good : h .counts .metadata ≡ h .counts .instructions → h .counts .types ≡ h .counts .locals → countsChecked h go ≡ go
-  unfolding countsChecked
-  counts-good e f = rw (eq-eqb (h .counts .metadata) (h .counts .instructions) e, eq-eqb (h .counts .types) (h .counts .locals) f)
+  pub room-types : headerOf u .counts .metadata ≡ headerOf u .counts .instructions → (headerOf u .counts .types ≡ headerOf u .counts .locals → ⊥) → afterRoom u ≡ refused typeCount 0
+  unfolding afterRoom
+  room-types e f = rw (eq-eqb (c .metadata) (c .instructions) e, ne-eqb (c .types) (c .locals) f)
 
--- ---- the answers in order
-module _ (u : List ℕ) (l : Lent) where
-  pub layout-left : isLeft (headerOf u) ≡ true → afterLayout u l ≡ unchanged
-  layout-left e = rw e
+  pub room-good : headerOf u .counts .metadata ≡ headerOf u .counts .instructions → headerOf u .counts .types ≡ headerOf u .counts .locals → afterRoom u ≡ optimized (sectionsOf u) (cellsOf u)
+  unfolding afterRoom
+  room-good e f = rw (eq-eqb (c .metadata) (c .instructions) e, eq-eqb (c .types) (c .locals) f)
 
-  pub layout-short : isLeft (headerOf u) ≡ false → roomFor (headerOf u) l ≡ false → afterLayout u l ≡ refused shortBuffer 0
-  layout-short e f = rw (e, f)
+  module _ (room : Bool) where
+    pub layout-skipped : isSkipped (headerOf u .counts) ≡ true → afterLayout room u ≡ unchanged
+    unfolding afterLayout
+    layout-skipped e = rw e
 
-  pub layout-worked : isLeft (headerOf u) ≡ false → roomFor (headerOf u) l ≡ true → afterLayout u l ≡ countsChecked (headerOf u) (optimized (sectionsOf u) (cellsOf u))
-  layout-worked e f = rw (e, f)
+    pub layout-short : isSkipped (headerOf u .counts) ≡ false → room ≡ false → afterLayout room u ≡ refused shortBuffer 0
+    unfolding afterLayout afterSkipped
+    layout-short e f = rw (e, f)
 
-  pub pass-refused : isUnit u ≡ false → passAnswer u l ≡ refused notUnit 0
-  unfolding passAnswer
-  pass-refused e = rw e
+    pub layout-worked : isSkipped (headerOf u .counts) ≡ false → room ≡ true → afterLayout room u ≡ afterRoom u
+    unfolding afterLayout afterSkipped
+    layout-worked e f = rw (e, f)
 
-  pub pass-laid : isUnit u ≡ true → passAnswer u l ≡ afterLayout u l
-  unfolding passAnswer
-  pass-laid e = rw e
+    pub answer-refused : isUnit u ≡ false → answerWith room u ≡ refused notUnit 0
+    unfolding answerWith
+    answer-refused e = rw e
+
+  pub pass-laid : (h : Header) (l : Lent) → isUnit u ≡ true → h ≡ headerOf u → passAnswer u l ≡ afterLayout (roomFor (h .counts) l) u
+  unfolding passAnswer answerWith
+  pass-laid h l laid e = rw (e, laid)
 
 -- the test of the room in the code's order
-pub room-test : (h : Header) (out work32 work64 a b c : ℕ) → a ≡ outputRoom (h .counts .instructions) → b ≡ work32Room (h .counts .instructions)
-    → c ≡ work64Room (h .counts .instructions) (h .counts .locals) → (leb a out && leb b work32 && leb c work64) ≡ roomFor h (lentOf out work32 work64)
+pub room-test : (k : Counts) (out work32 work64 a b d : ℕ) → a ≡ outputRoom (k .instructions) → b ≡ work32Room (k .instructions) → d ≡ work64Room (k .instructions) (k .locals)
+    → (leb a out && leb b work32 && leb d work64) ≡ roomFor k (lentOf out work32 work64)
 unfolding roomFor
-room-test h out work32 work64 a b c e f g = rw (e, f, g)
+room-test k out work32 work64 a b d e f g = rw (e, f, g)

@@ -13,9 +13,9 @@ ghost use Rattle.effects.specs.Cells.{cellsBy};
 ghost use Rattle.flow.specs.BranchLaws.{BranchesInside};
 ghost use Rattle.flow.specs.Control.{Controls};
 ghost use Rattle.pc_map.specs.Listed.{Listed};
-ghost use Rattle.answer.specs.Pass.{optimized, removal};
+ghost use Rattle.answer.specs.Pass.{optimized, afterOperands, removal};
 ghost use Rattle.removal.specs.Kept.{sectionsIn, keepAt};
-ghost use Rattle.optimize.specs.Parts.{Tells, wordsIn, cellsIn, Given, Room, Checked, afterOperands, afterBranches, afterLoops};
+ghost use Rattle.optimize.specs.Parts.{Answers, wordsIn, cellsIn, Given, Room, Checked, fromLoops, fromBranches};
 ghost use Rattle.numbering.specs.Walk.{sectionsOf};
 ghost use Rattle.optimize.specs.Steps.{Finished, ListedControls, Marks, Reached, Renumbered, Numberable};
 use crate::Answer;
@@ -46,7 +46,7 @@ fn conclude(
     out: &mut [u8],
 ) -> Answer
     requires { ⌜ Listed (now keep) (now bounds) (now kept) (length (now words)) × (instructionSize * length (now words) ≤ length (now code)) × (metadataSize * length (now words) ≤ length (now metadata)) × BranchesInside (now words) × (resultSize (length (now words)) ≤ length (now out)) × Controls (now words) (now list) (length (now words)) ⌝ }
-    ensures { λ r. ⌜ Tells (removal (cellsIn (length (now (words .entry))) (now (code .entry)) (now (metadata .entry))) (cellsBy (now (words .entry)) (now (metadata .entry))) (now (keep .entry))) r (now (out .entry)) (now (out .exit)) ⌝ }
+    ensures { λ r. ⌜ Answers (removal (cellsIn (length (now (words .entry))) (now (code .entry)) (now (metadata .entry))) (cellsBy (now (words .entry)) (now (metadata .entry))) (now (keep .entry))) r (now (out .entry)) (now (out .exit)) ⌝ }
 {
     let n = words.len();
     let retained = bounds[n];
@@ -74,7 +74,7 @@ fn finish(
     count: usize,
 ) -> Answer
     requires { ⌜ Finished n (now code) (now metadata) (length (now out)) (now work32) (now work64) × (at + count ≤ length (now work64)) × Controls (midOf 0 n (now work64)) (midOf at count (now work64)) n ⌝ }
-    ensures { λ r. ⌜ Tells (removal (cellsIn n (now (code .entry)) (now (metadata .entry))) (cellsBy (midOf 0 n (now (work64 .entry))) (now (metadata .entry))) (midOf (keepAt n) n (now (work32 .entry)))) r (now (out .entry)) (now (out .exit)) ⌝ }
+    ensures { λ r. ⌜ Answers (removal (cellsIn n (now (code .entry)) (now (metadata .entry))) (cellsBy (midOf 0 n (now (work64 .entry))) (now (metadata .entry))) (midOf (keepAt n) n (now (work32 .entry)))) r (now (out .entry)) (now (out .exit)) ⌝ }
 {
     let keep = 3 * n + 1;
     let end = keep + n;
@@ -109,7 +109,7 @@ fn after_loops(
     count: usize,
 ) -> Answer
     requires { ⌜ Given n (now code) (now metadata) (sectionsIn (now types) (now constants) (now functions) (now externs) (now cases)) × Room n (length (now types)) (length (now out)) (length (now work32)) (length (now work64)) × Checked (sectionsIn (now types) (now constants) (now functions) (now externs) (now cases)) (cellsIn n (now code) (now metadata)) × Marks (sectionsIn (now types) (now constants) (now functions) (now externs) (now cases)) (cellsIn n (now code) (now metadata)) n (now work32) (now work64) × ListedControls n (length (now types)) at count (now work64) ⌝ }
-    ensures { λ r. ⌜ Tells (afterLoops (sectionsIn (now (types .entry)) (now (constants .entry)) (now (functions .entry)) (now (externs .entry)) (now (cases .entry))) (cellsIn n (now (code .entry)) (now (metadata .entry)))) r (now (out .entry)) (now (out .exit)) ⌝ }
+    ensures { λ r. ⌜ Answers (fromLoops (sectionsIn (now (types .entry)) (now (constants .entry)) (now (functions .entry)) (now (externs .entry)) (now (cases .entry))) (cellsIn n (now (code .entry)) (now (metadata .entry)))) r (now (out .entry)) (now (out .exit)) ⌝ }
 {
     retain::retain(
         metadata,
@@ -155,7 +155,7 @@ fn after_branches(
     count: usize,
 ) -> Answer
     requires { ⌜ Given n (now code) (now metadata) (sectionsIn (now types) (now constants) (now functions) (now externs) (now cases)) × Room n (length (now types)) (length (now out)) (length (now work32)) (length (now work64)) × Checked (sectionsIn (now types) (now constants) (now functions) (now externs) (now cases)) (cellsIn n (now code) (now metadata)) × Renumbered (sectionsIn (now types) (now constants) (now functions) (now externs) (now cases)) (cellsIn n (now code) (now metadata)) n (now work32) (now work64) × ListedControls n (length (now types)) at count (now work64) ⌝ }
-    ensures { λ r. ⌜ Tells (afterBranches (sectionsIn (now (types .entry)) (now (constants .entry)) (now (functions .entry)) (now (externs .entry)) (now (cases .entry))) (cellsIn n (now (code .entry)) (now (metadata .entry)))) r (now (out .entry)) (now (out .exit)) ⌝ }
+    ensures { λ r. ⌜ Answers (fromBranches (sectionsIn (now (types .entry)) (now (constants .entry)) (now (functions .entry)) (now (externs .entry)) (now (cases .entry))) (cellsIn n (now (code .entry)) (now (metadata .entry)))) r (now (out .entry)) (now (out .exit)) ⌝ }
 {
     match reach(metadata, work32, &work64[0..n], &work64[at..at + count], n) {
         Check::Refused(k, p) => Answer::Refused(k, p),
@@ -211,7 +211,7 @@ fn after_operands(
     count: usize,
 ) -> Answer
     requires { ⌜ Given n (now code) (now metadata) (sectionsIn (now types) (now constants) (now functions) (now externs) (now cases)) × Room n (length (now types)) (length (now out)) (length (now work32)) (length (now work64)) × (operandCheck (length (now types)) (tablesOf (now functions) (now externs) (now cases)) (cellsIn n (now code) (now metadata)) ≡ Check.Passed) × (midOf 0 n (now work64) ≡ wordsIn n (now code)) × ListedControls n (length (now types)) at count (now work64) ⌝ }
-    ensures { λ r. ⌜ Tells (afterOperands (sectionsIn (now (types .entry)) (now (constants .entry)) (now (functions .entry)) (now (externs .entry)) (now (cases .entry))) (cellsIn n (now (code .entry)) (now (metadata .entry)))) r (now (out .entry)) (now (out .exit)) ⌝ }
+    ensures { λ r. ⌜ Answers (afterOperands (sectionsIn (now (types .entry)) (now (constants .entry)) (now (functions .entry)) (now (externs .entry)) (now (cases .entry))) (cellsIn n (now (code .entry)) (now (metadata .entry)))) r (now (out .entry)) (now (out .exit)) ⌝ }
 {
     match branch::check_branches(&work64[0..n], &work64[at..at + count]) {
         Check::Refused(k, p) => Answer::Refused(k, p),
@@ -236,7 +236,7 @@ fn after_operands(
     }
 }
 
-// The pass.
+// The pass. What the work buffers hold then is free.
 pub fn optimize(
     code: &[u8],
     metadata: &[u8],
@@ -251,7 +251,7 @@ pub fn optimize(
     n: usize,
 ) -> Answer
     requires { ⌜ Given n (now code) (now metadata) (sectionsIn (now types) (now constants) (now functions) (now externs) (now cases)) × Room n (length (now types)) (length (now out)) (length (now work32)) (length (now work64)) ⌝ }
-    ensures { λ r. ⌜ Tells (optimized (sectionsIn (now (types .entry)) (now (constants .entry)) (now (functions .entry)) (now (externs .entry)) (now (cases .entry))) (cellsIn n (now (code .entry)) (now (metadata .entry)))) r (now (out .entry)) (now (out .exit)) ⌝ }
+    ensures { λ r. ⌜ Answers (optimized (sectionsIn (now (types .entry)) (now (constants .entry)) (now (functions .entry)) (now (externs .entry)) (now (cases .entry))) (cellsIn n (now (code .entry)) (now (metadata .entry)))) r (now (out .entry)) (now (out .exit)) ⌝ }
 {
     code::load(code, &mut work64[0..n]);
     let at = size::work64_room(n, types.len()) - n;

@@ -1,16 +1,13 @@
 // One pass on a unit: document 01's table of answers, from top to bottom.
 ghost use mathlib.Core.Path.{_≡_};
 ghost use mathlib.Core.Bool.{true, false};
-ghost use Prim.Native.Nat.{_^_, _<_, _≤_};
-ghost use lib.ListN.{length, replicate};
+ghost use Prim.Native.Nat.{_≤_};
+ghost use lib.ListN.{length};
 ghost use Rattle.unit.specs.Layout.{headerOf, isUnit};
-ghost use Rattle.unit.specs.declared.Header.{Header};
-ghost use Rattle.unit.specs.Size.{maxLocalSlots};
-ghost use Rattle.answer.specs.Answer.{passAnswer, isLeft, roomFor, countsChecked, cellsOf, sectionsOf};
-ghost use Rattle.answer.specs.Pass.{optimized};
-ghost use Rattle.run.specs.Returned.{RunsAlike};
-ghost use Rattle.optimize.specs.Parts.{Tells};
-ghost use Rattle.optimize.specs.Whole.{lentOf, afterLayout};
+ghost use Rattle.unit.specs.Size.{maxInstructions, maxLocalSlots};
+ghost use Rattle.answer.specs.Answer.{lentOf, isSkipped, roomFor, afterRoom, afterLayout, passAnswer};
+ghost use Rattle.run.specs.Contract.{PassContract, buffers};
+ghost use Rattle.optimize.specs.Parts.{Answers, answerOf};
 use crate::Answer;
 use crate::parts;
 use unit::Counts;
@@ -21,29 +18,30 @@ use unit::size;
 use words::fill;
 
 // "n under 2, above 65,536, or defer"
-pub fn is_left(n: usize, defer: usize) -> bool
-    ensures { λ r. ⌜ ((h : Header) → h .counts .instructions ≡ n → h .counts .defer ≡ defer → r ≡ isLeft h) ⌝ }
+pub fn is_skipped(c: Counts) -> bool
+    ensures { λ r. ⌜ r ≡ isSkipped c ⌝ }
 {
-    if n < 2 {
+    if c.instructions < 2 {
         return true;
     }
-    if n > 65536 {
+    if c.instructions > 65536 {
         return true;
     }
-    defer == 1
+    c.defer == 1
 }
 
 // Is each lent buffer as long as stated?
-pub fn has_room(n: usize, s: usize, out: usize, work32: usize, work64: usize) -> bool
-    requires { ⌜ (n < 2 ^ 32) × (s ≤ maxLocalSlots) ⌝ }
-    ensures { λ r. ⌜ ((h : Header) → h .counts .instructions ≡ n → h .counts .locals ≡ s → r ≡ roomFor h (lentOf out work32 work64)) ⌝ }
+pub fn has_room(c: Counts, out: usize, work32: usize, work64: usize) -> bool
+    requires { ⌜ (c .instructions ≤ maxInstructions) × (c .locals ≤ maxLocalSlots) ⌝ }
+    ensures { λ r. ⌜ r ≡ roomFor c (lentOf out work32 work64) ⌝ }
 {
+    let n = c.instructions;
     (size::output_room(n) <= out)
         & (size::work32_room(n) <= work32)
-        & (size::work64_room(n, s) <= work64)
+        & (size::work64_room(n, c.locals) <= work64)
 }
 
-// Refusals 3 and 4, then the pass on the unit's parts.
+// Refusals 3 and 4, then the pass on the unit's parts. What the work buffers hold then is free.
 pub fn counted(
     unit: &[u8],
     out: &mut [u8],
@@ -51,8 +49,8 @@ pub fn counted(
     work64: &mut [u64],
     c: Counts,
 ) -> Answer
-    requires { ⌜ (isUnit (now unit) ≡ true) × (c ≡ headerOf (now unit) .counts) × (isLeft (headerOf (now unit)) ≡ false) × (roomFor (headerOf (now unit)) (lentOf (length (now out)) (length (now work32)) (length (now work64))) ≡ true) ⌝ }
-    ensures { λ r. ⌜ Tells (countsChecked (headerOf (now (unit .entry))) (optimized (sectionsOf (now (unit .entry))) (cellsOf (now (unit .entry))))) r (now (out .entry)) (now (out .exit)) ⌝ }
+    requires { ⌜ (isUnit (now unit) ≡ true) × (c ≡ headerOf (now unit) .counts) × (isSkipped c ≡ false) × (roomFor c (lentOf (length (now out)) (length (now work32)) (length (now work64))) ≡ true) ⌝ }
+    ensures { λ r. ⌜ Answers (afterRoom (now (unit .entry))) r (now (out .entry)) (now (out .exit)) ⌝ }
 {
     let n = c.instructions;
     if c.metadata != n {
@@ -79,13 +77,12 @@ pub fn counted(
 // Unchanged as it is too small, too large or defers, or a buffer is too short.
 fn laid(unit: &[u8], out: &mut [u8], work32: &mut [u32], work64: &mut [u64], c: Counts) -> Answer
     requires { ⌜ (isUnit (now unit) ≡ true) × (c ≡ headerOf (now unit) .counts) ⌝ }
-    ensures { λ r. ⌜ Tells (afterLayout (now (unit .entry)) (lentOf (length (now (out .entry))) (length (now (work32 .entry))) (length (now (work64 .entry))))) r (now (out .entry)) (now (out .exit)) ⌝ }
+    ensures { λ r. ⌜ Answers (afterLayout (roomFor c (lentOf (length (now (out .entry))) (length (now (work32 .entry))) (length (now (work64 .entry))))) (now (unit .entry))) r (now (out .entry)) (now (out .exit)) ⌝ }
 {
-    let n = c.instructions;
-    if is_left(n, c.defer) {
+    if is_skipped(c) {
         return Answer::Unchanged;
     }
-    if !has_room(n, c.locals, out.len(), work32.len(), work64.len()) {
+    if !has_room(c, out.len(), work32.len(), work64.len()) {
         return Answer::Refused(refusal::SHORT_BUFFER, 0);
     }
     counted(unit, out, work32, work64, c)
@@ -93,7 +90,7 @@ fn laid(unit: &[u8], out: &mut [u8], work32: &mut [u32], work64: &mut [u64], c: 
 
 // The answer, the work buffers left as they come.
 fn answer(unit: &[u8], out: &mut [u8], work32: &mut [u32], work64: &mut [u64]) -> Answer
-    ensures { λ r. ⌜ Tells (passAnswer (now (unit .entry)) (lentOf (length (now (out .entry))) (length (now (work32 .entry))) (length (now (work64 .entry))))) r (now (out .entry)) (now (out .exit)) ⌝ }
+    ensures { λ r. ⌜ Answers (passAnswer (now (unit .entry)) (lentOf (length (now (out .entry))) (length (now (work32 .entry))) (length (now (work64 .entry))))) r (now (out .entry)) (now (out .exit)) ⌝ }
 {
     match parse::check(unit) {
         Layout::Refused(k, p) => Answer::Refused(k, p),
@@ -104,7 +101,7 @@ fn answer(unit: &[u8], out: &mut [u8], work32: &mut [u32], work64: &mut [u64]) -
 // One pass on a unit: the answer that is defined, the output by its cases, the work buffers zeroed; what is returned runs as
 // what was given.
 pub fn pass(unit: &[u8], out: &mut [u8], work32: &mut [u32], work64: &mut [u64]) -> Answer
-    ensures { λ r. ⌜ Tells (passAnswer (now (unit .entry)) (lentOf (length (now (out .entry))) (length (now (work32 .entry))) (length (now (work64 .entry))))) r (now (out .entry)) (now (out .exit)) × (now (work32 .exit) ≡ replicate (length (now (work32 .entry))) 0) × (now (work64 .exit) ≡ replicate (length (now (work64 .entry))) 0) × RunsAlike (now (unit .entry)) (passAnswer (now (unit .entry)) (lentOf (length (now (out .entry))) (length (now (work32 .entry))) (length (now (work64 .entry))))) ⌝ }
+    ensures { λ r. ⌜ PassContract answerOf (now (unit .entry)) (buffers (now (out .entry)) (now (work32 .entry)) (now (work64 .entry))) r (buffers (now (out .exit)) (now (work32 .exit)) (now (work64 .exit))) ⌝ }
 {
     let r = answer(unit, out, work32, work64);
     fill::zero_u32(work32);

@@ -19,6 +19,8 @@ use Rattle.pc_map.specs.Boundary.{boundary}
 use Rattle.pc_map.specs.Boundaries.{Mapped, mapped-long, mapped-at, boundary-most}
 use Rattle.pc_map.specs.Relocate.{movedJump, movedForLoop, relocateBy, relocate}
 use Rattle.pc_map.specs.Relocated.{cell, movedExit, moved-metadata}
+use Rattle.pc_map.specs.View.{instructionIn, moved-boundary}
+use Rattle.pc_map.specs.declared.view.Moved.the-variants.{To}
 
 -- the low 16 bits of a difference modulo 2 ^ 32
 low : (a b r : ℕ) → a ≤ 65536 → b < 65536 → r < 2 ^ 32 → (r + (b + 1)) % 2 ^ 32 ≡ a → r % 65536 ≡ (a + (65536 - suc b) % 65536) % 65536
@@ -82,12 +84,11 @@ module _ (keep bounds : List ℕ) (m : Mapped keep bounds) where
     exit-none e = let t : isLoopHint i ≡ false = cc in rw t
 
     module _ (d : Metadata) (p : ℕ) where
-      pub end-moved : (v : ℕ) → h ≡ true → d .end < length bounds → v ≡ getD bounds (d .end) 0
+      pub end-moved : (v : ℕ) → h ≡ true → To v ≡ instructionIn bounds (d .end)
           → record { kind = d .kind; ok = d .ok; array = d .array; first = d .first; second = d .second; end = v } ≡ relocate keep p (cell i d) .metadata
-      end-moved v e near there =
-          let b = number (d .end) near in
+      end-moved v e found =
           let t : isLoopHint i ≡ true = cc in
-          rw (there, b .0) (sym (moved-metadata keep p (cell i d) ∙ rw t))
+          rw (moved-boundary keep bounds m (d .end) v found) (sym (moved-metadata keep p (cell i d) ∙ rw t))
 
       pub end-none : h ≡ false → d ≡ relocate keep p (cell i d) .metadata
       end-none e = let t : isLoopHint i ≡ false = cc in sym (moved-metadata keep p (cell i d) ∙ rw t)

@@ -26,16 +26,15 @@ use Rattle.pc_map.specs.Relocate.{relocate, retainFrom}
 use Rattle.pc_map.specs.Movable.{Movable}
 use Rattle.pc_map.specs.Relocated.{cell}
 use Rattle.pc_map.specs.Retaining.{retainedAt, retain-at, retain-many, Section, Written, written-begin, written-turn, written-end}
+use Rattle.pc_map.specs.View.{isRetained}
 
 -- what `relocate` asks of the instruction that was read
 pub asked : (n k p : ℕ) (i j : Instruction) → i ≡ j → k ≡ n + 1 → Movable n p j → (branches (class i) ≡ true → target p i < k) × (isLoopHint i ≡ true → imm32Unsigned i < k)
 asked n k p i j e f m = rw e (λ b. omega (arith, m .0 b), λ l. omega (arith, m .1 l))
 
-pub end-asked : (n k : ℕ) (i j : Instruction) (d e : Metadata) → i ≡ j → d ≡ e → k ≡ n + 1 → (isLoopHint j ≡ true → e .end < n) → isLoopHint i ≡ true → d .end < k
-end-asked n k i j d e same there f g h =
-    let l : isLoopHint j ≡ true = cc in
-    let lt = g l in
-    rw there (omega arith)
+pub end-asked : (bounds : List ℕ) (i j : Instruction) (d e : Metadata) → i ≡ j → d ≡ e → (isLoopHint j ≡ true → isRetained bounds (e .end) ≡ true) → isLoopHint i ≡ true
+    → isRetained bounds (d .end) ≡ true
+end-asked bounds i j d e same there g = rw (same, there) g
 
 -- what one place writes, as the code has it: i and d are what was read, j and e what was relocated
 module _ (keep : List ℕ) (p w : ℕ) (metadata out out′ : List ℕ) (at : ℕ) (i : Instruction) (same : i ≡ ofWord w) where

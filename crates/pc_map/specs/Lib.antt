@@ -5,5 +5,5 @@ pub mod Relocated
 pub mod Moved
 pub mod Listed
 pub mod Retaining
-pub mod Movable
 pub mod View
+pub mod Movable

@@ -24,6 +24,7 @@ use Rattle.pc_map.specs.Boundaries.{mapped-long, boundary-most}
 use Rattle.pc_map.specs.Listed.{Listed, kept-many, kept-each}
 use Rattle.pc_map.specs.Relocate.{relocationCheck}
 use Rattle.pc_map.specs.Relocated.{relocationTest}
+use Rattle.pc_map.specs.View.{isRetained, kept-retained}
 
 -- a branch's target is a place or the end, and so is a loop hint's exit
 abbrev pub Movable : ℕ → ℕ → Instruction → Type 0
@@ -33,34 +34,24 @@ Movable n p i = (branches (class i) ≡ true → target p i ≤ n) × (isLoopHin
 abbrev pub AllMovable : List ℕ → List ℕ → Type 0
 AllMovable kept words = (q : ℕ) → q < length kept → (getD kept q 0 < length words) × Movable (length words) (getD kept q 0) (ofWord (getD words (getD kept q 0) 0))
 
--- a loop hint's end is a place
-abbrev pub EndInside : List ℕ → List ℕ → ℕ → Type 0
-EndInside words metadata p = isLoopHint (ofWord (getD words p 0)) ≡ true → metadataAt metadata p .end < length words
+-- "a loop end must itself be retained"
+abbrev pub EndRetained : List ℕ → List ℕ → List ℕ → ℕ → Type 0
+EndRetained words metadata bounds p = isLoopHint (ofWord (getD words p 0)) ≡ true → isRetained bounds (metadataAt metadata p .end) ≡ true
 
-abbrev pub EndsInside : List ℕ → List ℕ → List ℕ → Type 0
-EndsInside kept words metadata = (q : ℕ) → q < length kept → EndInside words metadata (getD kept q 0)
-
-kept-inside : (keep : List ℕ) (q : ℕ) → isKept keep q ≡ true → q < length keep
-kept-inside keep q k = go (ltb q (length keep)) refl
-  where
-    go : (t : Bool) → ltb q (length keep) ≡ t → q < length keep
-    go true e = ltb-true q (length keep) e
-    go false e =
-        let none : getD keep q 0 ≡ 0 = List·getD-eq-default keep 0 (ltb-false q (length keep) e) in
-        let one = eqb-true (getD keep q 0) 1 k in
-        absurd (omega arith)
+abbrev pub EndsRetained : List ℕ → List ℕ → List ℕ → List ℕ → Type 0
+EndsRetained kept words metadata bounds = (q : ℕ) → q < length kept → EndRetained words metadata bounds (getD kept q 0)
 
 module _ (keep words metadata : List ℕ) (passed : relocationCheck keep (cellsBy words metadata) ≡ Passed) where
   -- a kept loop hint's exit and end
   hinted : (p : ℕ) → p < length words → isKept keep p ≡ true → isLoopHint (ofWord (getD words p 0)) ≡ true
-      → (imm32Unsigned (ofWord (getD words p 0)) ≤ length words) × (metadataAt metadata p .end < length keep)
+      → (imm32Unsigned (ofWord (getD words p 0)) ≤ length words) × (isKept keep (metadataAt metadata p .end) ≡ true)
   unfolding relocationCheck
   hinted p h k l =
       let n = length (cellsBy words metadata) in
       let zero : relocationTest keep n p (cellOf metadata p (getD words p 0)) ≡ 0 = passed-at (relocationTest keep n) words metadata passed p h in
       let tests : cond (leb (imm32Unsigned (ofWord (getD words p 0))) n && isKept keep (metadataAt metadata p .end)) 0 lostLoop ≡ 0 = rw (k, l) at zero in
       let r = both (leb (imm32Unsigned (ofWord (getD words p 0))) n) (isKept keep (metadataAt metadata p .end)) tests in
-      (rw (cells-long words metadata) at (leb-true (imm32Unsigned (ofWord (getD words p 0))) n (r .0)), kept-inside keep (metadataAt metadata p .end) (r .1))
+      (rw (cells-long words metadata) at (leb-true (imm32Unsigned (ofWord (getD words p 0))) n (r .0)), r .1)
     where
       both : (s t : Bool) → cond (s && t) 0 lostLoop ≡ 0 → (s ≡ true) × (t ≡ true)
       both true true e = (refl, refl)
@@ -74,7 +65,7 @@ pub record Writable (words metadata bounds kept : List ℕ) (room : ℕ) : Type 
   pub bounds-long : length bounds ≡ length words + 1
   pub entries : metadataSize * length words ≤ length metadata
   pub movable : AllMovable kept words
-  pub ends : EndsInside kept words metadata
+  pub ends : EndsRetained kept words metadata bounds
   pub fits : resultSize (length kept) ≤ room
 
 pub writable : (words metadata keep bounds kept : List ℕ) (room : ℕ) → Listed keep bounds kept (length words) → metadataSize * length words ≤ length metadata → BranchesInside words
@@ -85,11 +76,11 @@ writable words metadata keep bounds kept room l entries inside passed fits = rec
   bounds-long = mapped-long keep bounds (l .mapped) ∙ ap (λ (k : ℕ). k + 1) (l .long);
   entries = entries;
   movable = rw (l .list) (kept-each (λ p. (p < length words) × Movable (length words) p (ofWord (getD words p 0))) keep movable);
-  ends = rw (l .list) (kept-each (EndInside words metadata) keep (λ p h e g. let r = hint p h e g in omega (arith, l .long, r .1)));
+  ends = rw (l .list) (kept-each (EndRetained words metadata bounds) keep (λ p h e g. kept-retained keep bounds (l .mapped) (metadataAt metadata p .end) (hint p h e g .1)));
   fits = rw (l .list, kept-many keep (l .mapped .flags), l .long) fits;
 }
   where
-    hint : (p : ℕ) → p < length keep → getD keep p 0 ≡ 1 → isLoopHint (ofWord (getD words p 0)) ≡ true → (imm32Unsigned (ofWord (getD words p 0)) ≤ length words) × (metadataAt metadata p .end < length keep)
+    hint : (p : ℕ) → p < length keep → getD keep p 0 ≡ 1 → isLoopHint (ofWord (getD words p 0)) ≡ true → (imm32Unsigned (ofWord (getD words p 0)) ≤ length words) × (isKept keep (metadataAt metadata p .end) ≡ true)
     hint p h e g = hinted keep words metadata passed p (omega (arith, l .long)) (eq-eqb (getD keep p 0) 1 e) g
 
     movable : (p : ℕ) → p < length keep → getD keep p 0 ≡ 1 → (p < length words) × Movable (length words) p (ofWord (getD words p 0))

@@ -1,6 +1,6 @@
 -- The map's look-up of an instruction.
 -- Assumes nothing.
-use mathlib.Core.Path.{_≡_, refl}
+use mathlib.Core.Path.{_≡_, refl, _∙_}
 use mathlib.Core.Logic.{inl, inr}
 use mathlib.Core.Bool.{Bool, true, false, cond, _&&_}
 use mathlib.Core.List.{List}
@@ -23,15 +23,15 @@ isRetained bounds pc = ltb (pc + 1) (length bounds) && eqb (getD bounds pc 0 + 1
 abbrev pub instructionIn : List ℕ → ℕ → Moved
 instructionIn bounds pc = cond (isRetained bounds pc) (To (getD bounds pc 0)) Removed
 
--- of the boundaries of these flags: a kept place goes to its boundary
+-- of the boundaries of these flags: a kept place is retained, and goes to its boundary
 module _ (keep bounds : List ℕ) (m : Mapped keep bounds) (pc : ℕ) where
-  pub instruction-mapped : instructionIn bounds pc ≡ cond (isKept keep pc) (To (boundary keep pc)) Removed
-  instruction-mapped = go (ltb pc (length keep)) refl
-    where
-      long : length bounds ≡ length keep + 1
-      long = mapped-long keep bounds m
+  long : length bounds ≡ length keep + 1
+  long = mapped-long keep bounds m
 
-      go : (t : Bool) → ltb pc (length keep) ≡ t → instructionIn bounds pc ≡ cond (isKept keep pc) (To (boundary keep pc)) Removed
+  pub retained-mapped : isRetained bounds pc ≡ isKept keep pc
+  retained-mapped = go (ltb pc (length keep)) refl
+    where
+      go : (t : Bool) → ltb pc (length keep) ≡ t → isRetained bounds pc ≡ isKept keep pc
       go true e =
           let h = ltb-true pc (length keep) e in
           let here = mapped-at keep bounds m pc (omega arith) in
@@ -45,3 +45,25 @@ module _ (keep bounds : List ℕ) (m : Mapped keep bounds) (pc : ℕ) where
       go false e =
           let h = ltb-false pc (length keep) e in
           rw (le-ltb (pc + 1) (length bounds) (omega (arith, long)), List·getD-eq-default keep 0 h)
+
+  pub kept-retained : isKept keep pc ≡ true → isRetained bounds pc ≡ true
+  kept-retained k = retained-mapped ∙ k
+
+  pub instruction-mapped : instructionIn bounds pc ≡ cond (isKept keep pc) (To (boundary keep pc)) Removed
+  instruction-mapped = rw retained-mapped (go (ltb pc (length keep)) refl)
+    where
+      go : (t : Bool) → ltb pc (length keep) ≡ t → cond (isKept keep pc) (To (getD bounds pc 0)) Removed ≡ cond (isKept keep pc) (To (boundary keep pc)) Removed
+      go true e = let h = ltb-true pc (length keep) e in rw (mapped-at keep bounds m pc (omega arith))
+      go false e = rw (List·getD-eq-default keep 0 (ltb-false pc (length keep) e))
+
+  -- so the number that is found is the boundary
+  pub moved-boundary : (q : ℕ) → To q ≡ instructionIn bounds pc → q ≡ boundary keep pc
+  moved-boundary q e = go (isKept keep pc) (e ∙ instruction-mapped)
+    where
+      go : (t : Bool) → To q ≡ cond t (To (boundary keep pc)) Removed → q ≡ boundary keep pc
+      go true e = cc
+      go false e = let z : _≡_ {A = ℕ} 0 1 = cc in absurd (omega arith)
+
+-- a retained instruction is found
+pub retained-found : (bounds : List ℕ) (pc : ℕ) → isRetained bounds pc ≡ true → Removed ≡ instructionIn bounds pc → ⊥
+retained-found bounds pc h e = let f : Removed ≡ To (getD bounds pc 0) = rw h at e in let z : _≡_ {A = ℕ} 0 1 = cc in omega arith

@@ -15,7 +15,9 @@ ghost use Rattle.pc_map.specs.Boundary.{isKept};
 ghost use Rattle.pc_map.specs.Boundaries.{Mapped};
 ghost use Rattle.pc_map.specs.Relocate.{movedJump, movedForLoop, relocate, relocationCheck};
 ghost use Rattle.pc_map.specs.Relocated.{cell, movedExit, relocationTest};
+ghost use Rattle.pc_map.specs.View.{isRetained};
 use crate::view;
+use crate::view::Moved;
 use effects::Check;
 use flow::branch;
 use flow::hint;
@@ -81,23 +83,25 @@ pub fn relocate(p: usize, i: Instruction, bounds: &[u32]) -> Instruction
     }
 }
 
-// Its metadata: a loop hint's end goes to its boundary.
+// Its metadata: a loop hint's end is an instruction that was retained, and goes with it.
 pub fn relocate_metadata(i: Instruction, d: Metadata, bounds: &[u32]) -> Metadata
-    requires { ⌜ (isLoopHint i ≡ true → d .end < length (now bounds)) ⌝ }
+    requires { ⌜ (isLoopHint i ≡ true → isRetained (now bounds) (d .end) ≡ true) ⌝ }
     ensures { λ r. ⌜ ((keep : List ℕ) → Mapped keep (now (bounds .entry)) → (p : ℕ) → r ≡ relocate keep p (cell i d) .metadata) ⌝ }
 {
-    if hint::is_loop_hint(i) {
-        let end = d.end as usize;
-        return Metadata {
+    if !hint::is_loop_hint(i) {
+        return d;
+    }
+    match view::instruction_of(bounds, d.end as usize) {
+        Moved::To(q) => Metadata {
             kind: d.kind,
             ok: d.ok,
             array: d.array,
             first: d.first,
             second: d.second,
-            end: view::boundary_of(bounds, end),
-        };
+            end: q,
+        },
+        Moved::Removed => d,
     }
-    d
 }
 
 // Is place q retained? None past the end is.

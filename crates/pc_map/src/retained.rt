@@ -11,7 +11,7 @@ ghost use Rattle.unit.specs.Size.{maxInstructions, metadataSize, resultSize};
 ghost use Rattle.effects.specs.Cells.{cellOf, cellsBy};
 ghost use Rattle.pc_map.specs.Boundaries.{Mapped};
 ghost use Rattle.pc_map.specs.Listed.{keptList, Listed};
-ghost use Rattle.pc_map.specs.Movable.{Movable, AllMovable, EndInside, EndsInside, Writable};
+ghost use Rattle.pc_map.specs.Movable.{Movable, AllMovable, EndRetained, EndsRetained, Writable};
 ghost use Rattle.pc_map.specs.Relocate.{retainFrom};
 ghost use Rattle.pc_map.specs.Retaining.{retainedAt};
 use crate::relocation;
@@ -43,7 +43,7 @@ fn write_code(words: &[u64], bounds: &[u32], kept: &[u32], out: &mut [u8])
 
 // The metadata of place p, from byte `at` on.
 fn write_entry(words: &[u64], metadata: &[u8], bounds: &[u32], p: usize, out: &mut [u8], at: usize)
-    requires { ⌜ (metadataSize * length (now words) ≤ length (now metadata)) × (length (now bounds) ≡ length (now words) + 1) × (p < length (now words)) × EndInside (now words) (now metadata) p × (at + 16 ≤ length (now out)) ⌝ }
+    requires { ⌜ (metadataSize * length (now words) ≤ length (now metadata)) × (length (now bounds) ≡ length (now words) + 1) × (p < length (now words)) × EndRetained (now words) (now metadata) (now bounds) p × (at + 16 ≤ length (now out)) ⌝ }
     ensures { λ _. ⌜ ((keep : List ℕ) → Mapped keep (now (bounds .entry)) → now (out .exit) ≡ putMid at 16 (now (out .entry)) (metadataBytesAll (retainedAt keep p (cellOf (now (metadata .entry)) p (getD (now (words .entry)) p 0)) ∷ []))) ⌝ }
 {
     let i = Instruction::from_word(words[p]);
@@ -60,7 +60,7 @@ fn write_metadata(
     out: &mut [u8],
     a: usize,
 )
-    requires { ⌜ (metadataSize * length (now words) ≤ length (now metadata)) × (length (now bounds) ≡ length (now words) + 1) × AllMovable (now kept) (now words) × EndsInside (now kept) (now words) (now metadata) × (a + 16 * length (now kept) ≤ length (now out)) ⌝ }
+    requires { ⌜ (metadataSize * length (now words) ≤ length (now metadata)) × (length (now bounds) ≡ length (now words) + 1) × AllMovable (now kept) (now words) × EndsRetained (now kept) (now words) (now metadata) (now bounds) × (a + 16 * length (now kept) ≤ length (now out)) ⌝ }
     ensures { λ _. ⌜ ((keep : List ℕ) → Listed keep (now (bounds .entry)) (now (kept .entry)) (length (now (words .entry))) → now (out .exit) ≡ putMid a (16 * length (now (kept .entry))) (now (out .entry)) (metadataBytesAll (retainFrom keep 0 (cellsBy (now (words .entry)) (now (metadata .entry)))))) ⌝ }
 {
     let k = kept.len();

@@ -2,12 +2,12 @@
 -- Assumes nothing.
 use mathlib.Core.Path.{_≡_, refl, sym, ap, _∙_}
 use mathlib.Core.Bool.{Bool, true, false, cond, not, _&&_, _||_, true≢false}
-use mathlib.Core.List.{List, [], _∷_}
+use mathlib.Core.List.{List, [], _∷_, _++_}
 use mathlib.Core.Option.{some}
-use Prim.Native.Nat.{ℕ, zero, suc, _+_, _*_, _/_, _^_, _<_}
+use Prim.Native.Nat.{ℕ, zero, suc, _+_, _*_, _/_, _^_, _≤_, _<_}
 use native.Mathlib.Omega.{arith}
 use lib.Dec.{eqb, ltb}
-use lib.ListN.{length, length-map}
+use lib.ListN.{length, drop, length-map, List·getD-map}
 use borrow.Author.Tests.{eqb-true}
 use Rattle.words.specs.Bytes.{Bytes, bytes-mid, le-fits}
 use Rattle.words.specs.Lists.{length-tabulate, getD-tabulate}
@@ -16,24 +16,26 @@ use Rattle.unit.specs.declared.Constant.{Constant}
 use Rattle.unit.specs.declared.Constant.the-variants.{Nil, Bool as BoolConstant, Int, Float as FloatConstant, String, Missing}
 use Rattle.unit.specs.Entry.{metadataAt, constantOf, constantAt, constantKind, constantValue}
 use Rattle.unit.specs.Layout.{headerOf, codeOf, metadataOf, constantsOf, isUnit}
-use Rattle.unit.specs.Laws.{unit-laid}
-use Rattle.unit.specs.Result.{Retained}
-use Rattle.unit.specs.Size.{instructionSize, constantSize}
+use Rattle.unit.specs.Laws.{MetadataFields, unit-laid}
+use Rattle.unit.specs.Result.{Retained, resultBytes, readResult}
+use Rattle.unit.specs.Size.{instructionSize, metadataSize, constantSize, resultSize, maxInstructions}
 use Rattle.unit.specs.Refusal.{notUnit, shortBuffer, metadataCount, typeCount}
 use Rattle.effects.specs.Shape.{Sections, Cell, cellAt, noCell}
 use Rattle.values.specs.declared.Atom.{Atom}
 use Rattle.values.specs.declared.Atom.the-variants.{Integer, Float}
 use Rattle.values.specs.Number.{constantAtom}
-use Rattle.answer.specs.Pass.{Outcome, unchanged, refused, rewritten, isWorkedOn, optimized, pass}
-use Rattle.answer.specs.Answer.{Lent, cellsOf, sectionsOf, roomFor, isLeft, countsChecked, passAnswer}
+use Rattle.answer.specs.Pass.{Outcome, unchanged, refused, rewritten, outputAfter, isWorkedOn, optimized, pass}
+use Rattle.answer.specs.Answer.{Lent, cellsOf, sectionsOf, roomFor, isSkipped, afterRoom, afterSkipped, afterLayout, answerWith, passAnswer}
 use Rattle.answer.specs.Clean.{cellOf, cellsAfter, placedBy, afterPass, cleanFrom, cleanedFirst, spareFor, cleanAnswer}
-use Rattle.run.specs.Machine.{same-runs-refl, same-runs-trans}
+use Rattle.run.specs.Machine.{SameRuns, same-runs-refl, same-runs-trans}
 use Rattle.run.specs.Program.{Function, programOf}
-use Rattle.run.specs.Returned.{givenFunction, resultFunction, RunsAlike}
+use Rattle.run.specs.Returned.{givenFunction, resultFunction, outputFunction, RunsAlike}
 use Rattle.run.specs.Valuation.{Below, integer, float}
 use Rattle.run.specs.Relocated.{pick}
 use Rattle.run.specs.Checked.{Well}
-use Rattle.run.specs.Passed.{Good, optimized-runs, pass-runs}
+use Rattle.run.specs.Passed.{Good, worked-size, optimized-runs, pass-worked, pass-runs}
+use Rattle.run.specs.Reading.{AllFit, noRetained, result-back}
+use Rattle.run.specs.Fitting.{AllSound, Again, optimized-again, again-fits, placed-long, placed-fits}
 
 -- ---- the function of a unit of bytes is well
 
@@ -97,6 +99,45 @@ given-well u b e m =
     cell-given : (u : List ℕ) (p : ℕ) → p < headerOf u .counts .instructions → cellAt (cellsOf u) p .instruction ≡ instructionAt (codeOf u) p
     cell-given u p h = ap (λ (x : Cell). x .instruction) (cell-at u p h)
 
+-- ---- what is returned can be read back
+
+pub metadata-fields : (l : List ℕ) (p : ℕ) → Bytes l → MetadataFields (metadataAt l p)
+unfolding metadataAt
+metadata-fields l p b =
+    record {
+      kind-fits = b (metadataSize * p);
+      ok-fits = b (metadataSize * p + 1);
+      array-fits = le-fits 2 l (metadataSize * p + 2) b;
+      first-fits = le-fits 4 l (metadataSize * p + 4) b;
+      second-fits = le-fits 4 l (metadataSize * p + 8) b;
+      end-fits = le-fits 4 l (metadataSize * p + 12) b;
+    }
+
+-- the metadata of a unit of bytes
+given-sound : (u : List ℕ) → Bytes u → isUnit u ≡ true → headerOf u .counts .metadata ≡ headerOf u .counts .instructions → AllSound (headerOf u .counts .cases) (cellsOf u)
+given-sound u b laid described p h =
+    let l : p < headerOf u .counts .instructions = rw (cells-long u) at h in
+    rw (cell-at u p l)
+    (record {
+      fits = metadata-fields (metadataOf u) p (bytes-mid (headerOf u .offsets .metadata) (metadataSize * headerOf u .counts .metadata) u b);
+      good = unit-laid u laid .entries .metadata p (rw described l);
+    })
+
+-- What is returned runs as F does, may be given to the next pass, and is what its bytes say.
+pub record Returnable (F : Function) (cases : ℕ) (kept : List Retained) : Type 0 where
+  pub good : Good F kept
+  pub few : length kept ≤ maxInstructions
+  pub fits : AllFit cases kept
+
+module _ (F : Function) (cases : ℕ) where
+  optimized-returnable : Well F → AllSound cases (F .cells) → isWorkedOn (length (F .cells)) ≡ true → (kept : List Retained) → optimized (F .sections) (F .cells) ≡ rewritten kept
+      → Returnable F cases kept
+  optimized-returnable w sound on kept e =
+      let small = worked-size (length (F .cells)) on .1 in
+      let again = optimized-again F w cases sound on kept e in
+      let fewer = again .few in
+      record { good = optimized-runs F w on kept e; few = omega arith; fits = again-fits cases (length (F .cells)) kept small again }
+
 -- ---- one pass
 
 -- the answer before a unit's code is worked on
@@ -113,40 +154,39 @@ not-refused k p kept e = let z : _≡_ {A = ℕ} 0 1 = cc in omega arith
 
 -- What a rewritten unit went through, whatever room it was lent.
 module _ (u : List ℕ) (b : Bytes u) (room : Bool) where
-  abbrev answer : Outcome
-  answer =
-      let h = headerOf u in
-      let worked = optimized (sectionsOf u) (cellsOf u) in
-      let counted = countsChecked h worked in
-      let lent = cond room counted (refused shortBuffer 0) in
-      let left = cond (isLeft h) unchanged lent in
-      cond (isUnit u) left (refused notUnit 0)
-
-  pub answer-good : (kept : List Retained) → answer ≡ rewritten kept → Good (givenFunction u) kept
-  unfolding countsChecked isLeft givenFunction
-  answer-good kept e =
+  pub answer-returnable : (kept : List Retained) → answerWith room u ≡ rewritten kept → Returnable (givenFunction u) (headerOf u .counts .cases) kept
+  unfolding answerWith afterLayout afterSkipped afterRoom isSkipped givenFunction
+  answer-returnable kept e =
       let laid = outcome-kept (isUnit u) _ (refused notUnit 0) kept (not-refused notUnit 0) e in
       let worked = left-kept (not (isWorkedOn (headerOf u .counts .instructions)) || eqb (headerOf u .counts .defer) 1) _ kept (laid .1) in
       let lent = outcome-kept room _ (refused shortBuffer 0) kept (not-refused shortBuffer 0) (worked .1) in
       let described = outcome-kept (eqb (headerOf u .counts .metadata) (headerOf u .counts .instructions)) _ (refused metadataCount 0) kept (not-refused metadataCount 0) (lent .1) in
       let typed = outcome-kept (eqb (headerOf u .counts .types) (headerOf u .counts .locals)) _ (refused typeCount 0) kept (not-refused typeCount 0) (described .1) in
-      let w : Well (givenFunction u) = given-well u b (laid .0) (eqb-true (headerOf u .counts .metadata) (headerOf u .counts .instructions) (described .0)) in
+      let same = eqb-true (headerOf u .counts .metadata) (headerOf u .counts .instructions) (described .0) in
       let on : isWorkedOn (length (cellsOf u)) ≡ true = rw (cells-long u) (go (isWorkedOn (headerOf u .counts .instructions)) _ (worked .0)) in
-      optimized-runs (givenFunction u) w on kept (typed .1)
+      optimized-returnable (givenFunction u) (headerOf u .counts .cases) (given-well u b (laid .0) same) (given-sound u b (laid .0) same) on kept (typed .1)
     where
       go : (s t : Bool) → (not s || t) ≡ false → s ≡ true
       go true t e = refl
       go false t e = absurd (true≢false e)
 
--- Demand 3 for one pass.
-pub pass-alike : (u : List ℕ) (l : Lent) → Bytes u → RunsAlike u (passAnswer u l)
-unfolding passAnswer RunsAlike givenFunction
-pass-alike u l b = go (passAnswer u l) refl
+-- the function in the output's bytes is the one that was retained
+returned-runs : (u : List ℕ) (cases : ℕ) (kept : List Retained) (out : List ℕ) → Returnable (givenFunction u) cases kept
+    → SameRuns (programOf (givenFunction u)) (programOf (outputFunction u (outputAfter (rewritten kept) out)))
+unfolding outputFunction outputAfter givenFunction
+returned-runs u cases kept out r =
+    let e : readResult (resultBytes kept ++ drop (resultSize (length kept)) out) ≡ kept = result-back cases kept (drop (resultSize (length kept)) out) (r .few) (r .fits) in
+    rw e (r .good .runs)
+
+-- Demand 3 for one pass: of the bytes in the output after it.
+pub pass-alike : (u : List ℕ) (l : Lent) (out : List ℕ) → Bytes u → RunsAlike u (passAnswer u l) (outputAfter (passAnswer u l) out)
+unfolding passAnswer RunsAlike
+pass-alike u l out b = go (passAnswer u l) refl
   where
-    go : (o : Outcome) → answer u b (roomFor (headerOf u) l) ≡ o → RunsAlike u o
+    go : (o : Outcome) → answerWith (roomFor (headerOf u .counts) l) u ≡ o → RunsAlike u o (outputAfter o out)
     go unchanged e = same-runs-refl (programOf (givenFunction u))
     go (refused k p) e = tt
-    go (rewritten kept) e = answer-good u b (roomFor (headerOf u) l) kept e .runs
+    go (rewritten kept) e = returned-runs u _ kept out (answer-returnable u b (roomFor (headerOf u .counts) l) kept e)
 
 -- ---- cleaning
 
@@ -158,13 +198,10 @@ placed-cells before (r ∷ rs) = ap (λ (l : List Cell). cellOf r ∷ l) (placed
 
 placed-function : (S : Sections) (before kept : List Retained) → resultFunction S (placedBy before kept) ≡ resultFunction S kept
 unfolding resultFunction
-placed-function S before kept =
-    let c = placed-cells before kept in
-    let n : length (placedBy before kept) ≡ length kept = sym (length-map (placedBy before kept) cellOf) ∙ ap length c ∙ length-map kept cellOf in
-    rw (c, n)
+placed-function S before kept = rw (placed-cells before kept, placed-long before kept)
 
 -- what good passes lead to from F
-module _ (F : Function) where
+module _ (F : Function) (cases : ℕ) where
   placed-good : (before kept : List Retained) → Good F before → Good (resultFunction (F .sections) before) kept → Good F (placedBy before kept)
   unfolding resultFunction
   placed-good before kept g h =
@@ -173,33 +210,52 @@ module _ (F : Function) where
         well = rw (placed-function (F .sections) before kept) (h .well);
       }
 
+  -- a pass more
+  placed-returnable : (before kept : List Retained) → Returnable F cases before → pass (F .sections) (cellsAfter before) ≡ rewritten kept → Returnable F cases (placedBy before kept)
+  unfolding resultFunction
+  placed-returnable before kept r e =
+      let G = resultFunction (F .sections) before in
+      let worked = pass-worked (F .sections) (cellsAfter before) kept e in
+      let sound : AllSound cases (cellsAfter before) = λ p h.
+          let l : p < length before = rw (length-map before cellOf) at h in
+          rw (List·getD-map cellOf before p noRetained) (r .fits p l .metadata) in
+      let again : Again cases (length before) kept = rw (length-map before cellOf) at (optimized-again G (r .good .well) cases sound (worked .0) kept (worked .1)) in
+      let fewer = again .few in
+      let few = r .few in
+      record {
+        good = placed-good before kept (r .good) (pass-runs G (r .good .well) kept e);
+        few = rw (placed-long before kept) (omega arith);
+        fits = placed-fits cases before kept (λ p h. r .fits p h .place) again;
+      }
+
   -- up to k passes more keep the run
-  clean-good : (k j : ℕ) (before kept : List Retained) → Good F before → cleanFrom (F .sections) k j before .outcome ≡ rewritten kept → Good F kept
-  unfolding cleanFrom afterPass resultFunction
-  clean-good zero j before kept g e = let q : before ≡ kept = cc in rw (← q) g
-  clean-good (suc k) j before kept g e = go (pass (F .sections) (cellsAfter before)) refl e (λ b c. clean-good k (suc j) b kept c)
+  clean-returnable : (k j : ℕ) (before kept : List Retained) → Returnable F cases before → cleanFrom (F .sections) k j before .outcome ≡ rewritten kept → Returnable F cases kept
+  unfolding cleanFrom afterPass
+  clean-returnable zero j before kept r e = let q : before ≡ kept = cc in rw (← q) r
+  clean-returnable (suc k) j before kept r e = go (pass (F .sections) (cellsAfter before)) refl e (λ b c. clean-returnable k (suc j) b kept c)
     where
       go : (o : Outcome) → pass (F .sections) (cellsAfter before) ≡ o
           → afterPass (suc j) before (λ kept. cleanFrom (F .sections) k (suc j) (placedBy before kept)) o .outcome ≡ rewritten kept
-          → ((b : List Retained) → Good F b → cleanFrom (F .sections) k (suc j) b .outcome ≡ rewritten kept → Good F kept) → Good F kept
-      go unchanged q e ih = let same : before ≡ kept = cc in rw (← same) g
+          → ((b : List Retained) → Returnable F cases b → cleanFrom (F .sections) k (suc j) b .outcome ≡ rewritten kept → Returnable F cases kept) → Returnable F cases kept
+      go unchanged q e ih = let same : before ≡ kept = cc in rw (← same) r
       go (refused m p) q e ih = let z : _≡_ {A = ℕ} 0 1 = cc in absurd (omega arith)
-      go (rewritten next) q e ih = ih (placedBy before next) (placed-good before next g (pass-runs (resultFunction (F .sections) before) (g .well) next q)) e
+      go (rewritten next) q e ih = ih (placedBy before next) (placed-returnable before next r q) e
 
--- Demand 3 for cleaning.
-pub clean-alike : (u : List ℕ) (l : Lent) (first second : ℕ) → Bytes u → RunsAlike u (cleanAnswer u l first second .outcome)
+-- Demand 3 for cleaning: of the bytes in the output after it.
+pub clean-alike : (u : List ℕ) (l : Lent) (first second : ℕ) (out : List ℕ) → Bytes u
+    → RunsAlike u (cleanAnswer u l first second .outcome) (outputAfter (cleanAnswer u l first second .outcome) out)
 unfolding cleanAnswer cleanedFirst RunsAlike givenFunction
-clean-alike u l first second b = go (answer u b room) refl
+clean-alike u l first second out b = go (answerWith room u) refl
   where
     room : Bool
-    room = roomFor (headerOf u) l && spareFor (headerOf u) first second
+    room = roomFor (headerOf u .counts) l && spareFor (headerOf u .counts) first second
 
-    later : (o : Outcome) (kept : List Retained) → Good (givenFunction u) kept → cleanFrom (sectionsOf u) 2 1 kept .outcome ≡ o → RunsAlike u o
-    later unchanged kept g e = same-runs-refl (programOf (givenFunction u))
-    later (refused k p) kept g e = tt
-    later (rewritten last) kept g e = clean-good (givenFunction u) 2 1 kept last g e .runs
+    later : (o : Outcome) (kept : List Retained) → Returnable (givenFunction u) (headerOf u .counts .cases) kept → cleanFrom (sectionsOf u) 2 1 kept .outcome ≡ o → RunsAlike u o (outputAfter o out)
+    later unchanged kept r e = same-runs-refl (programOf (givenFunction u))
+    later (refused k p) kept r e = tt
+    later (rewritten last) kept r e = returned-runs u _ last out (clean-returnable (givenFunction u) _ 2 1 kept last r e)
 
-    go : (o : Outcome) → answer u b room ≡ o → RunsAlike u (cleanedFirst (sectionsOf u) o .outcome)
+    go : (o : Outcome) → answerWith room u ≡ o → RunsAlike u (cleanedFirst (sectionsOf u) o .outcome) (outputAfter (cleanedFirst (sectionsOf u) o .outcome) out)
     go unchanged e = same-runs-refl (programOf (givenFunction u))
     go (refused k p) e = tt
-    go (rewritten kept) e = later (cleanFrom (sectionsOf u) 2 1 kept .outcome) kept (answer-good u b room kept e) refl
+    go (rewritten kept) e = later (cleanFrom (sectionsOf u) 2 1 kept .outcome) kept (answer-returnable u b room kept e) refl

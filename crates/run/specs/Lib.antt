@@ -2,6 +2,7 @@ pub mod System
 pub mod Machine
 pub mod Program
 pub mod Returned
+pub mod Contract
 pub mod Simulation
 pub mod LockStep
 pub mod Removal
@@ -25,4 +26,6 @@ pub mod Optimized
 pub mod Kept
 pub mod Checked
 pub mod Passed
+pub mod Reading
+pub mod Fitting
 pub mod Given

@@ -19,7 +19,7 @@ use Rattle.flow.specs.Block.{leaders}
 use Rattle.flow.specs.Loop.{reachedPlaces, loopCheck}
 use Rattle.values.specs.Number.{numberCode}
 use Rattle.pc_map.specs.Relocate.{relocationCheck, retainFrom}
-use Rattle.answer.specs.Pass.{Outcome, unchanged, rewritten, checked, sameCode, allKept, keptPlaces, removal, optimized, isWorkedOn, pass}
+use Rattle.answer.specs.Pass.{Outcome, unchanged, rewritten, checked, sameCode, allKept, keptPlaces, removal, afterLoops, afterBranches, afterOperands, optimized, isWorkedOn, pass}
 use Rattle.answer.specs.Clean.{cellOf}
 use Rattle.run.specs.Machine.{SameRuns, same-runs-trans}
 use Rattle.run.specs.Program.{Function, programOf}
@@ -86,7 +86,7 @@ module _ (F : Function) (w : Well F) (worked : isWorkedOn (length (F .cells)) �
   -- what a rewriting went through
   pub optimized-kept : (kept : List Retained) → optimized S cells ≡ rewritten kept
       → (operandCheck (S .locals) (S .tables) cells ≡ Passed) × (branchCheck cells ≡ Passed) × (retainFrom keep 0 code ≡ kept)
-  unfolding optimized removal
+  unfolding optimized afterOperands afterBranches afterLoops removal
   optimized-kept kept e =
       let operands = passed-check (operandCheck (S .locals) (S .tables) cells) _ kept e in
       let branches = passed-check (branchCheck cells) _ kept (operands .1) in
@@ -96,10 +96,13 @@ module _ (F : Function) (w : Well F) (worked : isWorkedOn (length (F .cells)) �
   pub optimized-runs : (kept : List Retained) → optimized S cells ≡ rewritten kept → Good F kept
   optimized-runs kept e = let k = optimized-kept kept e in rw (← k .2) (good (k .0) (k .1))
 
-pub pass-runs : (F : Function) → Well F → (kept : List Retained) → pass (F .sections) (F .cells) ≡ rewritten kept → Good F kept
+pub pass-worked : (S : Sections) (cells : List Cell) (kept : List Retained) → pass S cells ≡ rewritten kept → (isWorkedOn (length cells) ≡ true) × (optimized S cells ≡ rewritten kept)
 unfolding pass
-pass-runs F w kept e = go (isWorkedOn (length (F .cells))) refl e
+pass-worked S cells kept e = go (isWorkedOn (length cells)) refl e
   where
-    go : (t : Bool) → isWorkedOn (length (F .cells)) ≡ t → cond t (optimized (F .sections) (F .cells)) unchanged ≡ rewritten kept → Good F kept
-    go true h e = optimized-runs F w h kept e
+    go : (t : Bool) → isWorkedOn (length cells) ≡ t → cond t (optimized S cells) unchanged ≡ rewritten kept → (isWorkedOn (length cells) ≡ true) × (optimized S cells ≡ rewritten kept)
+    go true h e = (h, e)
     go false h e = let z : _≡_ {A = ℕ} 0 1 = cc in absurd (omega arith)
+
+pub pass-runs : (F : Function) → Well F → (kept : List Retained) → pass (F .sections) (F .cells) ≡ rewritten kept → Good F kept
+pass-runs F w kept e = let worked = pass-worked (F .sections) (F .cells) kept e in optimized-runs F w (worked .0) kept (worked .1)

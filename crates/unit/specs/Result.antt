@@ -3,12 +3,14 @@
 use mathlib.Core.List.{List, [], _∷_, _++_}
 use Prim.Native.Nat.{ℕ, _+_, _*_}
 use lib.ListN.{length}
-use Rattle.words.specs.Le.{toLe}
-use Rattle.instruction.specs.Instruction.{toWord}
+use borrow.Rule.Slice.PartMut.{midOf}
+use Rattle.words.specs.Le.{toLe, u32At}
+use Rattle.words.specs.Lists.{tabulate}
+use Rattle.instruction.specs.Instruction.{toWord, instructionAt}
 use Rattle.instruction.specs.declared.Instruction.{Instruction}
 use Rattle.unit.specs.declared.Metadata.{Metadata}
-use Rattle.unit.specs.Entry.{metadataBytes}
-use Rattle.unit.specs.Size.{resultHeaderSize, instructionSize, metadataSize}
+use Rattle.unit.specs.Entry.{metadataAt, metadataBytes}
+use Rattle.unit.specs.Size.{resultHeaderSize, instructionSize, metadataSize, placeSize}
 
 -- an instruction of a result with its metadata and its old place
 pub record Retained : Type 0 where
@@ -39,3 +41,18 @@ placeBytes (x ∷ xs) = toLe 4 (x .place) ++ placeBytes xs
 
 unfoldable pub resultBytes : List Retained → List ℕ
 resultBytes xs = resultHeader (length xs) ++ codeBytes xs ++ metadataBytesAll xs ++ placeBytes xs
+
+-- the instructions whose sections of k entries start at the bytes code, metadata and places
+unfoldable pub retainedFrom : ℕ → ℕ → ℕ → ℕ → List ℕ → List Retained
+retainedFrom k code metadata places b =
+    tabulate k
+    (λ p.
+    record {
+      instruction = instructionAt (midOf code (instructionSize * k) b) p;
+      metadata = metadataAt (midOf metadata (metadataSize * k) b) p;
+      place = u32At (midOf places (placeSize * k) b) (placeSize * p);
+    })
+
+-- a result at the front of a buffer, read back as a caller reads it: by the four words of its header
+unfoldable pub readResult : List ℕ → List Retained
+readResult b = retainedFrom (u32At b 0) (u32At b 4) (u32At b 8) (u32At b 12) b

@@ -25,6 +25,10 @@ externSize = 2
 abbrev pub caseSize : ℕ
 caseSize = 8
 
+-- bytes of one old place of a result
+abbrev pub placeSize : ℕ
+placeSize = 4
+
 -- bytes of the result's header, and of a result of k instructions: "16 + 28n'"
 abbrev pub resultHeaderSize : ℕ
 resultHeaderSize = 16

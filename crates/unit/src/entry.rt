@@ -39,13 +39,6 @@ pub fn write_metadata(d: &mut [u8], at: usize, m: Metadata)
     le::write_u32(d, at + 12, m.end);
 }
 
-pub fn slot_type(section: &[u8], k: usize) -> u8
-    requires { ⌜ k < length (now section) ⌝ }
-    ensures { λ r. ⌜ r ≡ typeAt (now (section .entry)) k ⌝ }
-{
-    section[k]
-}
-
 fn constant_of(kind: u8, value: u64) -> Constant
     ensures { λ r. ⌜ r ≡ constantOf kind value ⌝ }
 {

@@ -200,7 +200,7 @@ fn put_single_reads(row: &mut [u64], w: u64, k: u64, live: bool)
 }
 
 // What is live before it, of what is live after it. Of a dead store, whose slot is not live, nothing is put in: so the live slots stay,
-// and the processor has no branch to predict.
+// and the processor has no branch to predict. Where `live` is false although the slot is live, the row is free.
 pub fn single_before(row: &mut [u64], w: u64, k: u64, live: bool)
     requires { ⌜ SingleFits (length (now row)) w × (k ≡ numberOf (class (ofWord w))) ⌝ }
     ensures { λ _. ⌜ (live ≡ true → (T : Tables) (m : Metadata) → Before T (cell w m) (now (row .entry)) (now (row .exit))) × (live ≡ false → member (now (row .entry)) (ofWord w .a) ≡ false → Same (now (row .entry)) (now (row .exit))) ⌝ }

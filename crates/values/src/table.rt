@@ -120,7 +120,8 @@ pub fn store(t: &mut [u64], types: &[u8], n: usize, s: u16, d: u64) -> Found
     found
 }
 
-// The value with a number, as far as folding asks: of a definition neither place nor slot plays a part.
+// The value with a number, as far as folding asks, which is whether it is an integer and which: what it is otherwise, a definition's
+// place and slot and a float's bits, is free.
 pub fn atom(t: &[u64], n: usize, locals: usize, d: u64) -> Atom
     requires { ⌜ Ready n locals (now t) × (d < limit n locals (memoryOf n locals (now t))) ⌝ }
     ensures { λ r. ⌜ integerOf r ≡ integerAt n locals (memoryOf n locals (now (t .entry)) .constantTable) d ⌝ }

@@ -1,7 +1,7 @@
 use mathlib.Core.Path.{sym, ap, _∙_}
 use Rattle.unit.specs.declared.Header.{Header}
 use Rattle.unit.specs.Laws.{layout-unit, layout-refused}
-use Rattle.clean.specs.Cleaning.{tells-cleaned, stop-tells, stopped}
+use Rattle.clean.specs.Cleaning.{answers-cleaned, stop-answers, stopped}
 use Rattle.clean.specs.First.{clean-refused}
 use borrow.Author.Needs.{needs}
 use Rattle.clean.proofs.answer.Statement.{statement}
@@ -13,7 +13,7 @@ laid-requires c κs = let e = layout-unit (c .before .before .before .before .be
 returns : tie.Need-returns
 returns c =
     let e = layout-refused (c .before .before .before .before .before .before .before .before .before .before .args .unit .now) _ _ (sym (c .before .before .before .check .ensures) ∙ c .before .k .given .1) in
-    tells-cleaned _ (stopped _ _ 1) _ _ _ (clean-refused _ _ _ _ (e .0) ∙ rw (e .1, e .2)) (stop-tells _ _ 1 (c .before .before .before .before .before .before .before .before .before .before .args .out .now))
+    answers-cleaned _ (stopped _ _ 1) _ _ _ (clean-refused _ _ _ _ (e .0) ∙ rw (e .1, e .2)) (stop-answers _ _ 1 (c .before .before .before .before .before .before .before .before .before .before .args .out .now))
 
 pub answer-spec : {M : Type 1} → statement M
 answer-spec =

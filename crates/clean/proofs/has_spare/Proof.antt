@@ -4,7 +4,7 @@ use Rattle.clean.proofs.has_spare.Statement.{statement}
 use Rattle.clean.proofs.has_spare.Tie as tie
 
 returns : tie.Need-returns
-returns c = λ h e. let a = c .before .args in spare-test h (a .n) _ (a .first) (a .second) e (c .output-room .ensures)
+returns c = let a = c .before .args in spare-test (a .c) _ (a .first) (a .second) (c .output-room .ensures)
 
 pub has-spare-spec : {M : Type 1} → statement M
 has-spare-spec = tie.close (tie.spec (λ c κs. search needs) returns)

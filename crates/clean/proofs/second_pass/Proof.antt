@@ -2,8 +2,8 @@ use Rattle.words.specs.Bytes.{Bytes}
 use mathlib.Core.Path.{refl}
 use native.Mathlib.Omega.{arith}
 use Rattle.answer.specs.Answer.{sectionsOf}
-use Rattle.clean.specs.Reading.{retainedIn}
-use Rattle.clean.specs.Cleaning.{tells-cleaned, stop-tells, from-unchanged, from-refused, ready-as, next-ready, from-rewritten}
+use Rattle.run.specs.Reading.{retainedIn}
+use Rattle.clean.specs.Cleaning.{answers-cleaned, stop-answers, from-unchanged, from-refused, ready-as, next-ready, from-rewritten}
 use borrow.Author.Needs.{needs}
 use Rattle.clean.proofs.second_pass.Statement.{statement}
 use Rattle.clean.proofs.second_pass.Tie as tie
@@ -30,19 +30,19 @@ returns : tie.Need-returns
 returns c =
     let l = c .before .before .before .before .before .before .before .before .before .before .before .before .before in
     let s = start l in
-    tells-cleaned _ _ _ _ _ (from-unchanged (sectionsOf (s .args .unit .now)) 1 1 (retainedIn (s .args .k) (s .args .from .now)) (s .args .to .now) _ _ (l .later .ensures) (c .before .before .before .before .before .enum-told .given .1)) (c .before .before .give .ensures)
+    answers-cleaned _ _ _ _ _ (from-unchanged (sectionsOf (s .args .unit .now)) 1 1 (retainedIn (s .args .k) (s .args .from .now)) (s .args .to .now) _ _ (l .later .ensures) (c .before .before .before .before .before .enum-told .given .1)) (c .before .before .give .ensures)
 
 returns-2 : tie.Need-returns-2
 returns-2 c =
     let l = c .before .before .before .before .before .before .before .before .before in
     let s = start l in
-    tells-cleaned _ _ _ _ _ (from-refused (sectionsOf (s .args .unit .now)) 1 1 (retainedIn (s .args .k) (s .args .from .now)) (s .args .to .now) _ _ (l .later .ensures) _ _ (c .before .r .given .1)) (stop-tells _ _ 2 (s .args .out .now))
+    answers-cleaned _ _ _ _ _ (from-refused (sectionsOf (s .args .unit .now)) 1 1 (retainedIn (s .args .k) (s .args .from .now)) (s .args .to .now) _ _ (l .later .ensures) _ _ (c .before .r .given .1)) (stop-answers _ _ 2 (s .args .out .now))
 
 returns-3 : tie.Need-returns-3
 returns-3 c =
     let l = c .before .before .before .before .before .before .before .before .before .before .before .before .before .before .before .before .before .before .before .before .before .before .before in
     let s = start l in
-    tells-cleaned _ _ _ _ _ (from-rewritten (s .pre .0) (unit-bytes l) (from-bytes l) (s .args .to .now) _ _ (l .later .ensures) refl _ (c .before .before .before .before .before .before .before .before .before .before .before .before .before .before .before .j .given .1) 1 1) (c .before .before .before .before .before .before .before .before .third-pass .ensures)
+    answers-cleaned _ _ _ _ _ (from-rewritten (s .pre .0) (unit-bytes l) (from-bytes l) (s .args .to .now) _ _ (l .later .ensures) refl _ (c .before .before .before .before .before .before .before .before .before .before .before .before .before .before .before .j .given .1) 1 1) (c .before .before .before .before .before .before .before .before .third-pass .ensures)
 
 pub second-pass-spec : {M : Type 1} → statement M
 second-pass-spec =

@@ -3,8 +3,8 @@ use mathlib.Core.Path.{refl}
 use native.Mathlib.Omega.{arith}
 use Rattle.answer.specs.Answer.{sectionsOf}
 use Rattle.answer.specs.Clean.{cleanFrom}
-use Rattle.clean.specs.Reading.{retainedIn}
-use Rattle.clean.specs.Cleaning.{tells-cleaned, stop-tells, from-unchanged, from-refused, next-ready, from-rewritten}
+use Rattle.run.specs.Reading.{retainedIn}
+use Rattle.clean.specs.Cleaning.{answers-cleaned, stop-answers, from-unchanged, from-refused, next-ready, from-rewritten}
 use borrow.Author.Needs.{needs}
 use Rattle.clean.proofs.third_pass.Statement.{statement}
 use Rattle.clean.proofs.third_pass.Tie as tie
@@ -30,20 +30,20 @@ returns : tie.Need-returns
 returns c =
     let l = c .before .before .before .before .before .before .before .before .before .before .before .before in
     let s = start l in
-    tells-cleaned _ _ _ _ _ (from-unchanged (sectionsOf (s .args .unit .now)) 0 2 (retainedIn (s .args .k) (s .args .from .now)) (s .args .to .now) _ _ (l .later .ensures) (c .before .before .before .before .enum-told .given .1)) (c .before .before .give .ensures)
+    answers-cleaned _ _ _ _ _ (from-unchanged (sectionsOf (s .args .unit .now)) 0 2 (retainedIn (s .args .k) (s .args .from .now)) (s .args .to .now) _ _ (l .later .ensures) (c .before .before .before .before .enum-told .given .1)) (c .before .before .give .ensures)
 
 returns-2 : tie.Need-returns-2
 returns-2 c =
     let l = c .before .before .before .before .before .before .before .before .before in
     let s = start l in
-    tells-cleaned _ _ _ _ _ (from-refused (sectionsOf (s .args .unit .now)) 0 2 (retainedIn (s .args .k) (s .args .from .now)) (s .args .to .now) _ _ (l .later .ensures) _ _ (c .before .r .given .1)) (stop-tells _ _ 3 (s .args .out .now))
+    answers-cleaned _ _ _ _ _ (from-refused (sectionsOf (s .args .unit .now)) 0 2 (retainedIn (s .args .k) (s .args .from .now)) (s .args .to .now) _ _ (l .later .ensures) _ _ (c .before .r .given .1)) (stop-answers _ _ 3 (s .args .out .now))
 
 returns-3 : tie.Need-returns-3
 unfolding cleanFrom
 returns-3 c =
     let l = c .before .before .before .before .before .before .before .before .before .before .before .before .before .before in
     let s = start l in
-    tells-cleaned _ _ _ _ _ (from-rewritten (s .pre .0) (unit-bytes l) (from-bytes l) (s .args .to .now) _ _ (l .later .ensures) refl _ (c .before .before .before .before .before .before .j .given .1) 0 2) (c .before .before .give2 .ensures)
+    answers-cleaned _ _ _ _ _ (from-rewritten (s .pre .0) (unit-bytes l) (from-bytes l) (s .args .to .now) _ _ (l .later .ensures) refl _ (c .before .before .before .before .before .before .j .given .1) 0 2) (c .before .before .give2 .ensures)
 
 pub third-pass-spec : {M : Type 1} → statement M
 third-pass-spec =

@@ -6,8 +6,17 @@ use Rattle.host.proofs.lampruda_clean.Tie as tie
 
 returns : tie.Need-returns
 returns c =
-    let e = c .before .before .before .before .before .before .before .before .before .before .before .clean .ensures in
-    (cleaned-numbers (c .before .before .before .before .before .before .before .before .before .before .before .clean .result) (c .in-numbers .result) (c .in-numbers .ensures) ∙ ap cleanedNumbersOf (e .0 .0), e .0 .1, e .1, e .2, e .3, e .4, e .5)
+    let l = c .before .before .before .before .before .before .before .before .before .before .before in
+    let e = l .clean .ensures in
+    record {
+      answer = cleaned-numbers (l .clean .result) (c .in-numbers .result) (c .in-numbers .ensures) ∙ ap cleanedNumbersOf (e .answer);
+      output = e .output;
+      work32 = e .work32;
+      work64 = e .work64;
+      first = e .first;
+      second = e .second;
+      runs = e .runs;
+    }
 
 pub lampruda-clean-spec : {M : Type 1} → statement M
 lampruda-clean-spec =

@@ -7,7 +7,7 @@ use Rattle.host.proofs.lampruda_pass.Tie as tie
 returns : tie.Need-returns
 returns c =
     let e = c .before .before .before .before .before .before .before .pass .ensures in
-    (c .in-numbers .ensures ∙ ap numbersOf (e .0 .0), e .0 .1, e .1, e .2, e .3)
+    record { answer = c .in-numbers .ensures ∙ ap numbersOf (e .answer); output = e .output; work32 = e .work32; work64 = e .work64; runs = e .runs }
 
 pub lampruda-pass-spec : {M : Type 1} → statement M
 lampruda-pass-spec =

@@ -1,4 +1,4 @@
-use Rattle.listing.proofs.Laws.{fits-told, told-puts}
+use Rattle.listing.proofs.Laws.{fits-answer, outcome-puts}
 use borrow.Author.Needs.{needs}
 use Rattle.listing.proofs.list_pass.Statement.{statement}
 use Rattle.listing.proofs.list_pass.Tie as tie
@@ -7,14 +7,14 @@ put-answer-requires : tie.Need-put-answer-requires
 put-answer-requires c κs =
     let p = c .before .before .before .before .before .before .before .before in
     let s = p .before .before .before .before .before .before .before .before .before in
-    let e = p .pass .ensures .0 in
-    (rw (e .0) (fits-told _ _ _ (e .1) (p .pass .kept .1 .0) (s .pre .0)), s .pre .1)
+    let e = p .pass .ensures in
+    (rw (e .answer) (fits-answer _ _ _ (e .output) (p .pass .kept .1 .0) (s .pre .0)), s .pre .1)
 
 returns : tie.Need-returns
 returns c =
     let p = c .before .before in
-    let e = p .before .before .before .before .before .before .before .before .before .pass .ensures .0 in
-    told-puts _ _ _ _ (e .0) (e .1) (p .put-answer .ensures)
+    let e = p .before .before .before .before .before .before .before .before .before .pass .ensures in
+    outcome-puts _ _ _ _ (e .answer) (e .output) (p .put-answer .ensures)
 
 pub list-pass-spec : {M : Type 1} → statement M
 list-pass-spec =

@@ -4,7 +4,7 @@ use native.Mathlib.Omega.{arith}
 use lib.ListN.{length}
 use borrow.Rule.Slice.PartMut.{putMid}
 use borrow.Author.Needs.{needs}
-use Rattle.clean.specs.Reading.{placeSize}
+use Rattle.unit.specs.Size.{placeSize}
 use Rattle.clean.specs.Placing.{composed, place-left, compose-turn, compose-end}
 use Rattle.clean.proofs.buffer.compose.Statement.{statement}
 use Rattle.clean.proofs.buffer.compose.Tie as tie

@@ -1,13 +1,13 @@
 use Rattle.words.specs.Bytes.{Bytes}
 use mathlib.Core.Path.{refl}
 use native.Mathlib.Omega.{arith}
-use Rattle.clean.specs.Told.{small-tells, unchanged-tells, refused-tells, places-inside, rewritten-tells}
+use Rattle.clean.specs.Later.{small-answers, unchanged-answers, refused-answers, places-inside, rewritten-answers}
 use borrow.Author.Needs.{needs}
 use Rattle.clean.proofs.later.later.Statement.{statement}
 use Rattle.clean.proofs.later.later.Tie as tie
 
 returns : tie.Need-returns
-returns c = small-tells (c .before .before .before .before .before .before .pre) (λ i. omega (arith, c .before .before .before .before .before .shared-slice-known .given i)) (λ i. omega (arith, c .before .before .before .before .shared-slice-known2 .given i)) (c .if1 .taken) (c .before .before .before .before .before .before .args .to .now)
+returns c = small-answers (c .before .before .before .before .before .before .pre) (λ i. omega (arith, c .before .before .before .before .before .shared-slice-known .given i)) (λ i. omega (arith, c .before .before .before .before .shared-slice-known2 .given i)) (c .if1 .taken) (c .before .before .before .before .before .before .args .to .now)
 
 -- what was given, from the state after the pass
 abbrev start : tie.After-work → tie.Start
@@ -29,19 +29,19 @@ returns-2 : tie.Need-returns-2
 returns-2 c =
     let l = c .before .before .before .before .before .before .before .before in
     let s = start l in
-    unchanged-tells (s .pre) (unit-bytes l) (from-bytes l) (omega arith) (s .args .to .now) _ _ (l .work .ensures) (c .enum-told .given .1)
+    unchanged-answers (s .pre) (unit-bytes l) (from-bytes l) (omega arith) (s .args .to .now) _ _ (l .work .ensures) (c .enum-told .given .1)
 
 returns-3 : tie.Need-returns-3
 returns-3 c =
     let l = c .before .before .before .before .before .before .before .before .before in
     let s = start l in
-    refused-tells (s .pre) (unit-bytes l) (from-bytes l) (omega arith) (s .args .to .now) _ _ (l .work .ensures) _ _ (c .before .r .given .1)
+    refused-answers (s .pre) (unit-bytes l) (from-bytes l) (omega arith) (s .args .to .now) _ _ (l .work .ensures) _ _ (c .before .r .given .1)
 
 returns-4 : tie.Need-returns-4
 returns-4 c =
     let l = c .before .before .before .before .before .before .before .before .before .before .before .before .before in
     let s = start l in
-    rewritten-tells (s .pre) (unit-bytes l) (from-bytes l) (omega arith) (s .args .to .now) _ _ (l .work .ensures) _ (c .before .before .before .before .before .j .given .1) _ (c .before .before .place .ensures)
+    rewritten-answers (s .pre) (unit-bytes l) (from-bytes l) (omega arith) (s .args .to .now) _ _ (l .work .ensures) _ (c .before .before .before .before .before .j .given .1) _ (c .before .before .place .ensures)
 
 pub later-spec : {M : Type 1} → statement M
 later-spec =

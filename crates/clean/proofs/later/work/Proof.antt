@@ -1,6 +1,6 @@
 use Rattle.words.specs.Bytes.{Bytes}
 use native.Mathlib.Omega.{arith}
-use Rattle.optimize.specs.Parts.{tells-same}
+use Rattle.optimize.specs.Parts.{answers-same}
 use Rattle.clean.specs.Ready.{code-part, metadata-part, later-given, later-answer}
 use borrow.Author.Needs.{needs}
 use Rattle.clean.proofs.later.work.Statement.{statement}
@@ -25,7 +25,7 @@ returns : tie.Need-returns
 returns c =
     let l = c .before .before .before .before .before .before .before in
     let s = start l in
-    tells-same _ _ _ _ _ (later-answer (s .pre .0) (unit-bytes l) (from-bytes l) _ _ _ _ _ _ _ (code-part (s .args .from .now) _ _ (l .before .before .before .before .before .before .before .before .before .before .before .metadata-at .ensures)) (metadata-part (s .args .from .now) _ _ _ (l .before .before .before .before .before .before .before .before .before .before .before .metadata-at .ensures) (l .before .before .before .before .before .before .before .before .before .before .places-at .ensures)) (l .before .before .before .before .before .before .before .types .ensures) (l .before .before .before .before .before .before .constants .ensures) (l .before .before .before .before .before .functions .ensures) (l .before .before .before .before .externs .ensures) (l .before .before .before .cases .ensures)) (c .before .before .before .before .before .before .optimize .ensures)
+    answers-same _ _ _ _ _ (later-answer (s .pre .0) (unit-bytes l) (from-bytes l) _ _ _ _ _ _ _ (code-part (s .args .from .now) _ _ (l .before .before .before .before .before .before .before .before .before .before .before .metadata-at .ensures)) (metadata-part (s .args .from .now) _ _ _ (l .before .before .before .before .before .before .before .before .before .before .before .metadata-at .ensures) (l .before .before .before .before .before .before .before .before .before .before .places-at .ensures)) (l .before .before .before .before .before .before .before .types .ensures) (l .before .before .before .before .before .before .constants .ensures) (l .before .before .before .before .before .functions .ensures) (l .before .before .before .before .externs .ensures) (l .before .before .before .cases .ensures)) (c .before .before .before .before .before .before .optimize .ensures)
 
 pub work-spec : {M : Type 1} → statement M
 work-spec =

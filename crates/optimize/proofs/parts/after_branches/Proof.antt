@@ -6,7 +6,7 @@ use borrow.Rule.Slice.PartMut.{midOf}
 use Rattle.words.specs.Regions.{mid-long}
 use Rattle.answer.specs.Pass.{refused}
 use Rattle.removal.specs.Kept.{sectionsIn}
-use Rattle.optimize.specs.Parts.{tells-refused, tells-same}
+use Rattle.optimize.specs.Parts.{answers-refused, answers-same, branches-loops}
 use Rattle.optimize.specs.Chain.{checked-refused, checked-passed, same-room, reached-marks, reached-answer}
 use Rattle.optimize.specs.Steps.{list-lent}
 use borrow.Author.Needs.{needs}
@@ -31,13 +31,13 @@ returns : tie.Need-returns
 returns c =
     let s = c .before .before .before .before .before .before .before .before .before .before .before .before .before .before .before .before .before .before .before .before in
     let a = s .args in
-    tells-same _ (refused _ _) _ _ _ (checked-refused _ _ _ _ (reached-answer (a .n) (a .code .now) (a .metadata .now) (sectionsIn (a .types .now) (a .constants .now) (a .functions .now) (a .externs .now) (a .cases .now)) (s .pre .0) (s .pre .2) (a .work32 .now) (a .work64 .now) (s .pre .3) (a .n - 0) _ _ (omega arith) (c .before .before .before .before .before .reach .ensures) ∙ c .before .k .given .1)) (tells-refused _ _ _ (a .out .now) refl)
+    answers-same _ (refused _ _) _ _ _ (branches-loops _ _ ∙ checked-refused _ _ _ _ (reached-answer (a .n) (a .code .now) (a .metadata .now) (sectionsIn (a .types .now) (a .constants .now) (a .functions .now) (a .externs .now) (a .cases .now)) (s .pre .0) (s .pre .2) (a .work32 .now) (a .work64 .now) (s .pre .3) (a .n - 0) _ _ (omega arith) (c .before .before .before .before .before .reach .ensures) ∙ c .before .k .given .1)) (answers-refused _ _ _ (a .out .now) refl)
 
 returns-2 : tie.Need-returns-2
 returns-2 c =
     let s = c .before .before .before .before .before .before .before .before .before .before .before .before .before .before .before .before .before .before .before .before .before .before .before .before .before .before .before .before .before in
     let a = s .args in
-    tells-same _ _ _ _ _ (checked-passed _ _ (reached-answer (a .n) (a .code .now) (a .metadata .now) (sectionsIn (a .types .now) (a .constants .now) (a .functions .now) (a .externs .now) (a .cases .now)) (s .pre .0) (s .pre .2) (a .work32 .now) (a .work64 .now) (s .pre .3) (a .n - 0) _ _ (omega arith) (c .before .before .before .before .before .before .before .before .before .before .before .before .before .before .reach .ensures) ∙ c .before .before .before .before .before .before .before .before .before .before .enum-told .given .1)) (c .before .before .before .before .before .before .after-loops .ensures)
+    answers-same _ _ _ _ _ (branches-loops _ _ ∙ checked-passed _ _ (reached-answer (a .n) (a .code .now) (a .metadata .now) (sectionsIn (a .types .now) (a .constants .now) (a .functions .now) (a .externs .now) (a .cases .now)) (s .pre .0) (s .pre .2) (a .work32 .now) (a .work64 .now) (s .pre .3) (a .n - 0) _ _ (omega arith) (c .before .before .before .before .before .before .before .before .before .before .before .before .before .before .reach .ensures) ∙ c .before .before .before .before .before .before .before .before .before .before .enum-told .given .1)) (c .before .before .before .before .before .before .after-loops .ensures)
 
 pub after-branches-spec : {M : Type 1} → statement M
 after-branches-spec =

@@ -5,7 +5,7 @@ use native.Mathlib.Omega.{arith}
 use lib.ListN.{length}
 use Rattle.unit.specs.Size.{work32Room}
 use Rattle.removal.specs.Kept.{sectionsIn}
-use Rattle.optimize.specs.Parts.{tells-same}
+use Rattle.optimize.specs.Parts.{answers-same}
 use Rattle.optimize.specs.Chain.{marks-retainable, kept-finished, kept-answer}
 use Rattle.optimize.specs.Steps.{list-still}
 use Rattle.optimize.specs.Listing.{list-asks, list-retains}
@@ -56,7 +56,7 @@ returns c =
     let s = start r in
     let a = s .args in
     let w = list-retains (r .retain .ensures .0 (a .constants .now)) (s .pre .0 .few) (room r) (l .list-kept .last .0) (l .list-kept .kept .0) (l .list-kept .ensures .0) (l .list-kept .ensures .1) in
-    tells-same _ _ _ _ _
+    answers-same _ _ _ _ _
     (kept-answer (a .n) (a .code .now) (a .metadata .now) (sectionsIn (a .types .now) (a .constants .now) (a .functions .now) (a .externs .now) (a .cases .now)) (s .pre .0) (s .pre .2) (length (a .out .now)) (a .work32 .now) (a .work64 .now) (s .pre .1) (s .pre .3) refl (w .0 ∙ long r) (r .retain .kept .1 .1 .1 .1 .1 .1 .0) refl (w .1))
     (c .before .before .finish .ensures)
 

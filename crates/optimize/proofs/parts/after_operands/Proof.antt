@@ -7,7 +7,7 @@ use Rattle.words.specs.Regions.{mid-long}
 use Rattle.effects.specs.Shape.{tablesOf}
 use Rattle.answer.specs.Pass.{refused}
 use Rattle.removal.specs.Kept.{sectionsIn}
-use Rattle.optimize.specs.Parts.{cellsIn, Checked, tells-refused, tells-same}
+use Rattle.optimize.specs.Parts.{cellsIn, Checked, answers-refused, answers-same, operands-branches}
 use Rattle.optimize.specs.Chain.{checked-refused, checked-passed, same-room, loaded-numberable, loaded-branches, loaded-renumbered, numbered-listed}
 use Rattle.optimize.specs.Steps.{list-lent}
 use borrow.Author.Needs.{needs}
@@ -46,13 +46,13 @@ returns : tie.Need-returns
 returns c =
     let s = c .before .before .before .before .before .before .before .before .before .before .before .before .before .before .before .before .before in
     let a = s .args in
-    tells-same _ (refused _ _) _ _ _ (checked-refused _ _ _ _ (loaded-branches (a .n) (a .code .now) (a .metadata .now) (sectionsIn (a .types .now) (a .constants .now) (a .functions .now) (a .externs .now) (a .cases .now)) (s .pre .0) (a .n - 0) (a .work64 .now) (omega arith) (s .pre .3) ∙ sym (c .before .before .before .check-branches .ensures (a .metadata .now)) ∙ c .before .k .given .1)) (tells-refused _ _ _ (a .out .now) refl)
+    answers-same _ (refused _ _) _ _ _ (operands-branches _ _ ∙ checked-refused _ _ _ _ (loaded-branches (a .n) (a .code .now) (a .metadata .now) (sectionsIn (a .types .now) (a .constants .now) (a .functions .now) (a .externs .now) (a .cases .now)) (s .pre .0) (a .n - 0) (a .work64 .now) (omega arith) (s .pre .3) ∙ sym (c .before .before .before .check-branches .ensures (a .metadata .now)) ∙ c .before .k .given .1)) (answers-refused _ _ _ (a .out .now) refl)
 
 returns-2 : tie.Need-returns-2
 returns-2 c =
     let s = c .before .before .before .before .before .before .before .before .before .before .before .before .before .before .before .before .before .before .before .before .before .before .before .before .before .before .before .before .before .before .before .before .before in
     let a = s .args in
-    tells-same _ _ _ _ _ (checked-passed _ _ (loaded-branches (a .n) (a .code .now) (a .metadata .now) (sectionsIn (a .types .now) (a .constants .now) (a .functions .now) (a .externs .now) (a .cases .now)) (s .pre .0) (a .n - 0) (a .work64 .now) (omega arith) (s .pre .3) ∙ sym (c .before .before .before .before .before .before .before .before .before .before .before .before .before .before .before .before .before .before .before .check-branches .ensures (a .metadata .now)) ∙ c .before .before .before .before .before .before .before .before .before .before .before .before .before .before .before .before .before .enum-told .given .1)) (c .before .before .before .before .before .before .after-branches .ensures)
+    answers-same _ _ _ _ _ (operands-branches _ _ ∙ checked-passed _ _ (loaded-branches (a .n) (a .code .now) (a .metadata .now) (sectionsIn (a .types .now) (a .constants .now) (a .functions .now) (a .externs .now) (a .cases .now)) (s .pre .0) (a .n - 0) (a .work64 .now) (omega arith) (s .pre .3) ∙ sym (c .before .before .before .before .before .before .before .before .before .before .before .before .before .before .before .before .before .before .before .check-branches .ensures (a .metadata .now)) ∙ c .before .before .before .before .before .before .before .before .before .before .before .before .before .before .before .before .before .enum-told .given .1)) (c .before .before .before .before .before .before .after-branches .ensures)
 
 pub after-operands-spec : {M : Type 1} → statement M
 after-operands-spec =

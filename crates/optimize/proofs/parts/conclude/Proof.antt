@@ -2,8 +2,8 @@ use lib.ListN.{length}
 use mathlib.Core.Path.{sym, _∙_}
 use native.Mathlib.Omega.{arith}
 use Rattle.pc_map.specs.Boundaries.{mapped-long}
-use Rattle.optimize.specs.Parts.{tells-unchanged, tells-refused}
-use Rattle.optimize.specs.Concluded.{Known, conclude-unchanged, conclude-refused, conclude-told, conclude-writable}
+use Rattle.optimize.specs.Parts.{answers-unchanged, answers-refused}
+use Rattle.optimize.specs.Concluded.{Known, conclude-unchanged, conclude-refused, conclude-answers, conclude-writable}
 use borrow.Author.Needs.{needs}
 use Rattle.optimize.proofs.parts.conclude.Statement.{statement}
 use Rattle.optimize.proofs.parts.conclude.Tie as tie
@@ -32,7 +32,7 @@ returns : tie.Need-returns
 returns c =
     let i = c .before in
     let a = start i .args in
-    tells-unchanged _ (a .out .now) (conclude-unchanged (known i) (a .metadata .now) (sym (i .is-unchanged .ensures) ∙ c .if1 .taken))
+    answers-unchanged _ (a .out .now) (conclude-unchanged (known i) (a .metadata .now) (sym (i .is-unchanged .ensures) ∙ c .if1 .taken))
 
 check-relocation-requires : tie.Need-check-relocation-requires
 check-relocation-requires c κs = search needs
@@ -47,7 +47,7 @@ returns-2 : tie.Need-returns-2
 returns-2 c =
     let i = c .before .before .before .before .before in
     let a = start i .args in
-    tells-refused _ _ _ (a .out .now) (conclude-refused (known i) (a .metadata .now) (sym (i .is-unchanged .ensures) ∙ c .before .before .before .before .if1 .left) _ _ (sym (c .before .before .before .check-relocation .ensures) ∙ c .before .k .given .1))
+    answers-refused _ _ _ (a .out .now) (conclude-refused (known i) (a .metadata .now) (sym (i .is-unchanged .ensures) ∙ c .before .before .before .before .if1 .left) _ _ (sym (c .before .before .before .check-relocation .ensures) ∙ c .before .k .given .1))
 
 returns-3 : tie.Need-returns-3
 returns-3 c =
@@ -55,7 +55,7 @@ returns-3 c =
     let i = e .before .before .before .before in
     let s = start i in
     let a = s .args in
-    conclude-told (known i) (a .metadata .now) (sym (i .is-unchanged .ensures) ∙ e .before .before .before .if1 .left) (a .out .now) _ (sym (e .before .before .check-relocation .ensures) ∙ e .enum-told .given .1) (c .before .before .write-retained .ensures (a .keep .now) (s .pre .0))
+    conclude-answers (known i) (a .metadata .now) (sym (i .is-unchanged .ensures) ∙ e .before .before .before .if1 .left) (a .out .now) _ (sym (e .before .before .check-relocation .ensures) ∙ e .enum-told .given .1) (c .before .before .write-retained .ensures (a .keep .now) (s .pre .0))
 
 pub conclude-spec : {M : Type 1} → statement M
 conclude-spec =

@@ -1,7 +1,7 @@
 use Prim.Native.Nat.{ℕ, _+_, _*_, _-_, _≤_}
 use native.Mathlib.Omega.{arith}
 use lib.ListN.{getD}
-use Rattle.optimize.specs.Parts.{tells-same}
+use Rattle.optimize.specs.Parts.{answers-same}
 use Rattle.optimize.specs.Steps.{finish-few, finish-asks, finish-same}
 use borrow.Author.Needs.{needs}
 use Rattle.optimize.proofs.parts.finish.Statement.{statement}
@@ -35,7 +35,7 @@ returns : tie.Need-returns
 returns c =
     let s = c .before .before .before .before .before .before .before .before .before .before .before .before .before .before .before in
     let n = s .args .n in
-    tells-same _ _ _ _ _ (finish-same (s .pre .0) (n - 0) (3 * n + 1 + n - (3 * n + 1)) (omega arith) (omega arith)) (c .before .before .conclude .ensures)
+    answers-same _ _ _ _ _ (finish-same (s .pre .0) (n - 0) (3 * n + 1 + n - (3 * n + 1)) (omega arith) (omega arith)) (c .before .before .conclude .ensures)
 
 pub finish-spec : {M : Type 1} → statement M
 finish-spec =

@@ -7,7 +7,7 @@ use borrow.Rule.Slice.PartMut.{midOf, postOf}
 use Rattle.flow.specs.Listing.{checkOf, ListedBy}
 use Rattle.answer.specs.Pass.{refused}
 use Rattle.removal.specs.Kept.{sectionsIn}
-use Rattle.optimize.specs.Parts.{wordsIn, tells-refused, tells-same, optimized-steps}
+use Rattle.optimize.specs.Parts.{wordsIn, answers-refused, answers-same, optimized-operands}
 use Rattle.optimize.specs.Chain.{checked-refused, checked-passed, same-room, load-front, load-long, operands-asks, operands-answer}
 use Rattle.optimize.specs.Steps.{list-made}
 use borrow.Author.Needs.{needs}
@@ -47,12 +47,12 @@ after-operands-requires c κs =
     let s = start l in
     let a = s .args in
     let m = c .before .before .before .before .before .before .before .before in
-    let told = c .before .before .before .before .count .given .1 in
-    let listed = rw told at (m .check-operands .ensures .1) in
+    let listing = c .before .before .before .before .count .given .1 in
+    let listed = rw listing at (m .check-operands .ensures .1) in
     let made = list-made (a .n) (length (a .types .now)) _ _ _ (m .check-operands .last .0) (rw (c .before .before .before .before .before .before .before .before .before .before .work64-room .ensures)) (s .pre .0 .some) (rw (long l) (s .pre .1 .room64)) (m .check-operands .kept .0) (listed .0, listed .1, m .check-operands .ensures .2) in (
       s .pre .0,
       same-room _ _ _ _ _ _ _ (s .pre .1) refl (m .check-operands .kept .0 ∙ long l),
-      operands-answer (a .n) (a .code .now) (a .metadata .now) _ (sectionsIn (a .types .now) (a .constants .now) (a .functions .now) (a .externs .now) (a .cases .now)) (s .pre .0) (front l) ∙ sym (m .check-operands .ensures .0) ∙ ap checkOf told,
+      operands-answer (a .n) (a .code .now) (a .metadata .now) _ (sectionsIn (a .types .now) (a .constants .now) (a .functions .now) (a .externs .now) (a .cases .now)) (s .pre .0) (front l) ∙ sym (m .check-operands .ensures .0) ∙ ap checkOf listing,
       made .1 ∙ front l,
       made .0,
     )
@@ -63,7 +63,7 @@ returns c =
     let l = c .before .before .before .before .before .before .before .before .before .before in
     let s = start l in
     let a = s .args in
-    tells-same _ (refused _ _) _ _ _ (optimized-steps _ _ ∙ checked-refused _ _ _ _ (operands-answer (a .n) (a .code .now) (a .metadata .now) _ (sectionsIn (a .types .now) (a .constants .now) (a .functions .now) (a .externs .now) (a .cases .now)) (s .pre .0) (front l) ∙ sym (c .before .before .before .before .before .check-operands .ensures .0) ∙ ap checkOf (c .before .k .given .1))) (tells-refused _ _ _ (a .out .now) refl)
+    answers-same _ (refused _ _) _ _ _ (optimized-operands _ _ ∙ checked-refused _ _ _ _ (operands-answer (a .n) (a .code .now) (a .metadata .now) _ (sectionsIn (a .types .now) (a .constants .now) (a .functions .now) (a .externs .now) (a .cases .now)) (s .pre .0) (front l) ∙ sym (c .before .before .before .before .before .check-operands .ensures .0) ∙ ap checkOf (c .before .k .given .1))) (answers-refused _ _ _ (a .out .now) refl)
 
 returns-2 : tie.Need-returns-2
 unfolding checkOf
@@ -71,7 +71,7 @@ returns-2 c =
     let l = c .before .before .before .before .before .before .before .before .before .before .before .before .before .before .before .before .before .before .before .before in
     let s = start l in
     let a = s .args in
-    tells-same _ _ _ _ _ (optimized-steps _ _ ∙ checked-passed _ _ (operands-answer (a .n) (a .code .now) (a .metadata .now) _ (sectionsIn (a .types .now) (a .constants .now) (a .functions .now) (a .externs .now) (a .cases .now)) (s .pre .0) (front l) ∙ sym (c .before .before .before .before .before .before .before .before .before .before .before .before .before .before .before .check-operands .ensures .0) ∙ ap checkOf (c .before .before .before .before .before .before .before .before .before .before .before .count .given .1))) (c .before .before .before .before .before .before .after-operands .ensures)
+    answers-same _ _ _ _ _ (optimized-operands _ _ ∙ checked-passed _ _ (operands-answer (a .n) (a .code .now) (a .metadata .now) _ (sectionsIn (a .types .now) (a .constants .now) (a .functions .now) (a .externs .now) (a .cases .now)) (s .pre .0) (front l) ∙ sym (c .before .before .before .before .before .before .before .before .before .before .before .before .before .before .before .check-operands .ensures .0) ∙ ap checkOf (c .before .before .before .before .before .before .before .before .before .before .before .count .given .1))) (c .before .before .before .before .before .before .after-operands .ensures)
 
 pub optimize-spec : {M : Type 1} → statement M
 optimize-spec =

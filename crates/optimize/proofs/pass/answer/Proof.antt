@@ -1,9 +1,11 @@
 use mathlib.Core.Path.{refl, sym, ap, _∙_}
 use Rattle.unit.specs.declared.Header.{Header}
 use Rattle.unit.specs.Laws.{layout-unit, layout-refused}
+use lib.ListN.{length}
+use Rattle.answer.specs.Answer.{lentOf, passAnswer}
 use Rattle.answer.specs.Pass.{refused}
-use Rattle.optimize.specs.Parts.{tells-refused, tells-same}
-use Rattle.optimize.specs.Whole.{pass-refused, pass-laid}
+use Rattle.optimize.specs.Parts.{answers-refused, answers-same}
+use Rattle.optimize.specs.Whole.{answer-refused, pass-laid}
 use borrow.Author.Needs.{needs}
 use Rattle.optimize.proofs.pass.answer.Statement.{statement}
 use Rattle.optimize.proofs.pass.answer.Tie as tie
@@ -21,8 +23,9 @@ laid-requires : tie.Need-laid-requires
 laid-requires c κs = let e = layout-unit (c .before .before .before .before .before .before .before .before .before .before .before .args .unit .now) _ (sym (c .before .before .before .before .before .before .check .ensures) ∙ c .before .before .before .before .h .given .1) in (e .0, ap (λ (x : Header). x .counts) (e .1))
 
 returns : tie.Need-returns
+unfolding passAnswer
 returns c = let e = layout-refused (c .before .before .before .before .before .before .before .before .args .unit .now) _ _ (sym (c .before .before .before .check .ensures) ∙ c .before .k .given .1) in
-    tells-same _ (refused _ _) _ _ _ (pass-refused _ _ (e .0) ∙ rw (e .1, e .2)) (tells-refused _ _ _ (c .before .before .before .before .before .before .before .before .args .out .now) refl)
+    answers-same _ (refused _ _) _ _ _ (answer-refused _ _ (e .0) ∙ rw (e .1, e .2)) (answers-refused _ _ _ (c .before .before .before .before .before .before .before .before .args .out .now) refl)
 
 same-length : tie.Need-same-length
 same-length c = search needs
@@ -34,8 +37,9 @@ same-length-3 : tie.Need-same-length-3
 same-length-3 c = search needs
 
 returns-2 : tie.Need-returns-2
-returns-2 c = let e = layout-unit (c .before .before .before .before .before .before .before .before .before .before .before .before .before .before .before .before .before .before .args .unit .now) _ (sym (c .before .before .before .before .before .before .before .before .before .before .before .before .before .check .ensures) ∙ c .before .before .before .before .before .before .before .before .before .before .before .h .given .1) in
-    tells-same _ _ _ _ _ (pass-laid _ _ (e .0)) (c .before .before .before .before .before .before .laid .ensures)
+returns-2 c = let a = c .before .before .before .before .before .before .before .before .before .before .before .before .before .before .before .before .before .before .args in
+    let e = layout-unit (a .unit .now) _ (sym (c .before .before .before .before .before .before .before .before .before .before .before .before .before .check .ensures) ∙ c .before .before .before .before .before .before .before .before .before .before .before .h .given .1) in
+    answers-same _ _ _ _ _ (pass-laid (a .unit .now) _ (lentOf (length (a .out .now)) (length (a .work32 .now)) (length (a .work64 .now))) (e .0) (e .1)) (c .before .before .before .before .before .before .laid .ensures)
 
 pub answer-spec : {M : Type 1} → statement M
 answer-spec =

@@ -1,4 +1,3 @@
-use mathlib.Core.Path.{_∙_}
 use Rattle.optimize.specs.Whole.{room-test}
 use borrow.Author.Needs.{needs}
 use Rattle.optimize.proofs.pass.has_room.Statement.{statement}
@@ -14,7 +13,7 @@ work64-room-requires : tie.Need-work64-room-requires
 work64-room-requires c κs = search needs
 
 returns : tie.Need-returns
-returns c = λ h n s. let a = c .before .before .before .args in room-test h (a .out) (a .work32) (a .work64) _ _ _ (c .before .before .output-room .ensures ∙ rw n) (c .before .work32-room .ensures ∙ rw n) (c .work64-room .ensures ∙ rw (n, s))
+returns c = let a = c .before .before .before .args in room-test (a .c) (a .out) (a .work32) (a .work64) _ _ _ (c .before .before .output-room .ensures) (c .before .work32-room .ensures) (c .work64-room .ensures)
 
 pub has-room-spec : {M : Type 1} → statement M
 has-room-spec =

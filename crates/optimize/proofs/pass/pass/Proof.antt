@@ -24,8 +24,17 @@ same-length-3 : tie.Need-same-length-3
 same-length-3 c = search needs
 
 returns : tie.Need-returns
-returns c = let s = c .before .before .before .before .before .before .before .before .before .before .before .before .before .before .before .before .before .before .before .before .before .before in
-    (c .before .before .before .before .before .before .before .before .before .before .before .before .before .before .answer .ensures, c .before .before .before .before .before .before .zero-u32 .ensures ∙ rw (c .before .before .before .before .before .before .before .before .before .before .before .before .before .before .answer .kept .1 .1 .0), c .before .before .zero-u64 .ensures ∙ rw (c .before .before .before .before .before .before .before .before .before .before .before .before .before .before .answer .kept .1 .1 .1 .0), pass-alike (s .args .unit .now) _ (λ i. omega (arith, c .before .before .before .before .before .before .before .before .before .before .before .before .before .before .before .before .before .before .before .before .before .shared-slice-known .given i)))
+returns c =
+    let s = c .before .before .before .before .before .before .before .before .before .before .before .before .before .before .before .before .before .before .before .before .before .before in
+    let r = c .before .before .before .before .before .before .before .before .before .before .before .before .before .before in
+    let bytes = c .before .before .before .before .before .before .before .before .before .before .before .before .before .before .before .before .before .before .before .before .before .shared-slice-known in
+    record {
+      answer = r .answer .ensures .0;
+      output = r .answer .ensures .1;
+      work32 = c .before .before .before .before .before .before .zero-u32 .ensures ∙ rw (r .answer .kept .1 .1 .0);
+      work64 = c .before .before .zero-u64 .ensures ∙ rw (r .answer .kept .1 .1 .1 .0);
+      runs = rw (r .answer .ensures .1) (pass-alike (s .args .unit .now) _ (s .args .out .now) (λ i. omega (arith, bytes .given i)));
+    }
 
 pub pass-spec : {M : Type 1} → statement M
 pass-spec =

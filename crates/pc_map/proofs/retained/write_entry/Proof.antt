@@ -8,7 +8,7 @@ relocate-metadata-requires : tie.Need-relocate-metadata-requires
 relocate-metadata-requires c κs =
     let f = c .before in
     let s = f .before .before .before .before .before .before in
-    end-asked (length (s .args .words .now)) _ (f .from-word .result) _ (c .metadata .result) _ (f .from-word .ensures) (c .metadata .ensures) (s .pre .1) (s .pre .3)
+    end-asked (s .args .bounds .now) (f .from-word .result) _ (c .metadata .result) _ (f .from-word .ensures) (c .metadata .ensures) (s .pre .3)
 
 returns : tie.Need-returns
 returns c =

@@ -1,9 +1,9 @@
 -- A result that lies at the front of a buffer is read back.
 -- Assumes nothing.
-use mathlib.Core.Path.{_≡_, sym, ap, _∙_}
+use mathlib.Core.Path.{_≡_, refl, sym, ap, _∙_}
 use mathlib.Core.Bool.{true}
 use mathlib.Core.List.{List, [], _∷_, _++_, append-assoc}
-use Prim.Native.Nat.{ℕ, suc, _+_, _*_, _^_, _<_}
+use Prim.Native.Nat.{ℕ, suc, _+_, _*_, _^_, _≤_, _<_}
 use native.Mathlib.Omega.{arith}
 use lib.ListN.{length, getD, take, drop, length-append}
 use lib.Seq.{split-at, append-snoc, take-at, drop-at, length-take-le, ext-getD}
@@ -14,15 +14,11 @@ use Rattle.instruction.specs.Instruction.{Fields, instructionAt}
 use Rattle.instruction.specs.Laws.{read-back}
 use Rattle.unit.specs.Entry.{metadataAt, metadataBytes, goodMetadata}
 use Rattle.unit.specs.Laws.{MetadataFields, metadata-read-back, code-bytes-long, metadata-bytes-all-long, place-bytes-long, result-header-long}
-use Rattle.unit.specs.Result.{Retained, resultHeader, codeBytes, metadataBytesAll, placeBytes, resultBytes, resultMetadataAt, resultPlacesAt}
-use Rattle.unit.specs.Size.{resultHeaderSize, instructionSize, metadataSize}
+use Rattle.unit.specs.Result.{Retained, retainedFrom, readResult, resultHeader, codeBytes, metadataBytesAll, placeBytes, resultBytes, resultMetadataAt, resultPlacesAt}
+use Rattle.unit.specs.Size.{resultHeaderSize, instructionSize, metadataSize, placeSize, resultSize, maxInstructions}
 use Rattle.unit.specs.declared.Metadata.{Metadata}
 use Rattle.effects.specs.Shape.{noCell}
 use Rattle.pc_map.specs.Retaining.{Section, code-section, metadata-section, place-section}
-
--- bytes of one old place
-abbrev pub placeSize : ℕ
-placeSize = 4
 
 -- the sections of a result of k instructions
 abbrev pub codeIn : ℕ → List ℕ → List ℕ
@@ -35,10 +31,8 @@ abbrev pub placesIn : ℕ → List ℕ → List ℕ
 placesIn k b = midOf (resultPlacesAt k) (placeSize * k) b
 
 -- its instructions
-unfoldable pub retainedIn : ℕ → List ℕ → List Retained
-retainedIn k b =
-    tabulate k
-    (λ p. record { instruction = instructionAt (codeIn k b) p; metadata = metadataAt (metadataIn k b) p; place = u32At (placesIn k b) (placeSize * p) })
+abbrev pub retainedIn : ℕ → List ℕ → List Retained
+retainedIn k b = retainedFrom k resultHeaderSize (resultMetadataAt k) (resultPlacesAt k) b
 
 abbrev pub noRetained : Retained
 noRetained = record { instruction = noCell .instruction; metadata = noCell .metadata; place = 0 }
@@ -140,7 +134,7 @@ module _ (kept : List Retained) (p : ℕ) (h : p < length kept) where
       ∙ from-to 4 (r .place) f
 
 pub retained-back : (cases : ℕ) (kept : List Retained) (rest : List ℕ) → AllFit cases kept → retainedIn (length kept) (resultBytes kept ++ rest) ≡ kept
-unfolding retainedIn
+unfolding retainedFrom
 retained-back cases kept rest f =
     rw (code-in kept rest, metadata-in kept rest, places-in kept rest)
     (ext-getD noRetained (tabulate (length kept) _) kept (length-tabulate (length kept) _)
@@ -148,3 +142,48 @@ retained-back cases kept rest f =
     let l : p < length kept = rw (length-tabulate (length kept) _) at h in
     let fits = f p l in
     getD-tabulate (length kept) _ p noRetained l ∙ rw (instruction-back kept p l (fits .instruction), metadata-back kept p l (fits .metadata .fits), place-back kept p l (fits .place))))
+
+-- ---- the header
+
+-- the word of a header between those before it and those after it
+word-back : (a b : List ℕ) (i v : ℕ) → length a ≡ i → v < 2 ^ 32 → u32At (a ++ toLe 4 v ++ b) i ≡ v
+word-back a b i v e h = ap fromLe (middle a (toLe 4 v) b i 4 e (length-toLe 4 v)) ∙ from-to 4 v h
+
+module _ (a b c d : ℕ) (rest : List ℕ) where
+  abbrev words : List ℕ
+  words = toLe 4 a ++ toLe 4 b ++ toLe 4 c ++ toLe 4 d
+
+  first-word : a < 2 ^ 32 → u32At (words ++ rest) 0 ≡ a
+  first-word h =
+      let e : words ++ rest ≡ [] ++ toLe 4 a ++ (toLe 4 b ++ (toLe 4 c ++ (toLe 4 d ++ rest))) = simp append-assoc in
+      ap (λ (l : List ℕ). u32At l 0) e ∙ word-back [] (toLe 4 b ++ (toLe 4 c ++ (toLe 4 d ++ rest))) 0 a refl h
+
+  second-word : b < 2 ^ 32 → u32At (words ++ rest) 4 ≡ b
+  second-word h =
+      let e : words ++ rest ≡ toLe 4 a ++ toLe 4 b ++ (toLe 4 c ++ (toLe 4 d ++ rest)) = simp append-assoc in
+      ap (λ (l : List ℕ). u32At l 4) e ∙ word-back (toLe 4 a) (toLe 4 c ++ (toLe 4 d ++ rest)) 4 b (length-toLe 4 a) h
+
+  third-word : c < 2 ^ 32 → u32At (words ++ rest) 8 ≡ c
+  third-word h =
+      let e : words ++ rest ≡ toLe 4 a ++ toLe 4 b ++ toLe 4 c ++ (toLe 4 d ++ rest) = simp append-assoc in
+      ap (λ (l : List ℕ). u32At l 8) e ∙ word-back (toLe 4 a ++ toLe 4 b) (toLe 4 d ++ rest) 8 c (simp (length-append, length-toLe)) h
+
+  fourth-word : d < 2 ^ 32 → u32At (words ++ rest) 12 ≡ d
+  fourth-word h = word-back (toLe 4 a ++ toLe 4 b ++ toLe 4 c) rest 12 d (simp (length-append, length-toLe)) h
+
+-- a result is what is read of it
+pub result-back : (cases : ℕ) (kept : List Retained) (rest : List ℕ) → length kept ≤ maxInstructions → AllFit cases kept → readResult (resultBytes kept ++ rest) ≡ kept
+unfolding readResult resultBytes resultHeader
+result-back cases kept rest few f =
+    let k = length kept in
+    let tail : List ℕ = codeBytes kept ++ (metadataBytesAll kept ++ (placeBytes kept ++ rest)) in
+    let e : resultBytes kept ++ rest ≡ words k resultHeaderSize (resultMetadataAt k) (resultPlacesAt k) tail ++ tail = simp append-assoc in
+    let at : (i v : ℕ) → u32At (words k resultHeaderSize (resultMetadataAt k) (resultPlacesAt k) tail ++ tail) i ≡ v → u32At (resultBytes kept ++ rest) i ≡ v
+        = λ i v q. ap (λ (l : List ℕ). u32At l i) e ∙ q in
+    rw (
+      at 0 k (first-word k resultHeaderSize (resultMetadataAt k) (resultPlacesAt k) tail (omega arith)),
+      at 4 resultHeaderSize (second-word k resultHeaderSize (resultMetadataAt k) (resultPlacesAt k) tail (omega arith)),
+      at 8 (resultMetadataAt k) (third-word k resultHeaderSize (resultMetadataAt k) (resultPlacesAt k) tail (omega arith)),
+      at 12 (resultPlacesAt k) (fourth-word k resultHeaderSize (resultMetadataAt k) (resultPlacesAt k) tail (omega arith)),
+    )
+    (retained-back cases kept rest f)

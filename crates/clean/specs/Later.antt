@@ -10,32 +10,32 @@ use Rattle.words.specs.Bytes.{Bytes}
 use Rattle.words.specs.Le.{u32At}
 use Rattle.words.specs.Regions.{mid-long}
 use Rattle.unit.specs.Result.{Retained, resultBytes, resultPlacesAt}
-use Rattle.unit.specs.Size.{resultSize, maxInstructions}
+use Rattle.unit.specs.Size.{placeSize, resultSize, maxInstructions}
 use Rattle.effects.specs.Shape.{Sections}
 use Rattle.answer.specs.Answer.{sectionsOf}
 use Rattle.answer.specs.Clean.{cellsAfter, placedBy}
-use Rattle.answer.specs.Pass.{Outcome, unchanged, refused, rewritten, optimized}
+use Rattle.answer.specs.Pass.{Outcome, unchanged, refused, rewritten, optimized, outputAfter}
 use Rattle.optimize.specs.declared.Answer.{Answer}
 use Rattle.optimize.specs.declared.Answer.the-variants.{Unchanged, Refused, Rewritten}
-use Rattle.optimize.specs.Parts.{told, written, Tells, tells-unchanged, tells-same}
-use Rattle.clean.specs.Reading.{placeSize, placesIn, retainedIn, retainedAt, place-back}
-use Rattle.clean.specs.Fitting.{Again, placed-long}
+use Rattle.optimize.specs.Parts.{answerOf, Answers, answers-unchanged, answers-same}
+use Rattle.run.specs.Reading.{placesIn, retainedIn, retainedAt, place-back}
+use Rattle.run.specs.Fitting.{Again, placed-long}
 use Rattle.clean.specs.Placing.{composed, composed-places}
 use Rattle.clean.specs.Ready.{Ready, placedOutcome, laterOutcome, before-long, ready-places, ready-again, ready-old, pass-small, pass-worked, written-places, written-long, places-composed, casesIn}
 
 -- ---- an answer's outcome
 
-pub told-unchanged : (o : Outcome) → Unchanged ≡ told o → o ≡ unchanged
-unfolding told
-told-unchanged unchanged e = refl
-told-unchanged (refused k p) e = let z : _≡_ {A = ℕ} 0 1 = cc in absurd (omega arith)
-told-unchanged (rewritten kept) e = let z : _≡_ {A = ℕ} 0 1 = cc in absurd (omega arith)
+pub outcome-unchanged : (o : Outcome) → Unchanged ≡ answerOf o → o ≡ unchanged
+unfolding answerOf
+outcome-unchanged unchanged e = refl
+outcome-unchanged (refused k p) e = let z : _≡_ {A = ℕ} 0 1 = cc in absurd (omega arith)
+outcome-unchanged (rewritten kept) e = let z : _≡_ {A = ℕ} 0 1 = cc in absurd (omega arith)
 
-pub told-refused : (o : Outcome) (k p : ℕ) → Refused k p ≡ told o → o ≡ refused k p
-unfolding told
-told-refused unchanged k p e = let z : _≡_ {A = ℕ} 0 1 = cc in absurd (omega arith)
-told-refused (refused m q) k p e = cc
-told-refused (rewritten kept) k p e = let z : _≡_ {A = ℕ} 0 1 = cc in absurd (omega arith)
+pub outcome-refused : (o : Outcome) (k p : ℕ) → Refused k p ≡ answerOf o → o ≡ refused k p
+unfolding answerOf
+outcome-refused unchanged k p e = let z : _≡_ {A = ℕ} 0 1 = cc in absurd (omega arith)
+outcome-refused (refused m q) k p e = cc
+outcome-refused (rewritten kept) k p e = let z : _≡_ {A = ℕ} 0 1 = cc in absurd (omega arith)
 
 -- rewritten to k instructions
 pub record To (o : Outcome) (k : ℕ) : Type 0 where
@@ -43,11 +43,11 @@ pub record To (o : Outcome) (k : ℕ) : Type 0 where
   pub is : o ≡ rewritten kept
   pub long : length kept ≡ k
 
-pub told-rewritten : (o : Outcome) (k : ℕ) → Rewritten k ≡ told o → To o k
-unfolding told
-told-rewritten unchanged k e = let z : _≡_ {A = ℕ} 0 1 = cc in absurd (omega arith)
-told-rewritten (refused m q) k e = let z : _≡_ {A = ℕ} 0 1 = cc in absurd (omega arith)
-told-rewritten (rewritten kept) k e = record { kept = kept; is = refl; long = cc }
+pub outcome-rewritten : (o : Outcome) (k : ℕ) → Rewritten k ≡ answerOf o → To o k
+unfolding answerOf
+outcome-rewritten unchanged k e = let z : _≡_ {A = ℕ} 0 1 = cc in absurd (omega arith)
+outcome-rewritten (refused m q) k e = let z : _≡_ {A = ℕ} 0 1 = cc in absurd (omega arith)
+outcome-rewritten (rewritten kept) k e = record { kept = kept; is = refl; long = cc }
 
 -- ---- a later pass
 
@@ -96,29 +96,29 @@ module _ {u from : List ℕ} {k t work32 work64 : ℕ} (r : Ready u from k t wor
   abbrev o : Outcome
   o = optimized S (cellsAfter before)
 
-  pub small-tells : k < 2 → (to : List ℕ) → Tells (laterOutcome S before) Unchanged to to
+  pub small-answers : k < 2 → (to : List ℕ) → Answers (laterOutcome S before) Unchanged to to
   unfolding placedOutcome
-  small-tells h to = tells-unchanged (laterOutcome S before) to (ap (placedOutcome before) (pass-small r bu bf h))
+  small-answers h to = answers-unchanged (laterOutcome S before) to (ap (placedOutcome before) (pass-small r bu bf h))
 
-  module _ (h : 1 < k) (to to₁ : List ℕ) (a : Answer) (w : Tells o a to to₁) where
+  module _ (h : 1 < k) (to to₁ : List ℕ) (a : Answer) (w : Answers o a to to₁) where
     later-is : (q : Outcome) → o ≡ q → laterOutcome S before ≡ placedOutcome before q
     later-is q e = ap (placedOutcome before) (pass-worked r bu bf h ∙ e)
 
-    pub unchanged-tells : a ≡ Unchanged → Tells (laterOutcome S before) Unchanged to to₁
-    unfolding placedOutcome told written
-    unchanged-tells f =
-        let e = told-unchanged o (sym f ∙ w .0) in
-        tells-same (laterOutcome S before) unchanged Unchanged to to₁ (later-is unchanged e) (refl, w .1 ∙ ap (λ (q : Outcome). written q to) e)
+    pub unchanged-answers : a ≡ Unchanged → Answers (laterOutcome S before) Unchanged to to₁
+    unfolding placedOutcome answerOf outputAfter
+    unchanged-answers f =
+        let e = outcome-unchanged o (sym f ∙ w .0) in
+        answers-same (laterOutcome S before) unchanged Unchanged to to₁ (later-is unchanged e) (refl, w .1 ∙ ap (λ (q : Outcome). outputAfter q to) e)
 
-    pub refused-tells : (m p : ℕ) → a ≡ Refused m p → Tells (laterOutcome S before) (Refused m p) to to₁
-    unfolding placedOutcome told written
-    refused-tells m p f =
-        let e = told-refused o m p (sym f ∙ w .0) in
-        tells-same (laterOutcome S before) (refused m p) (Refused m p) to to₁ (later-is (refused m p) e) (refl, w .1 ∙ ap (λ (q : Outcome). written q to) e)
+    pub refused-answers : (m p : ℕ) → a ≡ Refused m p → Answers (laterOutcome S before) (Refused m p) to to₁
+    unfolding placedOutcome answerOf outputAfter
+    refused-answers m p f =
+        let e = outcome-refused o m p (sym f ∙ w .0) in
+        answers-same (laterOutcome S before) (refused m p) (Refused m p) to to₁ (later-is (refused m p) e) (refl, w .1 ∙ ap (λ (q : Outcome). outputAfter q to) e)
 
     module _ (j : ℕ) (f : a ≡ Rewritten j) where
       made : To o j
-      made = told-rewritten o j (sym f ∙ w .0)
+      made = outcome-rewritten o j (sym f ∙ w .0)
 
       abbrev kept : List Retained
       kept = made .kept
@@ -127,8 +127,8 @@ module _ {u from : List ℕ} {k t work32 work64 : ℕ} (r : Ready u from k t wor
       again = ready-again r bu bf h kept (made .is)
 
       put : to₁ ≡ putMid 0 (resultSize (length kept)) to (resultBytes kept)
-      unfolding written
-      put = w .1 ∙ ap (λ (q : Outcome). written q to) (made .is)
+      unfolding outputAfter
+      put = w .1 ∙ ap (λ (q : Outcome). outputAfter q to) (made .is)
 
       small : (p : ℕ) → p < length kept → retainedAt kept p .place < 2 ^ 32
       small p l = let a = again .places p l in let f = r .few in omega arith
@@ -144,10 +144,10 @@ module _ {u from : List ℕ} {k t work32 work64 : ℕ} (r : Ready u from k t wor
             places = λ p l. rw (written-places 0 kept to to₁ put, place-back kept p l (small p l)) (again .places p l);
           })
 
-      pub rewritten-tells : (to₂ : List ℕ) → to₂ ≡ putMid (resultPlacesAt j) (placeSize * j) to₁ (composed (placesIn k from) (placesIn j to₁) j)
-          → Tells (laterOutcome S before) (Rewritten j) to to₂
-      unfolding placedOutcome told written
-      rewritten-tells to₂ e =
+      pub rewritten-answers : (to₂ : List ℕ) → to₂ ≡ putMid (resultPlacesAt j) (placeSize * j) to₁ (composed (placesIn k from) (placesIn j to₁) j)
+          → Answers (laterOutcome S before) (Rewritten j) to to₂
+      unfolding placedOutcome answerOf outputAfter
+      rewritten-answers to₂ e =
           let places = composed-places before kept (ready-places r bu bf) (λ p l. rw (before-long k from) (again .places p l)) small in
-          tells-same (laterOutcome S before) (rewritten (placedBy before kept)) (Rewritten j) to to₂ (later-is (rewritten kept) (made .is))
+          answers-same (laterOutcome S before) (rewritten (placedBy before kept)) (Rewritten j) to to₂ (later-is (rewritten kept) (made .is))
           (rw (placed-long before kept, made .long), places-composed before kept to to₁ to₂ (placesIn k from) (ready-old r bu bf) put (rw (made .long) e) places)

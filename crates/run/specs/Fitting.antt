@@ -24,15 +24,15 @@ use Rattle.pc_map.specs.Relocate.{relocate, retainFrom}
 use Rattle.pc_map.specs.Relocated.{moved-metadata}
 use Rattle.answer.specs.Clean.{cellOf, cellsAfter, placedBy}
 use Rattle.answer.specs.Pass.{rewritten, isWorkedOn, optimized, keptPlaces}
 use Rattle.run.specs.Checked.{Well, numberable}
 use Rattle.run.specs.Jumps.{rounds-flags}
 use Rattle.run.specs.Numbered.{numberedFunction, Numberable, numbered-at, numbered-long}
 use Rattle.run.specs.Optimized.{useful-flags}
 use Rattle.run.specs.Passed.{some-code, few, optimized-kept, optimized-runs}
 use Rattle.run.specs.Program.{Function}
 use Rattle.run.specs.Relocated.{pick}
 use Rattle.run.specs.Returned.{resultFunction}
-use Rattle.clean.specs.Reading.{Sound, AllFit, retainedAt, noRetained}
+use Rattle.run.specs.Reading.{Sound, AllFit, retainedAt, noRetained}
 
 abbrev pub AllSound : ℕ → List Cell → Type 0
 AllSound cases cells = (p : ℕ) → p < length cells → Sound cases (cellAt cells p .metadata)
