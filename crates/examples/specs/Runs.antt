@@ -1,19 +1,20 @@
 -- Equal runs can be false: pairs of small functions of which they are refuted. One table, and one theorem for it.
 -- Assumes nothing.
 use mathlib.Core.Path.{_≡_, refl, sym, _∙_}
-use mathlib.Core.Bool.{Bool, true, false, cond, _&&_, _||_, not, true≢false}
+use mathlib.Core.Bool.{Bool, true, false, _&&_, _||_, not, true≢false, or-true}
 use mathlib.Core.List.{List, [], _∷_, map}
 use mathlib.Core.Option.{Option, none, some}
 use Prim.Native.Nat.{ℕ, zero, suc, _≤_}
 use native.Mathlib.Omega.{arith}
 use lib.Dec.{eqb}
 use lib.ListN.{length, replicate}
-use borrow.Author.Tests.{eq-eqb}
+use borrow.Author.Tests.{eq-eqb, eqb-true, eqb-false, not-true}
+use Rattle.words.specs.Truth.{left-true, right-true}
 use Rattle.instruction.specs.Opcode as op
 use Rattle.instruction.specs.Instruction.{plain, withImm32}
 use Rattle.unit.specs.Entry.{typeValue}
 use Rattle.effects.specs.Shape.{Cell, Sections, tablesOf}
-use Rattle.run.specs.System.{after, Same}
+use Rattle.run.specs.System.{System, after}
 use Rattle.run.specs.Machine.{Words, Event, Way, byReturn, byPanic, byReply, byCode, words, World, State, Program, step, wayOf, logOf, system, start, SameRuns}
 use Rattle.run.specs.Program.{Function, programOf}
 use Rattle.examples.specs.Computed.{runs}
@@ -81,4 +82,151 @@ isSeen l G zero = sameLists (seenAfter G zero) l
 isSeen l G (suc k) = sameLists (seenAfter G (suc k)) l || isSeen l G k
 
 is-seen : (l : List (List ℕ)) (G : Function) (k j : ℕ) → j ≤ k → seenAfter G j ≡ l → isSeen l G k ≡ true
-is-seen l G k j h e = ?
+unfolding isSeen
+is-seen l G zero j h e = let z : j ≡ 0 = omega arith in rw (← z, e) (same-lists l)
+is-seen l G (suc k) j h e = go (eqb j (suc k)) refl (is-seen l G k j)
+  where
+    go : (t : Bool) → eqb j (suc k) ≡ t → (j ≤ k → seenAfter G j ≡ l → isSeen l G k ≡ true) → (sameLists (seenAfter G (suc k)) l || isSeen l G k) ≡ true
+    go true q ih = let z : j ≡ suc k = eqb-true j (suc k) q in rw (← z, e, same-lists l)
+    go false q ih = let z = eqb-false j (suc k) q in rw (ih (omega arith) e) (or-true (sameLists (seenAfter G (suc k)) l))
+
+unfoldable pub hasEnded : Function → ℕ → Bool
+hasEnded F k = not (eqb (wayNumber (wayOf (programOf F world) (afterSteps F k))) 0)
+
+-- the given run has ended after k steps, and the returned one does not end so within k
+unfoldable pub differs : Function → Function → ℕ → Bool
+differs F G k = hasEnded F k && not (isSeen (seenAfter F k) G k)
+
+-- then their runs are not the same
+refuted : (F G : Function) (k : ℕ) → differs F G k ≡ true → SameRuns (programOf F) (programOf G) → ⊥
+unfolding differs hasEnded seenAfter afterSteps wayNumber
+refuted F G k d s = go (wayOf (programOf F world) (afterSteps F k)) refl
+  where
+    unseen : isSeen (seenAfter F k) G k ≡ false
+    unseen = not-true (isSeen (seenAfter F k) G k) (right-true (hasEnded F k) (not (isSeen (seenAfter F k) G k)) d)
+
+    go : (w : Option Way) → wayOf (programOf F world) (afterSteps F k) ≡ w → ⊥
+    go none e = let z : false ≡ true = rw e at (left-true (hasEnded F k) (not (isSeen (seenAfter F k) G k)) d) in true≢false (sym z)
+    go (some w) e =
+        let r = s .runs world zeros .ends k w e in
+        let same : seenAfter G (r .0) ≡ seenAfter F k = rw (r .2, r .3, e) in
+        true≢false (sym (is-seen (seenAfter F k) G k (r .0) (r .1) same) ∙ unseen)
+
+-- ---- the pairs
+
+-- a function of two slots of type Value
+abbrev pub functionOf : List Cell → Function
+functionOf cells =
+    record {
+      cells = cells;
+      described = length cells;
+      sections = record { locals = 2; types = replicate 2 typeValue; constants = []; tables = tablesOf [] [] [] };
+    }
+
+pub record Pair : Type 0 where
+  pub given : List Cell
+  pub returned : List Cell
+  -- the given run has ended then
+  pub steps : ℕ
+
+abbrev pair : List Cell → List Cell → ℕ → Pair
+pair F G k = record { given = F; returned = G; steps = k }
+
+abbrev hint : Cell
+hint = cell (plain op.Hint 0 0 0)
+
+-- an instruction that is outside: it records its number, b among it
+abbrev global : ℕ → Cell
+global b = three op.GlobalGet 0 b 0
+
+abbrev jumpToItself : Cell
+jumpToItself = cell (withImm32 (plain op.Jump 0 0 0) 0)
+
+-- another word returned
+abbrev anotherWord : Pair
+anotherWord = pair (loadInt 0 1 ∷ return 0 1 ∷ []) (loadInt 0 2 ∷ return 0 1 ∷ []) 2
+
+-- two outside instructions exchanged
+abbrev exchanged : Pair
+exchanged = pair (global 7 ∷ global 8 ∷ return 0 0 ∷ []) (global 8 ∷ global 7 ∷ return 0 0 ∷ []) 3
+
+-- an outside instruction more, and one less
+abbrev oneMore : Pair
+oneMore = pair (hint ∷ return 0 0 ∷ []) (global 7 ∷ return 0 0 ∷ []) 2
+
+abbrev oneLess : Pair
+oneLess = pair (global 7 ∷ return 0 0 ∷ []) (hint ∷ return 0 0 ∷ []) 2
+
+-- a step more than given
+abbrev slower : Pair
+slower = pair (return 0 0 ∷ []) (hint ∷ return 0 0 ∷ []) 1
+
+-- Return against Panic, and against the end of the code
+abbrev panicking : Pair
+panicking = pair (return 0 2 ∷ []) (three op.Panic 0 0 0 ∷ []) 1
+
+abbrev runningOut : Pair
+runningOut = pair (hint ∷ return 0 0 ∷ []) (hint ∷ []) 2
+
+-- an end against a silent endless loop
+abbrev looping : Pair
+looping = pair (return 0 0 ∷ []) (jumpToItself ∷ []) 1
+
+abbrev pub pairs : List Pair
+pairs = anotherWord ∷ exchanged ∷ oneMore ∷ oneLess ∷ slower ∷ panicking ∷ runningOut ∷ looping ∷ []
+
+unfoldable pub allDiffer : List Pair → Bool
+allDiffer [] = true
+allDiffer (p ∷ ps) = differs (functionOf (p .given)) (functionOf (p .returned)) (p .steps) && allDiffer ps
+
+unfoldable pub AllRefuted : List Pair → Type 0
+AllRefuted [] = Unit {0}
+AllRefuted (p ∷ ps) = (SameRuns (programOf (functionOf (p .given))) (programOf (functionOf (p .returned))) → ⊥) × AllRefuted ps
+
+all-refuted : (l : List Pair) → allDiffer l ≡ true → AllRefuted l
+unfolding allDiffer AllRefuted
+all-refuted [] e = tt
+all-refuted (p ∷ l) e =
+    let here = differs (functionOf (p .given)) (functionOf (p .returned)) (p .steps) in
+    (refuted (functionOf (p .given)) (functionOf (p .returned)) (p .steps) (left-true here (allDiffer l) e), all-refuted l (right-true here (allDiffer l) e))
+
+pairs-differ : allDiffer pairs ≡ true
+unfolding allDiffer differs hasEnded isSeen seenAfter afterSteps seen wayNumber eventNumbers sameLists sameNumbers runs
+pairs-differ = refl
+
+-- none of the pairs has the same runs
+pub different-runs : AllRefuted pairs
+different-runs = all-refuted pairs pairs-differ
+
+-- ---- a silent endless loop against an end: no number of steps tells, since the given run never ends
+
+abbrev endless : Function
+endless = functionOf (jumpToItself ∷ [])
+
+abbrev returning : Function
+returning = functionOf (return 0 0 ∷ [])
+
+-- a run that stands still
+stands : {R W : Type 0} (S : System R W) (x : S .State) → S .next x ≡ x → (k : ℕ) → after S k x ≡ x
+unfolding after
+stands S x e zero = refl
+stands S x e (suc k) = rw e (stands S x e k)
+
+loops : step world (programOf endless world) (start zeros) ≡ start zeros
+unfolding runs
+loops = refl
+
+goes-on : wayOf (programOf endless world) (start zeros) ≡ none
+unfolding runs
+goes-on = refl
+
+returns : wayOf (programOf returning world) (after (system world (programOf returning world)) 1 (start zeros)) ≡ some byReturn
+unfolding runs
+returns = refl
+
+pub endless-differs : SameRuns (programOf endless) (programOf returning) → ⊥
+endless-differs s =
+    let r = s .runs world zeros .ends⁻ 1 byReturn returns in
+    let still : wayOf (programOf endless world) (start zeros) ≡ some byReturn = rw (stands (system world (programOf endless world)) (start zeros) loops (r .0)) at (r .1) in
+    let z : _≡_ {A = ℕ} 0 1 = cc (goes-on) in
+    omega arith
