@@ -168,12 +168,19 @@ panicking = pair (return 0 2 ∷ []) (three op.Panic 0 0 0 ∷ []) 1
 abbrev runningOut : Pair
 runningOut = pair (hint ∷ return 0 0 ∷ []) (hint ∷ []) 2
 
+-- a step without a meaning ends the run as a reply does: an opcode that is Invalid, a slot at or past s
+abbrev invalid : Pair
+invalid = pair (three 200 0 0 0 ∷ []) (hint ∷ []) 1
+
+abbrev slotOutside : Pair
+slotOutside = pair (loadInt 2 1 ∷ []) (loadInt 1 1 ∷ []) 1
+
 -- an end against a silent endless loop
 abbrev looping : Pair
 looping = pair (return 0 0 ∷ []) (jumpToItself ∷ []) 1
 
 abbrev pub pairs : List Pair
-pairs = anotherWord ∷ exchanged ∷ oneMore ∷ oneLess ∷ slower ∷ panicking ∷ runningOut ∷ looping ∷ []
+pairs = anotherWord ∷ exchanged ∷ oneMore ∷ oneLess ∷ slower ∷ panicking ∷ runningOut ∷ invalid ∷ slotOutside ∷ looping ∷ []
 
 unfoldable pub allDiffer : List Pair → Bool
 allDiffer [] = true

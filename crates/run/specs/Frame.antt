@@ -1,4 +1,4 @@
--- What a step reads decides what it does.
+-- What a step reads decides what it does, and it alters no slot that it gives no word.
 -- Assumes nothing.
 use mathlib.Core.Path.{_≡_, refl, ap₂}
 use mathlib.Core.Logic.{_⊎_, inl, inr}
@@ -16,11 +16,16 @@ use Rattle.effects.specs.declared.Range.{Range}
 use Rattle.effects.specs.Shape.{Tables, Sections, Cell}
 use Rattle.effects.specs.Effects.{allReads, rangeHas, rangeWithin, allOf, anyOf}
 use Rattle.effects.specs.ByClass.{isOutside, readsByClass, writesByClass, reads-by-class}
-use Rattle.run.specs.Machine.{Words, World}
+use Rattle.run.specs.Machine.{Words, World, put}
 use Rattle.run.specs.Removal.{Agree, SameAct, silent=, ask=, stop=, fail=}
 use Rattle.run.specs.Program.{actBy, event, givenRanges, slotsOf, slotsFrom}
 use Rattle.run.specs.Gives.{given-by-class}
 use Rattle.words.specs.Truth.{left-true, right-true}
+
+-- "A step alters only the slots that it gives a word"
+pub put-other : (g : ℕ → Bool) (w σ : Words) (s : ℕ) → g s ≡ false → put g w σ s ≡ σ s
+unfolding put
+put-other g w σ s e = rw e
 
 pub data In (s : ℕ) : List ℕ → Type 0 where
   here : {l : List ℕ} → In s (s ∷ l)

@@ -217,8 +217,8 @@ module _ (F : Function) (cases : ℕ) where
       let G = resultFunction (F .sections) before in
       let worked = pass-worked (F .sections) (cellsAfter before) kept e in
       let sound : AllSound cases (cellsAfter before) = λ p h.
-          let l : p < length before = rw (length-map before cellOf) at h in
-          rw (List·getD-map cellOf before p noRetained) (r .fits p l .metadata) in
+      let l : p < length before = rw (length-map before cellOf) at h in
+      rw (List·getD-map cellOf before p noRetained) (r .fits p l .metadata) in
       let again : Again cases (length before) kept = rw (length-map before cellOf) at (optimized-again G (r .good .well) cases sound (worked .0) kept (worked .1)) in
       let fewer = again .few in
       let few = r .few in

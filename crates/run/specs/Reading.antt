@@ -179,7 +179,7 @@ result-back cases kept rest few f =
     let tail : List ℕ = codeBytes kept ++ (metadataBytesAll kept ++ (placeBytes kept ++ rest)) in
     let e : resultBytes kept ++ rest ≡ words k resultHeaderSize (resultMetadataAt k) (resultPlacesAt k) tail ++ tail = simp append-assoc in
     let at : (i v : ℕ) → u32At (words k resultHeaderSize (resultMetadataAt k) (resultPlacesAt k) tail ++ tail) i ≡ v → u32At (resultBytes kept ++ rest) i ≡ v
-        = λ i v q. ap (λ (l : List ℕ). u32At l i) e ∙ q in
+    = λ i v q. ap (λ (l : List ℕ). u32At l i) e ∙ q in
     rw (
       at 0 k (first-word k resultHeaderSize (resultMetadataAt k) (resultPlacesAt k) tail (omega arith)),
       at 4 resultHeaderSize (second-word k resultHeaderSize (resultMetadataAt k) (resultPlacesAt k) tail (omega arith)),
