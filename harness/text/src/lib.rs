@@ -37,6 +37,9 @@
 mod assemble;
 mod disassemble;
 mod names;
+mod opcode;
 
-pub use assemble::assemble;
-pub use disassemble::disassemble;
+pub use assemble::{assemble, Error};
+pub use disassemble::{disassemble, Lines};
+pub use names::{distance, is_loop_hint};
+pub use opcode::Opcode;
