@@ -16,10 +16,13 @@
 //! # }
 //! ```
 
+mod fate;
+mod flow;
 mod lengths;
 mod lent;
 pub mod sys;
 
+pub use fate::{fates, Fate};
 pub use lengths::needed;
 pub use lent::Lent;
 

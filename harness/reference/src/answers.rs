@@ -67,13 +67,7 @@ fn result(prepared: &Prepared, unit: &Unit) -> Rewritten {
                 assert_eq!(metadata(entry, &cases), *relocated);
             }
             Retained {
-                instruction: unit::Instruction {
-                    op: instruction.op,
-                    flags: instruction.flags,
-                    a: instruction.a,
-                    b: instruction.b,
-                    c: instruction.c,
-                },
+                instruction: instruction.into(),
                 metadata: entry,
                 old_place: source.frame,
             }
