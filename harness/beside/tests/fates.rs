@@ -1,7 +1,7 @@
 //! What became of each instruction is what the reference's own steps did to it.
 
 use generate::{every_opcode, named, small_world, SmallWorld};
-use lampruda::{fates, Fate};
+use lampruda::{cleaned_fates, fates, Fate, Workspace};
 use reference::Opcode;
 use std::collections::BTreeMap;
 use unit::{Answer, Rewritten, Unit};
@@ -76,4 +76,37 @@ fn fates_are_what_the_steps_did() {
     println!("{counts:?}");
     assert!(counts.units >= 20_000);
     assert_eq!(counts.fates.len(), 10, "every fate occurs");
+}
+
+/// The passes one by one end where the library's cleaning does, and say of each instruction whether it is left.
+#[test]
+fn passes_are_those_of_the_cleaning() {
+    let mut workspace = Workspace::default();
+    let mut last = [0; 3];
+    for index in 0..DRAWN {
+        let bytes = generate::survey(SEED, index).1;
+        let Some(unit) = Unit::check(&bytes) else { continue };
+        let cleaned = workspace.clean(&bytes);
+        let (answer, count) = (Answer::from(cleaned.answer), cleaned.passes);
+        let passes = workspace.passes(&unit, count);
+        assert_eq!(passes.len(), count as usize, "unit {index}");
+        let Answer::Rewritten { bytes } = answer else { continue };
+        let result = Rewritten::decode(&bytes).unwrap();
+        let (pass, made) =
+            passes.iter().filter_map(|pass| Some((pass, pass.result.as_ref()?))).last().unwrap();
+        let mut composed = made.clone();
+        composed
+            .retained
+            .iter_mut()
+            .for_each(|entry| entry.old_place = pass.origins[entry.old_place as usize]);
+        assert_eq!(composed, result, "unit {index}");
+        let mut left = result.retained.iter().map(|entry| entry.old_place).peekable();
+        for (place, (fate, pass)) in cleaned_fates(&unit, &result, &passes).into_iter().enumerate() {
+            let retained = left.next_if(|old| *old as usize == place).is_some();
+            assert_eq!((retained, retained), (!fate.is_removed(), pass == 0), "unit {index}, place {place}");
+        }
+        last[count as usize - 1] += 1;
+    }
+    println!("rewritten, by the number of the last pass run: {last:?}");
+    assert!(last[1] > 1_000 && last[2] > 1_000);
 }

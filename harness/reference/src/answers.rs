@@ -66,11 +66,7 @@ fn result(prepared: &Prepared, unit: &Unit) -> Rewritten {
             } else {
                 assert_eq!(metadata(entry, &cases), *relocated);
             }
-            Retained {
-                instruction: instruction.into(),
-                metadata: entry,
-                old_place: source.frame,
-            }
+            Retained { instruction: instruction.into(), metadata: entry, old_place: source.frame }
         })
         .collect();
     Rewritten { retained }

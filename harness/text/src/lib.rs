@@ -41,5 +41,5 @@ mod opcode;
 
 pub use assemble::{assemble, Error};
 pub use disassemble::{disassemble, Lines};
-pub use names::{distance, is_loop_hint};
+pub use names::{distance, is_loop_hint, TYPES};
 pub use opcode::Opcode;

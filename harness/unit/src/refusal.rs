@@ -43,8 +43,8 @@ impl Refusal {
             Self::TypeCount => "there is not one type for each local slot",
             Self::Invalid => "there is no such opcode",
             Self::Effect => {
-                "what it reads and writes cannot be told: the metadata is of another kind, a function or an \
-                 extern is missing, or slots past 65,535 are meant"
+                "what it reads and writes cannot be told: its metadata is of another kind, its function or \
+                 extern is missing, or it names slots past 65,535"
             }
             Self::Slot => "it reads or writes a slot that the function does not have",
             Self::Branch => "the branch leaves the function",
