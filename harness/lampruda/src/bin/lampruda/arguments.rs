@@ -1,7 +1,7 @@
 //! The words after a subcommand's name.
 
+use crate::commands::Command;
 use crate::input::Input;
-use crate::Command;
 use std::ffi::{OsStr, OsString};
 use std::path::Path;
 

@@ -1,44 +1,19 @@
-//! `lampruda`: the library as one command, for people who write laws. Each subcommand is a file.
+//! `lampruda`: the library as one command, for people who write laws.
 
 mod answered;
 mod arguments;
-mod assemble;
-mod clean;
+mod commands;
 mod console;
-mod disassemble;
 mod input;
-mod job;
 mod json;
-mod list;
-mod pass;
 mod refused;
 mod report;
 
 use arguments::Arguments;
+use commands::COMMANDS;
 use std::env;
 use std::ffi::OsString;
 use std::process::ExitCode;
-
-const COMMANDS: [&Command; 6] = [
-    &pass::COMMAND,
-    &clean::COMMAND,
-    &list::COMMAND,
-    &assemble::COMMAND,
-    &disassemble::COMMAND,
-    &job::COMMAND,
-];
-
-/// A subcommand.
-pub struct Command {
-    pub name: &'static str,
-    /// One line, for the list of commands.
-    pub summary: &'static str,
-    pub help: &'static str,
-    /// Options that stand alone, and those that a value follows.
-    pub flags: &'static [&'static str],
-    pub values: &'static [&'static str],
-    pub run: fn(Arguments) -> Result<Status, String>,
-}
 
 /// How a command ended that could do its work; what it could not read or did not understand is an `Err`, and
 /// ends with 2.
@@ -63,16 +38,18 @@ fn run(words: &[OsString]) -> Result<Status, String> {
         eprint!("{}", usage());
         return Ok(Status::Unreadable);
     };
-    let name = name.to_string_lossy();
-    let is_help = |word: &str| ["--help", "-h"].contains(&word);
-    if is_help(&name) || name == "--version" {
-        let text = if name == "--version" { version() } else { usage() };
-        return console::print(&text).map(|()| Status::Done);
+    let is_help = |word: &OsString| word == "--help" || word == "-h";
+    if name == "--version" {
+        return console::print(version()).map(|()| Status::Done);
     }
-    let command = COMMANDS.into_iter().find(|command| command.name == name);
-    let command = command.ok_or_else(|| format!("there is no command {name}; see lampruda --help"))?;
-    if rest.iter().any(|word| is_help(&word.to_string_lossy())) {
-        return console::print(command.help).map(|()| Status::Done);
+    if is_help(name) {
+        return console::print(usage()).map(|()| Status::Done);
+    }
+    let command = COMMANDS.into_iter().find(|command| name == command.name);
+    let unknown = || format!("there is no command {}; see lampruda --help", name.to_string_lossy());
+    let command = command.ok_or_else(unknown)?;
+    if rest.iter().any(is_help) {
+        return console::print(command.help.concat()).map(|()| Status::Done);
     }
     (command.run)(Arguments::parse(command, rest)?)
 }

@@ -8,12 +8,25 @@ use crate::json::Json;
 use crate::refused::Refused;
 use crate::Status;
 use lampruda::Workspace;
+use std::path::Path;
 use unit::buffers::WORKED_ON;
 use unit::{Answer, Instruction, Retained, Rewritten, Section, Unit};
+
+/// The options of both, for their help.
+pub const OPTIONS: &str = "  -o FILE   writes the result to FILE
+  --unit    lays the result out as a unit again, which can be passed or
+            disassembled; an unchanged unit is then written as it is
+  --json    prints the answer and the retained instructions as JSON; the
+            result goes to a file only
+";
 
 /// The result goes to a file or to standard output, the answer in words to standard error; with `--json` the
 /// answer goes to standard output, and the result to a file alone.
 pub fn run(arguments: &Arguments, clean: bool) -> Result<Status, String> {
+    let out = arguments.value("-o");
+    if arguments.has("--json") && out.is_some_and(|out| out == Path::new("-")) {
+        return Err(arguments.usage("--json is printed on standard output: the result needs a file"));
+    }
     let input = arguments.input()?;
     let mut workspace = Workspace::default();
     let answered = Answered::new(&mut workspace, &input.bytes, clean);
@@ -21,7 +34,6 @@ pub fn run(arguments: &Arguments, clean: bool) -> Result<Status, String> {
         let refused = Refused::new(&mut workspace, &input.bytes, &answered, number, place);
         return report_refused(&input.name, &refused, arguments.has("--json"));
     }
-    let out = arguments.value("-o");
     let result = match &answered.answer {
         Answer::Rewritten { bytes } if arguments.has("--unit") => {
             let parts = Unit::check(&input.bytes).zip(Rewritten::decode(bytes));
@@ -40,10 +52,11 @@ pub fn run(arguments: &Arguments, clean: bool) -> Result<Status, String> {
         console::print(Json::Object(fields).line())?;
     } else {
         eprintln!("{}: {}", input.name, words(Ink::err(), &input.bytes, &answered, clean));
-        if let Some(result) = result {
-            if !input::write(out, &result)? {
-                eprintln!("  The result is bytes: name a file with -o, or pipe it on.");
-            }
+        match result {
+            Some(result) if input::write(out, &result)? => {}
+            Some(_) => eprintln!("  The result is bytes: name a file with -o, or pipe it on."),
+            None if out.is_some() => eprintln!("  No result is written."),
+            None => {}
         }
     }
     Ok(Status::Done)

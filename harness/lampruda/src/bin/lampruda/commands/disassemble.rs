@@ -1,23 +1,24 @@
 //! `lampruda disassemble`: the text of a unit.
 
+use super::Command;
 use crate::answered::Answered;
 use crate::arguments::Arguments;
 use crate::console;
 use crate::refused::Refused;
 use crate::report::report_refused;
-use crate::{Command, Status};
+use crate::Status;
 use lampruda::Workspace;
 use unit::{Answer, Refusal, Unit};
 
 pub const COMMAND: Command = Command {
     name: "disassemble",
     summary: "the text of a unit",
-    help: "Prints the text of a unit; assemble makes the same unit of it again.
+    help: &["Prints the text of a unit; assemble makes the same unit of it again.
 
 usage: lampruda disassemble [UNIT]
 
 example: lampruda disassemble examples/law.unit
-",
+"],
     flags: &[],
     values: &[],
     run,

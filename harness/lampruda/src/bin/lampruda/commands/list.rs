@@ -1,12 +1,13 @@
 //! `lampruda list`: a unit before and after, side by side.
 
+use super::Command;
 use crate::answered::Answered;
 use crate::arguments::Arguments;
 use crate::console::{self, Colour, Ink};
 use crate::json::Json;
 use crate::refused::Refused;
 use crate::report::{self, report_refused};
-use crate::{Command, Status};
+use crate::Status;
 use lampruda::{cleaned_fates, Fate, Workspace};
 use std::collections::BTreeMap;
 use text::Lines;
@@ -15,7 +16,7 @@ use unit::{Answer, Parts, Rewritten, Unit};
 pub const COMMAND: Command = Command {
     name: "list",
     summary: "a unit before and after, side by side, and what became of what",
-    help: "Lists a unit before and after one pass, side by side, and says what became of
+    help: &["Lists a unit before and after one pass, side by side, and says what became of
 each instruction that was removed or replaced:
 
   unreachable       no run comes here
@@ -38,7 +39,7 @@ usage: lampruda list [--clean] [--json] [UNIT]
   --json    prints the rows as JSON
 
 example: lampruda list examples/law.unit
-",
+"],
     flags: &["--clean", "--json"],
     values: &[],
     run,

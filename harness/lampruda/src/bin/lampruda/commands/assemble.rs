@@ -1,9 +1,10 @@
 //! `lampruda assemble`: the unit of a text.
 
+use super::Command;
 use crate::arguments::Arguments;
 use crate::console::{Colour, Ink};
 use crate::input::{self, Input};
-use crate::{Command, Status};
+use crate::Status;
 use std::str;
 use text::Error;
 use unit::Unit;
@@ -11,15 +12,18 @@ use unit::Unit;
 pub const COMMAND: Command = Command {
     name: "assemble",
     summary: "the unit of a text",
-    help: "Makes the unit of a text. How a text is written is shown by the texts in
-examples/; disassemble gives the text of any unit.
+    help: &[
+        "Makes the unit of a text; disassemble gives the text of any unit.
 
 usage: lampruda assemble [-o FILE] [TEXT]
 
   -o FILE   writes the unit to FILE, and not to standard output
 
 example: lampruda assemble -o law.unit examples/law.lasm
+
 ",
+        text::FORMAT,
+    ],
     flags: &[],
     values: &["-o"],
     run,

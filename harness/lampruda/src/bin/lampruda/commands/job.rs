@@ -1,10 +1,11 @@
 //! `lampruda job`: cleans every unit of a folder, on all cores.
 
+use super::Command;
 use crate::arguments::Arguments;
 use crate::console::{self, Colour, Ink};
 use crate::input::{self, Input};
 use crate::json::Json;
-use crate::{Command, Status};
+use crate::Status;
 use lampruda::{Answer, Workspace};
 use std::collections::{BTreeMap, BTreeSet};
 use std::fs;
@@ -17,7 +18,7 @@ use unit::{Refusal, Rewritten, Section, Unit};
 pub const COMMAND: Command = Command {
     name: "job",
     summary: "cleans every unit of a folder, on all cores",
-    help: "Cleans every unit of a folder (files *.unit) on all cores. Says how many
+    help: &["Cleans every unit of a folder (files *.unit) on all cores. Says how many
 instructions there were and are, and which units were refused.
 
 usage: lampruda job [-o RESULTS] [--unit] [--json] FOLDER
@@ -30,7 +31,7 @@ usage: lampruda job [-o RESULTS] [--unit] [--json] FOLDER
 Exit status 1 says that a unit was refused, 2 that one could not be read.
 
 example: lampruda job -o target/cleaned --unit examples
-",
+"],
     flags: &["--unit", "--json"],
     values: &["-o"],
     run,
