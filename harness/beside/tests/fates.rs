@@ -93,7 +93,7 @@ fn passes_are_those_of_the_cleaning() {
         let Answer::Rewritten { bytes } = answer else { continue };
         let result = Rewritten::decode(&bytes).unwrap();
         let (pass, made) =
-            passes.iter().filter_map(|pass| Some((pass, pass.result.as_ref()?))).last().unwrap();
+            passes.iter().filter_map(|pass| Some((pass, pass.result.as_ref()?))).next_back().unwrap();
         let mut composed = made.clone();
         composed
             .retained

@@ -2,7 +2,7 @@
 //! far as they tell unreachable code from dead stores.
 
 use std::collections::HashMap;
-use text::{distance, is_loop_hint, Opcode};
+use text::{is_loop_hint, Opcode};
 use unit::{Constant, Instruction, Parts};
 use unit::{CONSTANT_BOOL, CONSTANT_FLOAT, CONSTANT_INT, CONSTANT_NIL, TYPE_FLOAT, TYPE_VALUE};
 
@@ -25,9 +25,9 @@ fn opcode(instruction: &Instruction) -> Option<Opcode> {
     Opcode::from_u8(instruction.op)
 }
 
-/// A branch's target.
+/// A branch's target, which refusal 8 keeps inside the function.
 fn target(place: usize, instruction: &Instruction) -> Option<usize> {
-    usize::try_from(place as i64 + distance(instruction)?).ok()
+    usize::try_from(text::target(place, instruction)?).ok()
 }
 
 /// "A block starts at place 0, at each branch target, and after each Jump, JumpIf, JumpIfNot, ForLoop, Return

@@ -1,6 +1,6 @@
 //! From units to text.
 
-use crate::names::{self, distance, is_loop_hint, Form, CASES, CONSTANTS, TYPES};
+use crate::names::{self, distance, is_loop_hint, target, Form, CASES, CONSTANTS, TYPES};
 use crate::opcode::Opcode;
 use std::collections::BTreeSet;
 use std::fmt::Write;
@@ -122,7 +122,7 @@ impl<'p> Lines<'p> {
     pub fn new(parts: &'p Parts) -> Self {
         let mut labels = BTreeSet::new();
         for (place, instruction) in parts.code.iter().enumerate() {
-            labels.extend(distance(instruction).map(|distance| place as i64 + distance));
+            labels.extend(target(place, instruction));
             if is_loop_hint(instruction) {
                 labels.insert(instruction.imm32().into());
                 let ends = parts.metadata.get(place).filter(|entry| entry.is(Kind::LoopEnd));

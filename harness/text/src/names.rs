@@ -68,6 +68,11 @@ pub fn is_loop_hint(instruction: &Instruction) -> bool {
     instruction.op == Opcode::Hint as u8 && instruction.flags == LOOP_FLAGS
 }
 
+/// The place that a branch leads to, which may lie outside the function.
+pub fn target(place: usize, instruction: &Instruction) -> Option<i64> {
+    Some(place as i64 + distance(instruction)?)
+}
+
 /// How far a branch goes from its own place.
 pub fn distance(instruction: &Instruction) -> Option<i64> {
     match form(instruction.op) {

@@ -2,10 +2,10 @@
 
 use crate::answered::Answered;
 use crate::json::Json;
-use lampruda::Workspace;
+use lampruda::{Pass, Workspace};
 use std::str;
-use text::{distance, Lines};
-use unit::{Instruction, Kind, Parts, Refusal, Unit};
+use text::{target, Lines};
+use unit::{Answer, Kind, Parts, Refusal, Unit};
 
 /// A refusal: number and place, what it means, and the instruction at that place.
 pub struct Refused {
@@ -21,35 +21,38 @@ pub struct Refused {
 }
 
 impl Refused {
-    pub fn new(
-        workspace: &mut Workspace,
-        bytes: &[u8],
-        answered: &Answered,
-        number: u32,
-        place: u32,
-    ) -> Self {
+    /// `None` for other answers.
+    pub fn new(workspace: &mut Workspace, bytes: &[u8], answered: &Answered) -> Option<Self> {
+        let &Answered { answer: Answer::Refused { number, place }, passes: pass } = answered else {
+            return None;
+        };
         let refusal = Refusal::from_number(number);
         let meaning = refusal.map_or("", Refusal::meaning);
-        let pass = answered.passes;
         let mut refused =
             Self { number, place, pass, meaning, detail: None, instruction: None, given_place: None };
-        let unit = match Unit::parse(bytes) {
-            Ok(unit) => unit,
-            Err(fault) => {
-                return Self { detail: Some(if is_text(bytes) { IS_TEXT.into() } else { fault }), ..refused }
-            }
-        };
-        let passes = workspace.passes(&unit, pass);
-        let Some(last) = passes.last() else { return refused };
-        if let (Some(refusal), Some(unit)) = (refusal, Unit::check(&last.unit)) {
-            let parts = Parts::decode(&unit);
-            refused.detail = detail(refusal, place as usize, &parts);
-            if refusal.has_place() {
-                refused.instruction = Some(Lines::new(&parts).instruction(place as usize));
-                refused.given_place = last.origins.get(place as usize).copied().filter(|_| pass > 1);
+        match Unit::parse(bytes) {
+            Err(_) if is_text(bytes) => refused.detail = Some(IS_TEXT.into()),
+            Err(fault) => refused.detail = Some(fault),
+            Ok(unit) => {
+                let passes = workspace.passes(&unit, pass);
+                if let (Some(refusal), Some(last)) = (refusal, passes.last()) {
+                    refused.explain(refusal, last);
+                }
             }
         }
-        refused
+        Some(refused)
+    }
+
+    /// What the refusal is about, in the unit of the pass that refused.
+    fn explain(&mut self, refusal: Refusal, pass: &Pass) {
+        let Some(unit) = Unit::check(&pass.unit) else { return };
+        let parts = Parts::decode(&unit);
+        let place = self.place as usize;
+        self.detail = detail(refusal, place, &parts);
+        if refusal.has_place() && place < parts.code.len() {
+            self.instruction = Some(Lines::new(&parts).instruction(place));
+            self.given_place = pass.origins.get(place).copied().filter(|_| self.pass > 1);
+        }
     }
 
     /// One line: number, place and pass.
@@ -105,7 +108,6 @@ fn indented(text: &str) -> String {
     lines + &format!("{line}\n")
 }
 
-/// What the refusal is about, in a unit.
 fn detail(refusal: Refusal, place: usize, parts: &Parts) -> Option<String> {
     let n = parts.code.len();
     let instruction = parts.code.get(place).copied().unwrap_or_default();
@@ -119,18 +121,14 @@ fn detail(refusal: Refusal, place: usize, parts: &Parts) -> Option<String> {
         Refusal::TypeCount => format!("types: {}, local slots: {}", parts.types.len(), parts.local_slots),
         Refusal::Invalid => format!("its byte is {}", instruction.op),
         Refusal::Slot => format!("local slots, counted from 0: {}", parts.local_slots),
-        Refusal::Branch => format!("it leads to place {}, {last}", target(place, &instruction)),
+        Refusal::Branch => format!("it leads to place {}, {last}", target(place, &instruction)?),
         Refusal::LoopHint if metadata.is(Kind::LoopEnd) => {
             format!("its end is place {}, {last}", metadata.end_pc)
         }
         Refusal::LoopHint => "its metadata is not LoopEnd".into(),
         Refusal::LoopMoved if instruction.imm32() as usize > n => {
-            format!("its exit is place {}, {last}", instruction.imm32())
+            format!("its exit is place {}, the function's end is {n}", instruction.imm32())
         }
         Refusal::LoopMoved => format!("its end, place {}, is removed by this pass", metadata.end_pc),
     })
-}
-
-fn target(place: usize, instruction: &Instruction) -> i64 {
-    place as i64 + distance(instruction).unwrap_or_default()
 }

@@ -30,8 +30,7 @@ pub fn run(arguments: &Arguments, clean: bool) -> Result<Status, String> {
     let input = arguments.input()?;
     let mut workspace = Workspace::default();
     let answered = Answered::new(&mut workspace, &input.bytes, clean);
-    if let Answer::Refused { number, place } = answered.answer {
-        let refused = Refused::new(&mut workspace, &input.bytes, &answered, number, place);
+    if let Some(refused) = Refused::new(&mut workspace, &input.bytes, &answered) {
         return report_refused(&input.name, &refused, arguments.has("--json"));
     }
     let result = match &answered.answer {

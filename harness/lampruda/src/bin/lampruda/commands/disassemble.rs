@@ -8,7 +8,7 @@ use crate::refused::Refused;
 use crate::report::report_refused;
 use crate::Status;
 use lampruda::Workspace;
-use unit::{Answer, Refusal, Unit};
+use unit::{Answer, Unit};
 
 pub const COMMAND: Command = Command {
     name: "disassemble",
@@ -26,13 +26,10 @@ example: lampruda disassemble examples/law.unit
 
 fn run(arguments: Arguments) -> Result<Status, String> {
     let input = arguments.input()?;
-    match Unit::check(&input.bytes) {
-        Some(unit) => console::print(text::disassemble(&unit)).map(|()| Status::Done),
-        None => {
-            let answered = Answered { answer: Answer::NO_UNIT, passes: 1 };
-            let number = Refusal::NoUnit as u32;
-            let refused = Refused::new(&mut Workspace::default(), &input.bytes, &answered, number, 0);
-            report_refused(&input.name, &refused, false)
-        }
+    if let Some(unit) = Unit::check(&input.bytes) {
+        return console::print(text::disassemble(&unit)).map(|()| Status::Done);
     }
+    let no_unit = Answered { answer: Answer::NO_UNIT, passes: 1 };
+    let refused = Refused::new(&mut Workspace::default(), &input.bytes, &no_unit);
+    refused.map_or(Ok(Status::Refused), |refused| report_refused(&input.name, &refused, false))
 }

@@ -60,14 +60,10 @@ fn run(arguments: Arguments) -> Result<Status, String> {
     let clean = arguments.has("--clean");
     let mut workspace = Workspace::default();
     let answered = Answered::new(&mut workspace, &input.bytes, clean);
-    let unit = match (&answered.answer, Unit::check(&input.bytes)) {
-        (Answer::Refused { number, place }, _) => {
-            let refused = Refused::new(&mut workspace, &input.bytes, &answered, *number, *place);
-            return report_refused(&input.name, &refused, arguments.has("--json"));
-        }
-        (_, Some(unit)) => unit,
-        (_, None) => return Err(format!("{}: no unit", input.name)),
-    };
+    if let Some(refused) = Refused::new(&mut workspace, &input.bytes, &answered) {
+        return report_refused(&input.name, &refused, arguments.has("--json"));
+    }
+    let unit = Unit::parse(&input.bytes)?;
     let rows = rows(&mut workspace, &unit, &answered, clean);
     let text = if arguments.has("--json") {
         json(&input.name, &answered, rows).line()
