@@ -62,3 +62,15 @@ pub fn show(progress: &str, last: bool) {
         let _ = write!(terminal, "\r{progress}{end}");
     }
 }
+
+#[cfg(test)]
+mod tests {
+    use super::{Colour, Ink};
+
+    #[test]
+    fn colour_is_for_terminals() {
+        assert_eq!(Ink(true).paint(Colour::Red, "refused"), "\x1b[31mrefused\x1b[0m");
+        assert_eq!(Ink(false).paint(Colour::Red, "refused"), "refused");
+        assert!(!Ink::on(false).0);
+    }
+}
