@@ -45,6 +45,9 @@ example: lampruda list examples/law.unit
     run,
 };
 
+/// A terminal's width.
+const COLUMNS: usize = 80;
+
 /// An instruction of the given unit, and what became of it.
 struct Row {
     old: usize,
@@ -105,32 +108,45 @@ fn rows(workspace: &mut Workspace, unit: &Unit, answered: &Answered, clean: bool
     fates.into_iter().enumerate().map(row).collect()
 }
 
-fn table(ink: Ink, rows: &[Row]) -> String {
-    let places = rows.len().saturating_sub(1).to_string().len().max("old".len());
-    let widest = |texts: &mut dyn Iterator<Item = &String>| texts.map(|text| text.len()).max().unwrap_or(0);
-    let before = widest(&mut rows.iter().map(|row| &row.before)).max("before".len());
-    let after = widest(&mut rows.iter().filter_map(|row| Some(&row.after.as_ref()?.1))).max("after".len());
-    let last = if rows.iter().any(|row| row.fate != Fate::Kept) { "what became of it" } else { "" };
-    let head =
-        format!("{:>places$}  {:before$}  {:>places$}  {:after$}  {last}", "old", "before", "new", "after");
-    let mut table = format!("{}\n", ink.paint(Colour::Dim, head.trim_end()));
-    for row in rows {
-        let (new, text) = match &row.after {
-            Some((new, text)) => (new.to_string(), text.as_str()),
-            None => Default::default(),
-        };
-        let fate = match (row.fate, row.pass) {
+impl Row {
+    fn after(&self) -> (String, &str) {
+        self.after.as_ref().map(|(new, text)| (new.to_string(), text.as_str())).unwrap_or_default()
+    }
+
+    /// What the last column says: nothing where it was kept.
+    fn word(&self) -> String {
+        match (self.fate, self.pass) {
             (Fate::Kept, _) => String::new(),
             (fate, Some(pass)) => format!("{fate}, pass {pass}"),
             (fate, None) => fate.to_string(),
-        };
-        let line =
-            format!("{:>places$}  {:before$}  {new:>places$}  {text:after$}  {fate}", row.old, row.before);
-        let line = line.trim_end();
+        }
+    }
+}
+
+fn table(ink: Ink, rows: &[Row]) -> String {
+    let widest = |width: &dyn Fn(&Row) -> usize| rows.iter().map(width).max().unwrap_or(0);
+    let places = widest(&|row| row.old.to_string().len()).max("old".len());
+    let before = widest(&|row| row.before.len()).max("before".len());
+    let last = if rows.iter().any(|row| row.fate != Fate::Kept) { "what became of it" } else { "" };
+    let words = widest(&|row| row.word().len()).max(last.len());
+    let mut after = widest(&|row| row.after().1.len()).max("after".len());
+    if 2 * places + before + after + words + 8 > COLUMNS {
+        // Where nothing follows, what is after may go past its column.
+        after =
+            widest(&|row| if row.fate == Fate::Kept { 0 } else { row.after().1.len() }).max("after".len());
+    }
+    let line = |old: &str, given: &str, new: &str, text: &str, word: &str| {
+        let line = format!("{old:>places$}  {given:before$}  {new:>places$}  {text:after$}  {word}");
+        line.trim_end().to_string()
+    };
+    let mut table = ink.paint(Colour::Dim, &line("old", "before", "new", "after", last)) + "\n";
+    for row in rows {
+        let (new, text) = row.after();
+        let line = line(&row.old.to_string(), &row.before, &new, text, &row.word());
         table += &match row.fate {
-            Fate::Kept => line.to_string(),
-            fate if fate.is_removed() => ink.paint(Colour::Red, line),
-            _ => ink.paint(Colour::Yellow, line),
+            Fate::Kept => line,
+            fate if fate.is_removed() => ink.paint(Colour::Red, &line),
+            _ => ink.paint(Colour::Yellow, &line),
         };
         table.push('\n');
     }
