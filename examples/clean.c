@@ -2,8 +2,9 @@
  * Cleans the unit in a file: `clean law.unit` prints the answer and the number of the last pass run, and for a
  * rewritten function a line for each retained instruction: new place, old place, op, flags, a, b, c.
  *
- *     rt staticlib host
- *     cc -O2 -Iinclude examples/clean.c target/staticlib/libhost.a -o target/clean
+ *     tools/install target/installed
+ *     export PKG_CONFIG_PATH=target/installed/lib/pkgconfig
+ *     cc -O2 examples/clean.c $(pkg-config --cflags --libs lampruda) -o target/clean
  *     target/clean examples/law.unit
  *
  * It ends with 0 for unchanged and rewritten, 1 for refused, 2 where it could not call the library.

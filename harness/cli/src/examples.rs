@@ -1,4 +1,4 @@
-//! `harness assemble`, `disassemble`, and `harness examples`: units and listings of the example texts.
+//! `harness examples`: units and listings of the example texts.
 
 use crate::listing::listing_of;
 use std::fs;
@@ -18,19 +18,7 @@ fn write(file: &Path, bytes: &[u8]) -> Result<(), String> {
 /// The unit of a text file.
 fn unit_of(file: &Path) -> Result<Vec<u8>, String> {
     let text = String::from_utf8(read(file)?).map_err(|_| format!("{}: no text", file.display()))?;
-    text::assemble(&text).map_err(|message| format!("{}: {message}", file.display()))
-}
-
-pub fn assemble(options: &[&str]) -> Result<(), String> {
-    let [file, out] = options else { return Err(crate::USAGE.into()) };
-    write(Path::new(out), &unit_of(Path::new(file))?)
-}
-
-pub fn disassemble(options: &[&str]) -> Result<(), String> {
-    let [file] = options else { return Err(crate::USAGE.into()) };
-    let text = text::disassemble(&read(Path::new(file))?).ok_or(format!("{file}: no unit"))?;
-    print!("{text}");
-    Ok(())
+    text::assemble(&text).map_err(|error| format!("{}:{error}", file.display()))
 }
 
 /// Makes the unit, the listing and the cleaned listing of each text in the folder, or says which of them is

@@ -9,8 +9,6 @@ use std::process::ExitCode;
 
 const USAGE: &str = "usage: harness survey [--seed S] [--count N]
        harness record [--out FILE | --check]
-       harness assemble TEXT UNIT
-       harness disassemble UNIT
        harness listing UNIT
        harness listings PROGRAM COUNT
        harness examples [--check]";
@@ -21,8 +19,6 @@ fn main() -> ExitCode {
     let done = match words.split_first() {
         Some((&"survey", options)) => survey::run(options),
         Some((&"record", options)) => record::run(options),
-        Some((&"assemble", options)) => examples::assemble(options),
-        Some((&"disassemble", options)) => examples::disassemble(options),
         Some((&"listing", options)) => listing::run(options),
         Some((&"listings", options)) => listing::compare(options),
         Some((&"examples", options)) => examples::run(options),

@@ -16,12 +16,17 @@
 //! # }
 //! ```
 
+mod fate;
+mod flow;
 mod lengths;
 mod lent;
+mod passes;
 pub mod sys;
 
+pub use fate::{fates, Fate};
 pub use lengths::needed;
 pub use lent::Lent;
+pub use passes::{cleaned_fates, Pass};
 
 use unit::Lengths;
 

@@ -66,17 +66,7 @@ fn result(prepared: &Prepared, unit: &Unit) -> Rewritten {
             } else {
                 assert_eq!(metadata(entry, &cases), *relocated);
             }
-            Retained {
-                instruction: unit::Instruction {
-                    op: instruction.op,
-                    flags: instruction.flags,
-                    a: instruction.a,
-                    b: instruction.b,
-                    c: instruction.c,
-                },
-                metadata: entry,
-                old_place: source.frame,
-            }
+            Retained { instruction: instruction.into(), metadata: entry, old_place: source.frame }
         })
         .collect();
     Rewritten { retained }

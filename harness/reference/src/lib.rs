@@ -12,6 +12,7 @@ mod bytecode;
 mod debug_info;
 mod loop_hint;
 mod prepared;
+mod stages;
 mod types;
 
 include!(concat!(env!("OUT_DIR"), "/modules.rs"));
@@ -23,3 +24,4 @@ use types::SlotType;
 pub use answers::{clean, pass};
 pub use instruction::Opcode;
 pub use prepared::Prepared;
+pub use stages::Stages;

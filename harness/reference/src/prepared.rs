@@ -6,6 +6,7 @@ use crate::bytecode::{
 };
 use crate::debug_info::{DebugInfo, InlineFunctionSources, InlineSourceEntry};
 use crate::instruction::Instruction;
+use crate::stages::Stages;
 use crate::types::SlotType;
 use unit::{Case, Kind, Metadata, Unit};
 
@@ -47,6 +48,11 @@ impl Prepared {
     /// One pass of the reference: whether it rewrote the function, or the text of its refusal.
     pub fn optimize_function(&mut self) -> Result<bool, String> {
         self.module.optimize_function()
+    }
+
+    /// The steps of a pass that rewrites the function.
+    pub fn stages(&self) -> Result<Stages, String> {
+        self.module.stages()
     }
 
     /// From here on the Rust's relocation carries the old places: one entry for each instruction.

@@ -1,94 +1,172 @@
 //! From text to units.
 
-use crate::names::{self, Form, CASES, CONSTANTS, LOOP_FLAGS, TYPES};
-use reference::Opcode;
+use crate::names::{self, Form, CASES, CONSTANTS, TYPES};
 use std::collections::HashMap;
+use std::fmt;
 use unit::{Case, Constant, Function, Instruction, Kind, Metadata, Parts};
 use unit::{CONSTANT_BOOL, CONSTANT_FLOAT, CONSTANT_INT, TYPE_VALUE};
 
-/// The unit that a text stands for, or what is wrong with its first bad line.
-pub fn assemble(text: &str) -> Result<Vec<u8>, String> {
+/// What is wrong with a text, and where: line and column, both from 1.
+#[derive(Clone, Debug, Eq, PartialEq)]
+pub struct Error {
+    pub line: usize,
+    pub column: usize,
+    pub message: String,
+}
+
+impl fmt::Display for Error {
+    fn fmt(&self, f: &mut fmt::Formatter) -> fmt::Result {
+        write!(f, "{}:{}: {}", self.line, self.column, self.message)
+    }
+}
+
+/// The unit that a text stands for, or the first thing that is wrong with it.
+pub fn assemble(text: &str) -> Result<Vec<u8>, Error> {
     let mut statements = Vec::new();
     let mut labels = HashMap::new();
     let mut place = 0;
     for (index, line) in text.lines().enumerate() {
-        let words = line.split(';').next().unwrap_or("").split(|c: char| c == ',' || c.is_whitespace());
-        let mut words = words.filter(|word| !word.is_empty()).peekable();
-        let at = |message: String| format!("line {}: {message}", index + 1);
-        while let Some(label) = words.peek().and_then(|word| word.strip_suffix(':')) {
+        let mut words = words(index + 1, line).peekable();
+        while let Some((word, label)) = words.peek().and_then(|word| word.label()) {
             if labels.insert(label, place).is_some() {
-                return Err(at(format!("{label} is a label already")));
+                return Err(word.wrong(format!("{label} is a label already")));
             }
             words.next();
         }
         if let Some(head) = words.next() {
-            statements.push((index + 1, Statement::new(head, words).map_err(at)?));
-            place += i64::from(!head.starts_with('.'));
+            statements.push(Statement::new(head, words)?);
+            place += i64::from(!head.text.starts_with('.'));
         }
     }
     let mut assembler = Assembler { labels, ..Assembler::default() };
-    for (line, statement) in statements {
-        assembler.take(statement).map_err(|message| format!("line {line}: {message}"))?;
+    for statement in statements {
+        assembler.take(statement)?;
     }
-    Ok(assembler.finish().encode())
+    assembler.finish().map(|parts| parts.encode())
+}
+
+/// A word of the text and where it stands.
+#[derive(Clone, Copy)]
+struct Word<'t> {
+    text: &'t str,
+    line: usize,
+    column: usize,
+}
+
+/// A line's words. "A `;` starts a comment, and a comma counts as a space."
+fn words(line: usize, text: &str) -> impl Iterator<Item = Word<'_>> {
+    let code = text.split(';').next().unwrap_or_default();
+    let mut next = 1;
+    code.split(|c: char| c == ',' || c.is_whitespace()).filter_map(move |text| {
+        let word = Word { text, line, column: next };
+        next += text.chars().count() + 1;
+        (!text.is_empty()).then_some(word)
+    })
+}
+
+impl<'t> Word<'t> {
+    fn wrong(&self, message: impl Into<String>) -> Error {
+        Error { line: self.line, column: self.column, message: message.into() }
+    }
+
+    /// `NAME:`
+    fn label(self) -> Option<(Self, &'t str)> {
+        Some((self, self.text.strip_suffix(':')?))
+    }
+
+    /// The two parts of `NAME=VALUE`.
+    fn attribute(self) -> Option<(Self, Self)> {
+        let (name, value) = self.text.split_once('=')?;
+        let column = self.column + name.chars().count() + 1;
+        Some((Self { text: name, ..self }, Self { text: value, column, ..self }))
+    }
+
+    /// A decimal or hexadecimal number that fits.
+    fn number<T: TryFrom<i128>>(&self) -> Result<T, Error> {
+        self.number_of(self.text)
+    }
+
+    /// The number in a part of the word.
+    fn number_of<T: TryFrom<i128>>(&self, text: &str) -> Result<T, Error> {
+        let parsed = match text.strip_prefix("0x") {
+            Some(digits) => i128::from_str_radix(digits, 16),
+            None => text.parse(),
+        };
+        let number = parsed.map_err(|_| self.wrong(format!("{text} is no number")))?;
+        T::try_from(number).map_err(|_| self.wrong(format!("{text} is out of range")))
+    }
+
+    fn one_of(&self, names: &[&str]) -> Result<u8, Error> {
+        self.one_of_part(self.text, names)
+    }
+
+    fn one_of_part(&self, text: &str, names: &[&str]) -> Result<u8, Error> {
+        let found = names.iter().position(|known| *known == text);
+        let wrong = || self.wrong(format!("{text} is none of {}", names.join(", ")));
+        found.map(|number| number as u8).ok_or_else(wrong)
+    }
+
+    fn kind(&self) -> Result<Kind, Error> {
+        names::kind(self.text).ok_or_else(|| self.wrong(format!("{} is no kind of metadata", self.text)))
+    }
 }
 
 /// A line: its head, its operands and its `NAME=VALUE` words.
 struct Statement<'t> {
-    head: &'t str,
-    operands: Vec<&'t str>,
-    attributes: HashMap<&'t str, &'t str>,
+    head: Word<'t>,
+    operands: Vec<Word<'t>>,
+    attributes: Vec<(Word<'t>, Word<'t>)>,
 }
 
 impl<'t> Statement<'t> {
-    fn new(head: &'t str, words: impl Iterator<Item = &'t str>) -> Result<Self, String> {
-        let mut statement = Self { head, operands: Vec::new(), attributes: HashMap::new() };
+    fn new(head: Word<'t>, words: impl Iterator<Item = Word<'t>>) -> Result<Self, Error> {
+        let mut statement = Self { head, operands: Vec::new(), attributes: Vec::new() };
         for word in words {
-            match word.split_once('=') {
+            match word.attribute() {
                 None => statement.operands.push(word),
-                Some((name, value)) => {
-                    if statement.attributes.insert(name, value).is_some() {
-                        return Err(format!("{name} is given twice"));
-                    }
+                Some((name, _)) if statement.has(name.text) => {
+                    return Err(name.wrong(format!("{} is given twice", name.text)));
                 }
+                Some(attribute) => statement.attributes.push(attribute),
             }
         }
         Ok(statement)
     }
 
-    /// Takes the operands, which are as many.
-    fn operands<const N: usize>(&self) -> Result<[&'t str; N], String> {
+    /// The operands, which are as many.
+    fn operands<const N: usize>(&self) -> Result<[Word<'t>; N], Error> {
         let given = self.operands.as_slice();
-        given.try_into().map_err(|_| format!("{} has {N} operands, not {}", self.head, given.len()))
+        let wrong = |_| self.head.wrong(format!("{} has {N} operands, not {}", self.head.text, given.len()));
+        given.try_into().map_err(wrong)
+    }
+
+    fn has(&self, name: &str) -> bool {
+        self.attributes.iter().any(|(given, _)| given.text == name)
+    }
+
+    /// Takes an attribute's value.
+    fn take(&mut self, name: &str) -> Option<Word<'t>> {
+        let at = self.attributes.iter().position(|(given, _)| given.text == name)?;
+        Some(self.attributes.remove(at).1)
     }
 
     /// Takes an attribute's number, 0 where there is none.
-    fn attribute<T: TryFrom<i128> + Default>(&mut self, name: &str) -> Result<T, String> {
-        self.attributes.remove(name).map_or(Ok(T::default()), number)
+    fn number<T: TryFrom<i128> + Default>(&mut self, name: &str) -> Result<T, Error> {
+        self.take(name).map_or(Ok(T::default()), |value| value.number())
+    }
+
+    /// Takes `ok=`, which is 0 or 1.
+    fn ok(&mut self) -> Result<u8, Error> {
+        self.take("ok").map_or(Ok(0), |value| value.one_of(&["0", "1"]))
     }
 
     /// Each attribute has to have been taken.
-    fn done(self) -> Result<(), String> {
-        match self.attributes.keys().next() {
-            Some(name) => Err(format!("{} has no {name}=", self.head)),
+    fn done(self) -> Result<(), Error> {
+        match self.attributes.first() {
+            Some((name, _)) => Err(name.wrong(format!("{} has no {}=", self.head.text, name.text))),
             None => Ok(()),
         }
     }
-}
-
-/// A decimal or hexadecimal number that fits.
-fn number<T: TryFrom<i128>>(text: &str) -> Result<T, String> {
-    let parsed = match text.strip_prefix("0x") {
-        Some(digits) => i128::from_str_radix(digits, 16),
-        None => text.parse(),
-    };
-    let number = parsed.map_err(|_| format!("{text} is no number"))?;
-    T::try_from(number).map_err(|_| format!("{text} is out of range"))
-}
-
-fn named(names: &[&str], name: &str) -> Result<u8, String> {
-    let found = names.iter().position(|known| *known == name);
-    found.map(|number| number as u8).ok_or_else(|| format!("{name} is none of {}", names.join(", ")))
 }
 
 #[derive(Default)]
@@ -100,14 +178,17 @@ struct Assembler<'t> {
     extra: Vec<Metadata>,
     /// The number of metadata entries, where it is smaller than that of the instructions.
     kept: Option<usize>,
+    /// Where a select was given cases, and the number of cases that it needs.
+    selects: Vec<(Word<'t>, u64)>,
 }
 
-impl Assembler<'_> {
-    fn take(&mut self, mut statement: Statement) -> Result<(), String> {
-        match statement.head {
+impl<'t> Assembler<'t> {
+    fn take(&mut self, mut statement: Statement<'t>) -> Result<(), Error> {
+        let head = statement.head;
+        match head.text {
             ".locals" => {
                 let [slots] = statement.operands()?;
-                self.parts.local_slots = number::<u16>(slots)?.into();
+                self.parts.local_slots = slots.number::<u16>()?.into();
             }
             ".types" => self.types = Some(types(&statement.operands)?),
             ".defer" => {
@@ -117,34 +198,33 @@ impl Assembler<'_> {
             ".const" => self.parts.constants.push(constant(&mut statement)?),
             ".function" => {
                 let [parameters, returns] = statement.operands()?;
-                let function = Function { param_slots: number(parameters)?, ret_slots: number(returns)? };
+                let function = Function { param_slots: parameters.number()?, ret_slots: returns.number()? };
                 self.parts.functions.push(function);
             }
             ".extern" => {
                 let [returns] = statement.operands()?;
-                self.parts.externs.push(number(returns)?);
+                self.parts.externs.push(returns.number()?);
             }
             ".case" => {
                 let [kind, queue, slot, elem_slots] = statement.operands()?;
                 self.parts.cases.push(Case {
-                    kind: named(&CASES, kind)?,
-                    has_ok: statement.attribute("ok")?,
-                    queue: number(queue)?,
-                    slot: number(slot)?,
-                    elem_slots: number(elem_slots)?,
+                    kind: kind.one_of(&CASES)?,
+                    has_ok: statement.ok()?,
+                    queue: queue.number()?,
+                    slot: slot.number()?,
+                    elem_slots: elem_slots.number()?,
                 });
             }
             ".metadata" => {
                 let [count] = statement.operands()?;
-                self.kept = Some(number::<u32>(count)? as usize);
+                self.kept = Some(count.number::<u32>()? as usize);
             }
             ".extra" => {
                 let [kind] = statement.operands()?;
-                let kind = names::kind(kind).ok_or(format!("{kind} is no kind of metadata"))?;
-                let entry = self.metadata(kind, &mut statement)?;
+                let entry = self.metadata(kind.kind()?, &mut statement)?;
                 self.extra.push(entry);
             }
-            head if head.starts_with('.') => return Err(format!("{head} is no directive")),
+            text if text.starts_with('.') => return Err(head.wrong(format!("{text} is no directive"))),
             _ => {
                 let (instruction, metadata) = self.instruction(&mut statement)?;
                 self.parts.code.push(instruction);
@@ -154,151 +234,183 @@ impl Assembler<'_> {
         statement.done()
     }
 
-    fn instruction(&self, statement: &mut Statement) -> Result<(Instruction, Metadata), String> {
-        let is_loop = statement.head == "Loop";
-        let op = match is_loop {
-            true => Opcode::Hint as u8,
-            false => names::op(statement.head).ok_or(format!("{} is no opcode", statement.head))?,
+    fn instruction(&mut self, statement: &mut Statement<'t>) -> Result<(Instruction, Metadata), Error> {
+        let head = statement.head;
+        let is_loop = head.text == "Loop";
+        let mut instruction = if is_loop {
+            let [] = statement.operands()?;
+            let exit = statement.take("exit").ok_or_else(|| head.wrong("a loop has an exit="))?;
+            let mut hint = names::loop_hint();
+            hint.set_imm32(self.place(exit)?);
+            hint
+        } else {
+            self.operands(statement)?
         };
+        if let Some(flags) = statement.take("flags") {
+            instruction.flags = flags.number()?;
+        }
+        for (name, field) in [("a", &mut instruction.a), ("b", &mut instruction.b), ("c", &mut instruction.c)]
+        {
+            if let Some(value) = statement.take(name) {
+                *field = value.number()?;
+            }
+        }
+        let kind = match statement.take("meta") {
+            Some(kind) => kind.kind()?,
+            None if is_loop && statement.has("end") => Kind::LoopEnd,
+            None => Kind::None,
+        };
+        Ok((instruction, self.metadata(kind, statement)?))
+    }
+
+    /// An instruction by its name and operands.
+    fn operands(&self, statement: &Statement) -> Result<Instruction, Error> {
+        let head = statement.head;
+        let op = names::op(head.text).ok_or_else(|| head.wrong(format!("{} is no opcode", head.text)))?;
         let mut instruction = Instruction { op, ..Instruction::default() };
         match names::form(op) {
-            _ if is_loop => {
-                let [] = statement.operands()?;
-                instruction.flags = LOOP_FLAGS;
-                let exit = statement.attributes.remove("exit").ok_or("a loop has an exit")?;
-                instruction.set_imm32(self.place(exit)?);
-            }
             Form::Fields => {
                 let mut fields = [0; 3];
-                if statement.operands.len() > fields.len() {
-                    return Err(format!("{} has up to 3 operands", statement.head));
+                if let Some(fourth) = statement.operands.get(fields.len()) {
+                    return Err(fourth.wrong(format!("{} has up to 3 operands", head.text)));
                 }
                 for (field, operand) in fields.iter_mut().zip(&statement.operands) {
-                    *field = number(operand)?;
+                    *field = operand.number()?;
                 }
                 [instruction.a, instruction.b, instruction.c] = fields;
             }
             Form::Value => {
                 let [a, value] = statement.operands()?;
-                instruction.a = number(a)?;
-                instruction.set_imm32(number::<i32>(value)? as u32);
+                instruction.a = a.number()?;
+                instruction.set_imm32(value.number::<i32>()? as u32);
             }
             Form::Jump { condition } => {
                 let target = if condition {
                     let [a, target] = statement.operands()?;
-                    instruction.a = number(a)?;
+                    instruction.a = a.number()?;
                     target
                 } else {
                     let [target] = statement.operands()?;
                     target
                 };
                 let distance = i32::try_from(self.distance(target)?);
-                instruction.set_imm32(distance.map_err(|_| format!("{target} is too far"))? as u32);
+                instruction.set_imm32(distance.map_err(|_| too_far(target))? as u32);
             }
             Form::ForLoop => {
                 let [a, b, target] = statement.operands()?;
-                (instruction.a, instruction.b) = (number(a)?, number(b)?);
+                (instruction.a, instruction.b) = (a.number()?, b.number()?);
                 // From the next place.
                 let distance = i16::try_from(self.distance(target)? - 1);
-                instruction.c = distance.map_err(|_| format!("{target} is too far"))? as u16;
+                instruction.c = distance.map_err(|_| too_far(target))? as u16;
             }
         }
-        if let Some(flags) = statement.attributes.remove("flags") {
-            instruction.flags = number(flags)?;
-        }
-        for (name, field) in [("a", &mut instruction.a), ("b", &mut instruction.b), ("c", &mut instruction.c)]
-        {
-            if let Some(value) = statement.attributes.remove(name) {
-                *field = number(value)?;
-            }
-        }
-        let kind = match statement.attributes.remove("meta") {
-            Some(kind) => names::kind(kind).ok_or(format!("{kind} is no kind of metadata"))?,
-            None if is_loop && statement.attributes.contains_key("end") => Kind::LoopEnd,
-            None => Kind::None,
-        };
-        Ok((instruction, self.metadata(kind, statement)?))
+        Ok(instruction)
     }
 
-    fn metadata(&self, kind: Kind, statement: &mut Statement) -> Result<Metadata, String> {
-        Ok(Metadata {
+    fn metadata(&mut self, kind: Kind, statement: &mut Statement<'t>) -> Result<Metadata, Error> {
+        let entry = Metadata {
             kind: kind as u8,
-            has_ok: statement.attribute("ok")?,
-            array_len: statement.attribute("array")?,
-            first: statement.attribute("first")?,
-            second: statement.attribute("second")?,
-            end_pc: statement.attributes.remove("end").map_or(Ok(0), |end| self.place(end))?,
-        })
+            has_ok: statement.ok()?,
+            array_len: statement.number("array")?,
+            first: statement.number("first")?,
+            second: statement.number("second")?,
+            end_pc: statement.take("end").map_or(Ok(0), |end| self.place(end))?,
+        };
+        if kind == Kind::SelectExecLayout {
+            self.selects.push((statement.head, u64::from(entry.first) + u64::from(entry.second)));
+        }
+        Ok(entry)
     }
 
     /// A label's place, or a number.
-    fn place(&self, text: &str) -> Result<u32, String> {
-        match self.labels.get(text) {
+    fn place(&self, word: Word) -> Result<u32, Error> {
+        match self.labels.get(word.text) {
             Some(&place) => Ok(place as u32),
-            None => number(text),
+            None if word.text.starts_with(|c: char| c.is_ascii_digit()) => word.number(),
+            None => Err(word.wrong(format!("{} is neither a label nor a place", word.text))),
         }
     }
 
     /// How far it is from the next instruction's place to a label, or a distance with its sign.
-    fn distance(&self, target: &str) -> Result<i64, String> {
-        if let Some(&place) = self.labels.get(target) {
+    fn distance(&self, target: Word) -> Result<i64, Error> {
+        if let Some(&place) = self.labels.get(target.text) {
             return Ok(place - self.parts.code.len() as i64);
         }
-        match target.strip_prefix('+').or(target.starts_with('-').then_some(target)) {
-            Some(distance) => number(distance),
-            None => Err(format!("{target} is neither a label nor a distance with its sign")),
+        match target.text.strip_prefix('+').or(target.text.starts_with('-').then_some(target.text)) {
+            Some(distance) => target.number_of(distance),
+            None => {
+                Err(target.wrong(format!("{} is neither a label nor a distance with its sign", target.text)))
+            }
         }
     }
 
-    fn finish(mut self) -> Parts {
+    /// "First case plus number is at most the count of cases."
+    fn finish(mut self) -> Result<Parts, Error> {
+        let cases = self.parts.cases.len();
+        if let Some((select, needed)) = self.selects.iter().find(|(_, needed)| *needed > cases as u64) {
+            return Err(select.wrong(format!("this select needs {needed} cases, there are {cases}")));
+        }
         let all_value = vec![TYPE_VALUE; self.parts.local_slots as usize];
         self.parts.types = self.types.unwrap_or(all_value);
         if let Some(count) = self.kept {
             self.parts.metadata.truncate(count);
         }
         self.parts.metadata.extend(self.extra);
-        self.parts
+        Ok(self.parts)
     }
 }
 
-fn types(words: &[&str]) -> Result<Vec<u8>, String> {
+fn too_far(target: Word) -> Error {
+    target.wrong(format!("{} is too far", target.text))
+}
+
+fn types(words: &[Word]) -> Result<Vec<u8>, Error> {
     let mut types = Vec::new();
     for word in words {
-        let (name, count) = match word.split_once('*') {
-            Some((name, count)) => (name, number::<u16>(count)?),
-            None => (*word, 1),
+        let (name, count) = match word.text.split_once('*') {
+            Some((name, count)) => (name, word.number_of::<u16>(count)?),
+            None => (word.text, 1),
         };
-        types.extend(vec![named(&TYPES, name)?; count.into()]);
+        types.extend(vec![word.one_of_part(name, &TYPES)?; count.into()]);
     }
     Ok(types)
 }
 
-fn constant(statement: &mut Statement) -> Result<Constant, String> {
-    let kind = named(&CONSTANTS, statement.operands.first().ok_or("a constant has a kind")?)?;
+fn constant(statement: &mut Statement) -> Result<Constant, Error> {
+    let head = statement.head;
+    let kind = statement.operands.first().ok_or_else(|| head.wrong("a constant has a kind"))?;
+    let kind = kind.one_of(&CONSTANTS)?;
     let value = match kind {
         CONSTANT_BOOL => {
             let [_, value] = statement.operands()?;
-            value.parse::<bool>().map_err(|_| format!("{value} is neither true nor false"))?.into()
+            value.one_of(&["false", "true"])?.into()
         }
         CONSTANT_INT => {
             let [_, value] = statement.operands()?;
-            number::<i64>(value).map(|value| value as u64).or_else(|_| number(value))?
+            value.number::<i64>().map(|value| value as u64).or_else(|_| value.number())?
         }
         CONSTANT_FLOAT => {
             let [_, value] = statement.operands()?;
-            match value.starts_with("0x") {
-                true => number(value)?,
-                false => value.parse::<f64>().map_err(|_| format!("{value} is no float"))?.to_bits(),
+            match value.text.starts_with("0x") {
+                true => value.number()?,
+                false => {
+                    let float = value.text.parse::<f64>();
+                    float.map_err(|_| value.wrong(format!("{} is no float", value.text)))?.to_bits()
+                }
             }
         }
         _ => {
             let [_] = statement.operands()?;
-            statement.attribute("value")?
+            statement.number("value")?
         }
     };
-    let unread = statement.attribute::<u64>("unread")?.to_le_bytes();
-    if unread[7] != 0 {
-        return Err("unread has seven bytes".into());
+    let mut unread = [0; 7];
+    if let Some(word) = statement.take("unread") {
+        let bytes = word.number::<u64>()?.to_le_bytes();
+        unread.copy_from_slice(&bytes[..7]);
+        if bytes[7] != 0 {
+            return Err(word.wrong("unread has seven bytes"));
+        }
     }
-    Ok(Constant { kind, unread: unread[..7].try_into().unwrap(), value })
+    Ok(Constant { kind, unread, value })
 }

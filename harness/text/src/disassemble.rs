@@ -1,15 +1,15 @@
 //! From units to text.
 
-use crate::names::{self, Form, CASES, CONSTANTS, LOOP_FLAGS, TYPES};
-use reference::Opcode;
+use crate::names::{self, distance, is_loop_hint, target, Form, CASES, CONSTANTS, TYPES};
+use crate::opcode::Opcode;
 use std::collections::BTreeSet;
 use std::fmt::Write;
 use unit::{Case, Constant, Instruction, Kind, Metadata, Parts, Unit};
 use unit::{CONSTANT_BOOL, CONSTANT_FLOAT, CONSTANT_INT, TYPE_VALUE};
 
-/// A unit's text; `None` for bytes that are no unit.
-pub fn disassemble(bytes: &[u8]) -> Option<String> {
-    let parts = Parts::decode(&Unit::check(bytes)?);
+/// A unit's text.
+pub fn disassemble(unit: &Unit) -> String {
+    let parts = Parts::decode(unit);
     let mut out = String::new();
     directives(&parts, &mut out);
     let lines = Lines::new(&parts);
@@ -25,7 +25,7 @@ pub fn disassemble(bytes: &[u8]) -> Option<String> {
         let kind = kind(*entry);
         writeln!(out, ".extra {kind:?}{}{}", attributes(*entry), attribute("end", entry.end_pc)).unwrap();
     }
-    Some(out)
+    out
 }
 
 fn directives(parts: &Parts, out: &mut String) {
@@ -111,31 +111,19 @@ fn kind(entry: Metadata) -> Kind {
     Kind::from_u8(entry.kind).expect("a checked unit has kinds 0 to 15")
 }
 
-fn is_loop(instruction: &Instruction) -> bool {
-    instruction.op == Opcode::Hint as u8 && instruction.flags == LOOP_FLAGS
-}
-
-/// Own place, and how far a branch goes from it.
-fn distance(instruction: &Instruction) -> Option<i64> {
-    match names::form(instruction.op) {
-        Form::Jump { .. } => Some(i64::from(instruction.imm32() as i32)),
-        Form::ForLoop => Some(i64::from(instruction.c as i16) + 1),
-        Form::Fields | Form::Value => None,
-    }
-}
-
-struct Lines<'p> {
+/// The lines of a unit's instructions.
+pub struct Lines<'p> {
     parts: &'p Parts,
     /// The places from 0 to n that a branch, a loop's end or its exit names.
     labels: BTreeSet<i64>,
 }
 
 impl<'p> Lines<'p> {
-    fn new(parts: &'p Parts) -> Self {
+    pub fn new(parts: &'p Parts) -> Self {
         let mut labels = BTreeSet::new();
         for (place, instruction) in parts.code.iter().enumerate() {
-            labels.extend(distance(instruction).map(|distance| place as i64 + distance));
-            if is_loop(instruction) {
+            labels.extend(target(place, instruction));
+            if is_loop_hint(instruction) {
                 labels.insert(instruction.imm32().into());
                 let ends = parts.metadata.get(place).filter(|entry| entry.is(Kind::LoopEnd));
                 labels.extend(ends.map(|entry| i64::from(entry.end_pc)));
@@ -169,25 +157,36 @@ impl<'p> Lines<'p> {
         }
     }
 
-    fn instruction(&self, place: usize) -> String {
+    /// An instruction as it is assembled.
+    pub fn instruction(&self, place: usize) -> String {
+        let instruction = &self.parts.code[place];
+        let metadata = self.metadata(place);
+        let (end, kind) = match kind(metadata) {
+            Kind::None => (attribute("end", metadata.end_pc), String::new()),
+            // The hint has its end already.
+            Kind::LoopEnd if is_loop_hint(instruction) => Default::default(),
+            kind => (attribute("end", metadata.end_pc), format!(" meta={kind:?}")),
+        };
+        // An end alone would stand for LoopEnd.
+        let none = is_loop_hint(instruction) && metadata.is(Kind::None) && !end.is_empty();
+        let kind = if none { " meta=None".into() } else { kind };
+        format!("{}{kind}{}{end}", self.mnemonic(place), attributes(metadata))
+    }
+
+    /// An instruction without its metadata, but for a loop's end.
+    pub fn mnemonic(&self, place: usize) -> String {
         let instruction = &self.parts.code[place];
         let Instruction { op, flags, a, b, c } = *instruction;
-        let metadata = self.parts.metadata.get(place).copied().unwrap_or_default();
-        let name = names::opcode(op);
-        if is_loop(instruction) {
-            let exit = self.place(instruction.imm32());
-            let (end, meta) = match kind(metadata) {
-                Kind::LoopEnd => (format!(" end={}", self.place(metadata.end_pc)), String::new()),
-                // An end alone would stand for LoopEnd.
-                Kind::None if metadata.end_pc == 0 => Default::default(),
-                kind => (attribute("end", metadata.end_pc), format!(" meta={kind:?}")),
+        if is_loop_hint(instruction) {
+            let metadata = self.metadata(place);
+            let end = match metadata.is(Kind::LoopEnd) {
+                true => format!(" end={}", self.place(metadata.end_pc)),
+                false => String::new(),
             };
-            return format!(
-                "Loop{end} exit={exit}{}{meta}{}",
-                attribute("a", a.into()),
-                attributes(metadata)
-            );
+            let exit = self.place(instruction.imm32());
+            return format!("Loop{end} exit={exit}{}", attribute("a", a.into()));
         }
+        let name = names::opcode(op);
         let head = match (names::form(op), distance(instruction)) {
             (Form::Value, _) => format!("{name} {a} {}", instruction.imm32() as i32),
             (Form::Jump { condition: true }, Some(distance)) => {
@@ -201,12 +200,11 @@ impl<'p> Lines<'p> {
             (_, None) if c == 0 && has_two_operands(op) => format!("{name} {a} {b}"),
             (_, None) => format!("{name} {a} {b} {c}"),
         };
-        let meta = match kind(metadata) {
-            Kind::None => String::new(),
-            kind => format!(" meta={kind:?}"),
-        };
-        let flags = attribute("flags", flags.into());
-        format!("{head}{flags}{meta}{}{}", attributes(metadata), attribute("end", metadata.end_pc))
+        format!("{head}{}", attribute("flags", flags.into()))
+    }
+
+    fn metadata(&self, place: usize) -> Metadata {
+        self.parts.metadata.get(place).copied().unwrap_or_default()
     }
 }
 
@@ -215,18 +213,20 @@ fn has_two_operands(op: u8) -> bool {
     use Opcode::*;
     matches!(
         Opcode::from_u8(op),
-        LoadConst
-            | Copy
-            | Return
-            | NegI
-            | Not
-            | BoolNot
-            | Trunc
-            | NegF
-            | NegF32
-            | ConvI2F
-            | ConvF2I
-            | ConvF64F32
-            | ConvF32F64
+        Some(
+            LoadConst
+                | Copy
+                | Return
+                | NegI
+                | Not
+                | BoolNot
+                | Trunc
+                | NegF
+                | NegF32
+                | ConvI2F
+                | ConvF2I
+                | ConvF64F32
+                | ConvF32F64
+        )
     )
 }

@@ -2,6 +2,7 @@
 
 use crate::entries::Instruction;
 use crate::hex;
+use crate::refusal::Refusal;
 use crate::result::{Retained, Rewritten};
 use std::fmt;
 
@@ -21,10 +22,10 @@ pub enum Answer {
 
 impl Answer {
     /// "refused 1, place 0: unit not as above"
-    pub const NO_UNIT: Self = Self::Refused { number: 1, place: 0 };
+    pub const NO_UNIT: Self = Self::Refused { number: Refusal::NoUnit as u32, place: 0 };
 
     /// "refused 2, place 0: a lent buffer shorter than stated"
-    pub const SHORT_BUFFER: Self = Self::Refused { number: 2, place: 0 };
+    pub const SHORT_BUFFER: Self = Self::Refused { number: Refusal::ShortBuffer as u32, place: 0 };
 
     pub fn rewritten(result: &Rewritten) -> Self {
         Self::Rewritten { bytes: result.encode() }

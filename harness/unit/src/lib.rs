@@ -7,6 +7,7 @@ pub mod buffers;
 mod entries;
 pub mod hex;
 mod parts;
+mod refusal;
 mod result;
 mod section;
 
@@ -16,5 +17,6 @@ pub use entries::{Case, Constant, Entry, Function, Instruction, Kind, Metadata};
 pub use entries::{CONSTANT_BOOL, CONSTANT_FLOAT, CONSTANT_INT, CONSTANT_NIL, CONSTANT_STRING};
 pub use entries::{TYPE_FLOAT, TYPE_GC_BASE, TYPE_VALUE};
 pub use parts::Parts;
+pub use refusal::Refusal;
 pub use result::{Retained, Rewritten, RESULT_HEADER_LEN};
 pub use section::{Header, Section, Unit, HEADER_LEN, MAX_LOCAL_SLOTS};

@@ -1,6 +1,8 @@
 //! The result's layout.
 
 use crate::entries::{Entry, Instruction, Metadata};
+use crate::parts::Parts;
+use crate::section::Unit;
 
 const HEADER_WORDS: usize = 4;
 pub const RESULT_HEADER_LEN: usize = HEADER_WORDS * <u32 as Entry>::LEN;
@@ -32,6 +34,13 @@ impl Rewritten {
         self.retained.iter().for_each(|entry| entry.metadata.write(&mut out));
         self.retained.iter().for_each(|entry| entry.old_place.write(&mut out));
         out
+    }
+
+    /// Laid out as a unit again: the result's code and metadata with the given unit's other sections.
+    pub fn as_unit(&self, given: &Unit) -> Vec<u8> {
+        let code = self.retained.iter().map(|entry| entry.instruction).collect();
+        let metadata = self.retained.iter().map(|entry| entry.metadata).collect();
+        Parts { code, metadata, ..Parts::decode(given) }.encode()
     }
 
     /// `None` for bytes that are not laid out so.

@@ -115,24 +115,40 @@ pub struct Unit<'a> {
 }
 
 impl<'a> Unit<'a> {
-    /// The whole of "The unit"; `None` is refusal 1.
+    /// `None` is refusal 1.
     pub fn check(bytes: &'a [u8]) -> Option<Self> {
-        let header = Header::read(bytes.get(..HEADER_LEN)?);
+        Self::parse(bytes).ok()
+    }
+
+    /// The whole of "The unit"; what is wrong is said in words.
+    pub fn parse(bytes: &'a [u8]) -> Result<Self, String> {
+        let len = bytes.len();
+        let header = bytes.get(..HEADER_LEN);
+        let header = header.ok_or_else(|| format!("a header has {HEADER_LEN} bytes, here are {len}"))?;
+        let header = Header::read(header);
+        if header.local_slots > MAX_LOCAL_SLOTS {
+            return Err(format!("{} local slots are above {MAX_LOCAL_SLOTS}", header.local_slots));
+        }
+        if header.defer > 1 {
+            return Err(format!("defer is {}, neither 0 nor 1", header.defer));
+        }
         let (offsets, end) = header.offsets_without_gaps();
-        let laid_out = header.local_slots <= MAX_LOCAL_SLOTS
-            && header.defer <= 1
-            && header.offsets.map(u64::from) == offsets
-            && bytes.len() as u64 == end;
-        if !laid_out {
-            return None;
+        for (section, offset) in Section::ALL.into_iter().zip(offsets) {
+            let given = header.offsets[section as usize];
+            if u64::from(given) != offset {
+                return Err(format!("{section:?} starts at byte {given} by the header, not at {offset}"));
+            }
+        }
+        if len as u64 != end {
+            return Err(format!("the sections end at byte {end}, here are {len} bytes"));
         }
         let unit = Self { bytes, header };
         let cases = u64::from(header.count(Section::Cases));
-        let entries_fit = unit.metadata().all(|metadata| metadata_fits(metadata, cases))
-            && unit.types().all(|slot_type| slot_type <= TYPE_FLOAT)
-            && unit.constants().all(constant_fits)
-            && unit.cases().all(|case| case.kind <= Case::RECEIVE && case.has_ok <= 1);
-        entries_fit.then_some(unit)
+        first_fault("metadata", unit.metadata(), |entry| metadata_fault(entry, cases))?;
+        first_fault("slot", unit.types(), type_fault)?;
+        first_fault("constant", unit.constants(), constant_fault)?;
+        first_fault("case", unit.cases(), case_fault)?;
+        Ok(unit)
     }
 
     pub fn bytes(&self) -> &'a [u8] {
@@ -193,13 +209,50 @@ impl<'a> Unit<'a> {
     }
 }
 
-/// "kind 0 to 15, has_ok 0 or 1 in every kind"; "First case plus number is at most the count of cases."
-fn metadata_fits(metadata: Metadata, cases: u64) -> bool {
-    let cases_fit = !metadata.is(Kind::SelectExecLayout)
-        || u64::from(metadata.first) + u64::from(metadata.second) <= cases;
-    Kind::from_u8(metadata.kind).is_some() && metadata.has_ok <= 1 && cases_fit
+/// What is wrong with the first entry that has a fault.
+fn first_fault<E>(
+    name: &str,
+    entries: impl Iterator<Item = E>,
+    fault: impl Fn(E) -> Option<String>,
+) -> Result<(), String> {
+    for (index, entry) in entries.enumerate() {
+        if let Some(fault) = fault(entry) {
+            return Err(format!("{name} {index}: {fault}"));
+        }
+    }
+    Ok(())
 }
 
-fn constant_fits(constant: Constant) -> bool {
-    constant.kind <= CONSTANT_STRING && (constant.kind != CONSTANT_BOOL || constant.value <= 1)
+fn above(what: &str, value: u8, most: u8) -> Option<String> {
+    (value > most).then(|| format!("{what} {value} is above {most}"))
+}
+
+/// "kind 0 to 15, has_ok 0 or 1 in every kind"; "First case plus number is at most the count of cases."
+fn metadata_fault(entry: Metadata, cases: u64) -> Option<String> {
+    let end = u64::from(entry.first) + u64::from(entry.second);
+    let too_many = || {
+        (entry.is(Kind::SelectExecLayout) && end > cases)
+            .then(|| format!("needs {end} select cases, there are {cases}"))
+    };
+    let most = Kind::ALL.len() as u8 - 1;
+    above("kind", entry.kind, most).or_else(|| above("has_ok", entry.has_ok, 1)).or_else(too_many)
+}
+
+/// "Type: one byte 0 to 5."
+fn type_fault(slot_type: u8) -> Option<String> {
+    above("type", slot_type, TYPE_FLOAT)
+}
+
+/// "(Bool 0 or 1)"
+fn constant_fault(constant: Constant) -> Option<String> {
+    let no_bool = || {
+        (constant.kind == CONSTANT_BOOL && constant.value > 1)
+            .then(|| format!("the bool {} is above 1", constant.value))
+    };
+    above("kind", constant.kind, CONSTANT_STRING).or_else(no_bool)
+}
+
+/// "kind (0 send, 1 receive), has_ok likewise"
+fn case_fault(case: Case) -> Option<String> {
+    above("kind", case.kind, Case::RECEIVE).or_else(|| above("has_ok", case.has_ok, 1))
 }

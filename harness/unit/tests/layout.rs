@@ -1,9 +1,8 @@
 //! The unit's and the result's layout, byte by byte, and the sizes of the lent buffers.
 
 use unit::{buffers, Lengths};
-use unit::{
-    Answer, Case, Cleaned, Constant, Function, Instruction, Kind, Metadata, Parts, Retained, Rewritten,
-};
+use unit::{Answer, Case, Cleaned, Constant, Function, Instruction, Kind, Metadata, Parts};
+use unit::{Refusal, Retained, Rewritten};
 use unit::{Section, Unit, CONSTANT_BOOL, CONSTANT_NIL, CONSTANT_STRING, HEADER_LEN};
 
 /// A unit with entries in every section, all fields different.
@@ -124,6 +123,34 @@ fn first_case_plus_number() {
     }
 }
 
+/// What is no unit is told why, and where.
+#[test]
+fn faults() {
+    let fault = |change: fn(&mut Parts)| {
+        let mut parts = whole();
+        change(&mut parts);
+        Unit::parse(&parts.encode()).err().unwrap_or_default()
+    };
+    assert_eq!(fault(|_| {}), "");
+    assert_eq!(fault(|parts| parts.local_slots = 65_536), "65536 local slots are above 65535");
+    assert_eq!(fault(|parts| parts.defer = 2), "defer is 2, neither 0 nor 1");
+    assert_eq!(fault(|parts| parts.metadata[0].kind = 16), "metadata 0: kind 16 is above 15");
+    assert_eq!(fault(|parts| parts.metadata[0].has_ok = 2), "metadata 0: has_ok 2 is above 1");
+    assert_eq!(fault(|parts| parts.metadata[0].first = 2), "metadata 0: needs 3 select cases, there are 2");
+    assert_eq!(fault(|parts| parts.types[2] = 6), "slot 2: type 6 is above 5");
+    assert_eq!(fault(|parts| parts.constants[0].kind = 5), "constant 0: kind 5 is above 4");
+    assert_eq!(fault(|parts| parts.constants[0].value = 2), "constant 0: the bool 2 is above 1");
+    assert_eq!(fault(|parts| parts.cases[1].kind = 2), "case 1: kind 2 is above 1");
+    assert_eq!(fault(|parts| parts.cases[1].has_ok = 2), "case 1: has_ok 2 is above 1");
+    let cut = |bytes: &[u8]| Unit::parse(bytes).err().unwrap_or_default();
+    let bytes = whole().encode();
+    assert_eq!(cut(&[]), "a header has 64 bytes, here are 0");
+    assert_eq!(cut(&bytes[..100]), "the sections end at byte 137, here are 100 bytes");
+    let mut moved = bytes.clone();
+    moved[40] += 1;
+    assert_eq!(cut(&moved), "Metadata starts at byte 81 by the header, not at 80");
+}
+
 #[test]
 fn result() {
     let retained = |old_place| Retained {
@@ -138,8 +165,19 @@ fn result() {
     assert_eq!(bytes[64..], [5, 0, 0, 0, 6, 0, 0, 0]);
     assert_eq!(Rewritten::decode(&bytes), Some(result));
     assert_eq!(Rewritten::decode(&bytes[1..]), None);
+    let given = whole().encode();
+    let again = Rewritten::decode(&bytes).unwrap().as_unit(&Unit::check(&given).unwrap());
+    let (code, metadata) = (vec![retained(5).instruction; 2], vec![Metadata::loop_end(7); 2]);
+    assert_eq!(Parts::decode(&Unit::check(&again).unwrap()), Parts { code, metadata, ..whole() });
     let empty = Rewritten { retained: vec![] }.encode();
     assert_eq!(empty, [0, 0, 0, 0, 16, 0, 0, 0, 16, 0, 0, 0, 16, 0, 0, 0]);
+}
+
+#[test]
+fn refusal_numbers() {
+    assert_eq!(Refusal::ALL.map(|refusal| refusal as u32), [1, 2, 3, 4, 5, 6, 7, 8, 9, 10]);
+    assert_eq!(Refusal::ALL.map(|refusal| Refusal::from_number(refusal as u32)), Refusal::ALL.map(Some));
+    assert_eq!(Refusal::from_number(0), None);
 }
 
 #[test]

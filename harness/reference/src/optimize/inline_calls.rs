@@ -1,10 +1,11 @@
 //! Stand-in for volang's optimize/inline_calls.rs, and the door to the functions that optimize.rs keeps to
 //! itself: a child may call them, and methods of `Module` may be called from anywhere in the crate.
 
-use super::{blocks, local_values, optimize_function, reachable};
+use super::{blocks, dead_stores, local_values, optimize_function, reachable};
 use vo_common_core::bytecode::{Module, UNDER_WORK};
 use vo_common_core::instruction::{Instruction, Opcode};
 use vo_common_core::loop_hint::{is_loop_hint, LoopHint};
+use vo_common_core::stages::Stages;
 use vo_common_core::InstructionMetadata;
 
 pub(super) fn compose(_module: &mut Module) -> Result<Vec<usize>, String> {
@@ -50,5 +51,20 @@ impl Module {
         }
         let (reached, _) = reachable(&code, &function.instruction_metadata)?;
         Ok(hints.into_iter().filter(|hint| reached[hint.place as usize]).collect())
+    }
+
+    /// The steps of `optimize_function` on a function that passes its checks, up to the jump rounds.
+    pub(crate) fn stages(&self) -> Result<Stages, String> {
+        let function = &self.functions[UNDER_WORK];
+        let mut code = function.code.clone();
+        let (blocks, pc_to_block) = blocks(&code)?;
+        local_values(function, &self.constants, &mut code, &blocks);
+        let (reached, _) = reachable(&code, &function.instruction_metadata)?;
+        let plain = |hint: &Instruction| hint.opcode() == Opcode::Hint && hint.flags == 0;
+        let useful: Vec<bool> =
+            code.iter().zip(&reached).map(|(instruction, reached)| *reached && !plain(instruction)).collect();
+        let mut stored = useful.clone();
+        dead_stores(self, function, &code, &blocks, &pc_to_block, &mut stored)?;
+        Ok(Stages { code: code.iter().map(Into::into).collect(), reached, useful, stored })
     }
 }

@@ -1,0 +1,69 @@
+//! The words after a subcommand's name.
+
+use crate::commands::Command;
+use crate::input::Input;
+use std::ffi::{OsStr, OsString};
+use std::path::Path;
+
+pub struct Arguments {
+    command: &'static str,
+    flags: Vec<&'static str>,
+    values: Vec<(&'static str, OsString)>,
+    files: Vec<OsString>,
+}
+
+impl Arguments {
+    pub fn parse(command: &Command, words: &[OsString]) -> Result<Self, String> {
+        let mut arguments =
+            Self { command: command.name, flags: Vec::new(), values: Vec::new(), files: Vec::new() };
+        let known = |options: &'static [&'static str], word: &OsStr| {
+            options.iter().copied().find(|option| word == *option)
+        };
+        let mut words = words.iter();
+        while let Some(word) = words.next() {
+            if let Some(flag) = known(command.flags, word) {
+                arguments.flags.push(flag);
+            } else if let Some(option) = known(command.values, word) {
+                let value = words.next().ok_or_else(|| arguments.usage(&format!("{option} needs a name")))?;
+                arguments.values.push((option, value.clone()));
+            } else if word != "-" && word.to_string_lossy().starts_with('-') {
+                return Err(arguments.usage(&format!("{} is no option", word.to_string_lossy())));
+            } else {
+                arguments.files.push(word.clone());
+            }
+        }
+        Ok(arguments)
+    }
+
+    pub fn has(&self, flag: &str) -> bool {
+        self.flags.contains(&flag)
+    }
+
+    /// The last value given for an option.
+    pub fn value(&self, option: &str) -> Option<&Path> {
+        let last = self.values.iter().rev().find(|(given, _)| *given == option);
+        last.map(|(_, value)| Path::new(value))
+    }
+
+    /// The one input: a file, or standard input.
+    pub fn input(&self) -> Result<Input, String> {
+        match self.files.as_slice() {
+            [] => Input::standard().map_err(|message| self.usage(&message)),
+            [file] if file == "-" => Input::standard().map_err(|message| self.usage(&message)),
+            [file] => Input::file(Path::new(file)),
+            _ => Err(self.usage("one file at a time")),
+        }
+    }
+
+    /// The one folder.
+    pub fn folder(&self) -> Result<&Path, String> {
+        match self.files.as_slice() {
+            [folder] => Ok(Path::new(folder)),
+            _ => Err(self.usage("name one folder")),
+        }
+    }
+
+    pub fn usage(&self, message: &str) -> String {
+        format!("{0}: {message}; see lampruda {0} --help", self.command)
+    }
+}
