@@ -21,6 +21,7 @@ use Rattle.flow.specs.Block.{leaders}
 use Rattle.flow.specs.Loop.{reachedPlaces, loopCheck}
 use Rattle.values.specs.Number.{numberCode}
 use Rattle.answer.specs.Pass.{Outcome, unchanged, refused, rewritten, outputAfter, checked, removal, keptPlaces, afterLoops, afterBranches, afterOperands, optimized}
+use Rattle.removal.specs.Kept.{sectionsIn}
 use Rattle.run.specs.Given.{instruction-fields}
 use Rattle.optimize.specs.declared.Answer.{Answer}
 use Rattle.optimize.specs.declared.Answer.the-variants.{Unchanged, Refused, Rewritten}
@@ -59,6 +60,26 @@ sameWords (x ∷ xs) (y ∷ ys) = eqb x y && sameWords xs ys
 -- the function's cells
 abbrev pub cellsIn : ℕ → List ℕ → List ℕ → List Cell
 cellsIn n code metadata = cellsBy (wordsIn n code) metadata
+
+-- The parts of a unit that a pass works on. Its code and metadata may be those of a result.
+pub record Parts : Type 0 where
+  pub code : List ℕ
+  pub metadata : List ℕ
+  pub types : List ℕ
+  pub constants : List ℕ
+  pub functions : List ℕ
+  pub externs : List ℕ
+  pub cases : List ℕ
+
+abbrev pub parts : List ℕ → List ℕ → List ℕ → List ℕ → List ℕ → List ℕ → List ℕ → Parts
+parts code metadata types constants functions externs cases =
+    record { code = code; metadata = metadata; types = types; constants = constants; functions = functions; externs = externs; cases = cases }
+
+abbrev pub sectionsFor : Parts → Sections
+sectionsFor P = sectionsIn (P .types) (P .constants) (P .functions) (P .externs) (P .cases)
+
+abbrev pub cellsFor : ℕ → Parts → List Cell
+cellsFor n P = cellsIn n (P .code) (P .metadata)
 
 -- what a pass is given
 pub record Given (n : ℕ) (code metadata : List ℕ) (S : Sections) : Type 0 where
@@ -138,3 +159,16 @@ cells-in n code metadata b =
     cell-at (wordsIn n code) metadata p (rw (words-long n code) k)
     ∙ ap (cellOf metadata p) (getD-tabulate n (λ p. toWord (instructionAt code p)) p 0 k)
     ∙ rw (of-to (instructionAt code p) (instruction-fields code p b)) (sym (getD-tabulate n _ p noCell k)))
+
+-- the answers from each step of a pass on, of n instructions in the parts P
+abbrev pub answerOfParts : ℕ → Parts → Outcome
+answerOfParts n P = optimized (sectionsFor P) (cellsFor n P)
+
+abbrev pub answerAfterOperands : ℕ → Parts → Outcome
+answerAfterOperands n P = afterOperands (sectionsFor P) (cellsFor n P)
+
+abbrev pub answerAfterBranches : ℕ → Parts → Outcome
+answerAfterBranches n P = fromBranches (sectionsFor P) (cellsFor n P)
+
+abbrev pub answerAfterLoops : ℕ → Parts → Outcome
+answerAfterLoops n P = fromLoops (sectionsFor P) (cellsFor n P)

@@ -16,6 +16,8 @@ use Rattle.words.specs.Regions.{mid-long, get-mid, Outside, outside-front}
 use Rattle.instruction.specs.Instruction.{class, ofWord}
 use Rattle.unit.specs.Size.{instructionSize, metadataSize, resultSize, work32Room, work64Room, setsRoom, sets-fit, maxInstructions, maxLocalSlots}
 use Rattle.effects.specs.declared.Check.{Check}
+use Rattle.effects.specs.declared.Check.the-variants.{Passed}
+use Rattle.effects.specs.Check.{operandCheck}
 use Rattle.effects.specs.Shape.{Sections, Cell}
 use Rattle.effects.specs.Cells.{cellsBy}
 use Rattle.values.specs.Number.{numberCode}
@@ -29,7 +31,7 @@ use Rattle.numbering.specs.Walk.{valuesRoom}
 use Rattle.pc_map.specs.Boundary.{boundary}
 use Rattle.pc_map.specs.Boundaries.{Mapped, mapped-at, boundary-most}
 use Rattle.pc_map.specs.Listed.{keptList, Listed}
-use Rattle.optimize.specs.Parts.{numberedCode, reachedMarks, wordsOf}
+use Rattle.optimize.specs.Parts.{Parts, sectionsFor, cellsFor, Given, Room, Checked, wordsIn, numberedCode, reachedMarks, wordsOf}
 use Rattle.answer.specs.Pass.{removal}
 use Rattle.optimize.specs.Parts.{cellsIn}
 use Rattle.removal.specs.Kept.{keepAt, listAt}
@@ -98,6 +100,32 @@ pub record Finished (n : ℕ) (code metadata : List ℕ) (out : ℕ) (work32 wor
   pub room : resultSize n ≤ out
   pub long32 : work32Room n ≤ length work32
   pub long64 : n ≤ length work64
+
+-- What each step of a pass asks: n instructions in the parts P, room, and the work as the step before left it.
+
+-- the code is loaded, and refusals 5, 6 and 7 are past
+pub record LoadedWork (n at count : ℕ) (P : Parts) (out : ℕ) (work32 work64 : List ℕ) : Type 0 where
+  pub given : Given n (P .code) (P .metadata) (sectionsFor P)
+  pub room : Room n (length (P .types)) out (length work32) (length work64)
+  pub operands : operandCheck (sectionsFor P .locals) (sectionsFor P .tables) (cellsFor n P) ≡ Passed
+  pub code : midOf 0 n work64 ≡ wordsIn n (P .code)
+  pub listed : ListedControls n (length (P .types)) at count work64
+
+-- it is numbered, and refusal 8 is past
+pub record NumberedWork (n at count : ℕ) (P : Parts) (out : ℕ) (work32 work64 : List ℕ) : Type 0 where
+  pub given : Given n (P .code) (P .metadata) (sectionsFor P)
+  pub room : Room n (length (P .types)) out (length work32) (length work64)
+  pub checked : Checked (sectionsFor P) (cellsFor n P)
+  pub numbered : Renumbered (sectionsFor P) (cellsFor n P) n work32 work64
+  pub listed : ListedControls n (length (P .types)) at count work64
+
+-- its reached places are marked, and refusal 9 is past
+pub record MarkedWork (n at count : ℕ) (P : Parts) (out : ℕ) (work32 work64 : List ℕ) : Type 0 where
+  pub given : Given n (P .code) (P .metadata) (sectionsFor P)
+  pub room : Room n (length (P .types)) out (length work32) (length work64)
+  pub checked : Checked (sectionsFor P) (cellsFor n P)
+  pub marks : Marks (sectionsFor P) (cellsFor n P) n work32 work64
+  pub listed : ListedControls n (length (P .types)) at count work64
 
 -- ---- `finish`: parts of the work as it lends them
 module _ {n : ℕ} {code metadata : List ℕ} {out : ℕ} {work32 work64 : List ℕ} (d : Finished n code metadata out work32 work64) where

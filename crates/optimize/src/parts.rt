@@ -6,18 +6,16 @@ ghost use Prim.Native.Nat.{ℕ, _+_, _*_, _≤_, _<_};
 ghost use lib.ListN.{length, drop};
 ghost use borrow.Rule.Slice.PartMut.{midOf};
 ghost use Rattle.unit.specs.Size.{instructionSize, metadataSize, resultSize, work32Room, maxInstructions};
-ghost use Rattle.effects.specs.declared.Check.{Check};
-ghost use Rattle.effects.specs.Check.{operandCheck};
-ghost use Rattle.effects.specs.Shape.{Tables, tablesOf};
+ghost use Rattle.effects.specs.Shape.{Tables};
 ghost use Rattle.effects.specs.Cells.{cellsBy};
 ghost use Rattle.flow.specs.BranchLaws.{BranchesInside};
 ghost use Rattle.flow.specs.Control.{Controls};
 ghost use Rattle.pc_map.specs.Listed.{Listed};
-ghost use Rattle.answer.specs.Pass.{optimized, afterOperands, removal};
+ghost use Rattle.answer.specs.Pass.{removal};
 ghost use Rattle.removal.specs.Kept.{sectionsIn, keepAt};
-ghost use Rattle.optimize.specs.Parts.{Answers, wordsIn, cellsIn, Given, Room, Checked, fromLoops, fromBranches};
+ghost use Rattle.optimize.specs.Parts.{Answers, Given, Room, cellsIn, parts, answerOfParts, answerAfterOperands, answerAfterBranches, answerAfterLoops};
 ghost use Rattle.numbering.specs.Walk.{sectionsOf};
-ghost use Rattle.optimize.specs.Steps.{Finished, ListedControls, Marks, Reached, Renumbered, Numberable};
+ghost use Rattle.optimize.specs.Steps.{Finished, ListedControls, LoadedWork, MarkedWork, NumberedWork, Reached, Renumbered, Numberable};
 use crate::Answer;
 use crate::code;
 use effects::Check;
@@ -108,8 +106,8 @@ fn after_loops(
     at: usize,
     count: usize,
 ) -> Answer
-    requires { ⌜ Given n (now code) (now metadata) (sectionsIn (now types) (now constants) (now functions) (now externs) (now cases)) × Room n (length (now types)) (length (now out)) (length (now work32)) (length (now work64)) × Checked (sectionsIn (now types) (now constants) (now functions) (now externs) (now cases)) (cellsIn n (now code) (now metadata)) × Marks (sectionsIn (now types) (now constants) (now functions) (now externs) (now cases)) (cellsIn n (now code) (now metadata)) n (now work32) (now work64) × ListedControls n (length (now types)) at count (now work64) ⌝ }
-    ensures { λ r. ⌜ Answers (fromLoops (sectionsIn (now (types .entry)) (now (constants .entry)) (now (functions .entry)) (now (externs .entry)) (now (cases .entry))) (cellsIn n (now (code .entry)) (now (metadata .entry)))) r (now (out .entry)) (now (out .exit)) ⌝ }
+    requires { ⌜ MarkedWork n at count (parts (now code) (now metadata) (now types) (now constants) (now functions) (now externs) (now cases)) (length (now out)) (now work32) (now work64) ⌝ }
+    ensures { λ r. ⌜ Answers (answerAfterLoops n (parts (now (code .entry)) (now (metadata .entry)) (now (types .entry)) (now (constants .entry)) (now (functions .entry)) (now (externs .entry)) (now (cases .entry)))) r (now (out .entry)) (now (out .exit)) ⌝ }
 {
     retain::retain(
         metadata,
@@ -154,8 +152,8 @@ fn after_branches(
     at: usize,
     count: usize,
 ) -> Answer
-    requires { ⌜ Given n (now code) (now metadata) (sectionsIn (now types) (now constants) (now functions) (now externs) (now cases)) × Room n (length (now types)) (length (now out)) (length (now work32)) (length (now work64)) × Checked (sectionsIn (now types) (now constants) (now functions) (now externs) (now cases)) (cellsIn n (now code) (now metadata)) × Renumbered (sectionsIn (now types) (now constants) (now functions) (now externs) (now cases)) (cellsIn n (now code) (now metadata)) n (now work32) (now work64) × ListedControls n (length (now types)) at count (now work64) ⌝ }
-    ensures { λ r. ⌜ Answers (fromBranches (sectionsIn (now (types .entry)) (now (constants .entry)) (now (functions .entry)) (now (externs .entry)) (now (cases .entry))) (cellsIn n (now (code .entry)) (now (metadata .entry)))) r (now (out .entry)) (now (out .exit)) ⌝ }
+    requires { ⌜ NumberedWork n at count (parts (now code) (now metadata) (now types) (now constants) (now functions) (now externs) (now cases)) (length (now out)) (now work32) (now work64) ⌝ }
+    ensures { λ r. ⌜ Answers (answerAfterBranches n (parts (now (code .entry)) (now (metadata .entry)) (now (types .entry)) (now (constants .entry)) (now (functions .entry)) (now (externs .entry)) (now (cases .entry)))) r (now (out .entry)) (now (out .exit)) ⌝ }
 {
     match reach(metadata, work32, &work64[0..n], &work64[at..at + count], n) {
         Check::Refused(k, p) => Answer::Refused(k, p),
@@ -210,8 +208,8 @@ fn after_operands(
     at: usize,
     count: usize,
 ) -> Answer
-    requires { ⌜ Given n (now code) (now metadata) (sectionsIn (now types) (now constants) (now functions) (now externs) (now cases)) × Room n (length (now types)) (length (now out)) (length (now work32)) (length (now work64)) × (operandCheck (length (now types)) (tablesOf (now functions) (now externs) (now cases)) (cellsIn n (now code) (now metadata)) ≡ Check.Passed) × (midOf 0 n (now work64) ≡ wordsIn n (now code)) × ListedControls n (length (now types)) at count (now work64) ⌝ }
-    ensures { λ r. ⌜ Answers (afterOperands (sectionsIn (now (types .entry)) (now (constants .entry)) (now (functions .entry)) (now (externs .entry)) (now (cases .entry))) (cellsIn n (now (code .entry)) (now (metadata .entry)))) r (now (out .entry)) (now (out .exit)) ⌝ }
+    requires { ⌜ LoadedWork n at count (parts (now code) (now metadata) (now types) (now constants) (now functions) (now externs) (now cases)) (length (now out)) (now work32) (now work64) ⌝ }
+    ensures { λ r. ⌜ Answers (answerAfterOperands n (parts (now (code .entry)) (now (metadata .entry)) (now (types .entry)) (now (constants .entry)) (now (functions .entry)) (now (externs .entry)) (now (cases .entry)))) r (now (out .entry)) (now (out .exit)) ⌝ }
 {
     match branch::check_branches(&work64[0..n], &work64[at..at + count]) {
         Check::Refused(k, p) => Answer::Refused(k, p),
@@ -251,7 +249,7 @@ pub fn optimize(
     n: usize,
 ) -> Answer
     requires { ⌜ Given n (now code) (now metadata) (sectionsIn (now types) (now constants) (now functions) (now externs) (now cases)) × Room n (length (now types)) (length (now out)) (length (now work32)) (length (now work64)) ⌝ }
-    ensures { λ r. ⌜ Answers (optimized (sectionsIn (now (types .entry)) (now (constants .entry)) (now (functions .entry)) (now (externs .entry)) (now (cases .entry))) (cellsIn n (now (code .entry)) (now (metadata .entry)))) r (now (out .entry)) (now (out .exit)) ⌝ }
+    ensures { λ r. ⌜ Answers (answerOfParts n (parts (now (code .entry)) (now (metadata .entry)) (now (types .entry)) (now (constants .entry)) (now (functions .entry)) (now (externs .entry)) (now (cases .entry)))) r (now (out .entry)) (now (out .exit)) ⌝ }
 {
     code::load(code, &mut work64[0..n]);
     let at = size::work64_room(n, types.len()) - n;

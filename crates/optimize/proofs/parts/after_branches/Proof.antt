@@ -17,27 +17,33 @@ reach-requires : tie.Need-reach-requires
 reach-requires c κs =
     let s = c .before .before .before .before .before .before .before .before .before .before .before .before .before .before in
     let a = s .args in
-    let size : length (midOf 0 (a .n - 0) (a .work64 .now)) ≡ a .n - 0 = mid-long (a .work64 .now) 0 (a .n - 0) (omega (arith, s .pre .4 .values, s .pre .4 .within)) in
+    let size : length (midOf 0 (a .n - 0) (a .work64 .now)) ≡ a .n - 0 = mid-long (a .work64 .now) 0 (a .n - 0) (omega (arith, s .pre .listed .values, s .pre .listed .within)) in
     let whole : a .n - 0 ≡ a .n = omega arith in
-    (s .pre .0 .some, size ∙ whole, s .pre .0 .few, s .pre .0 .metadata-long, s .pre .1 .room32, list-lent (s .pre .4) (a .n - 0) (a .at + a .count - a .at) (omega arith) (omega arith))
+    (s .pre .given .some, size ∙ whole, s .pre .given .few, s .pre .given .metadata-long, s .pre .room .room32, list-lent (s .pre .listed) (a .n - 0) (a .at + a .count - a .at) (omega arith) (omega arith))
 
 after-loops-requires : tie.Need-after-loops-requires
 after-loops-requires c κs =
     let s = c .before .before .before .before .before .before .before .before .before .before .before .before .before .before .before .before .before .before .before .before .before .before in
     let a = s .args in
-    (s .pre .0, same-room _ _ _ _ _ _ _ (s .pre .1) (c .before .before .before .before .before .before .before .reach .kept .1 .0) refl, s .pre .2, (reached-marks (a .n) (a .code .now) (a .metadata .now) (sectionsIn (a .types .now) (a .constants .now) (a .functions .now) (a .externs .now) (a .cases .now)) (s .pre .0) (s .pre .2) (a .work32 .now) (a .work64 .now) (s .pre .3) (a .n - 0) _ _ (omega arith) (c .before .before .before .before .before .before .before .reach .ensures)), s .pre .4)
+    record {
+      given = s .pre .given;
+      room = same-room _ _ _ _ _ _ _ (s .pre .room) (c .before .before .before .before .before .before .before .reach .kept .1 .0) refl;
+      checked = s .pre .checked;
+      marks = reached-marks (a .n) (a .code .now) (a .metadata .now) (sectionsIn (a .types .now) (a .constants .now) (a .functions .now) (a .externs .now) (a .cases .now)) (s .pre .given) (s .pre .checked) (a .work32 .now) (a .work64 .now) (s .pre .numbered) (a .n - 0) _ _ (omega arith) (c .before .before .before .before .before .before .before .reach .ensures);
+      listed = s .pre .listed;
+    }
 
 returns : tie.Need-returns
 returns c =
     let s = c .before .before .before .before .before .before .before .before .before .before .before .before .before .before .before .before .before .before .before .before in
     let a = s .args in
-    answers-same _ (refused _ _) _ _ _ (branches-loops _ _ ∙ checked-refused _ _ _ _ (reached-answer (a .n) (a .code .now) (a .metadata .now) (sectionsIn (a .types .now) (a .constants .now) (a .functions .now) (a .externs .now) (a .cases .now)) (s .pre .0) (s .pre .2) (a .work32 .now) (a .work64 .now) (s .pre .3) (a .n - 0) _ _ (omega arith) (c .before .before .before .before .before .reach .ensures) ∙ c .before .k .given .1)) (answers-refused _ _ _ (a .out .now) refl)
+    answers-same _ (refused _ _) _ _ _ (branches-loops _ _ ∙ checked-refused _ _ _ _ (reached-answer (a .n) (a .code .now) (a .metadata .now) (sectionsIn (a .types .now) (a .constants .now) (a .functions .now) (a .externs .now) (a .cases .now)) (s .pre .given) (s .pre .checked) (a .work32 .now) (a .work64 .now) (s .pre .numbered) (a .n - 0) _ _ (omega arith) (c .before .before .before .before .before .reach .ensures) ∙ c .before .k .given .1)) (answers-refused _ _ _ (a .out .now) refl)
 
 returns-2 : tie.Need-returns-2
 returns-2 c =
     let s = c .before .before .before .before .before .before .before .before .before .before .before .before .before .before .before .before .before .before .before .before .before .before .before .before .before .before .before .before .before in
     let a = s .args in
-    answers-same _ _ _ _ _ (branches-loops _ _ ∙ checked-passed _ _ (reached-answer (a .n) (a .code .now) (a .metadata .now) (sectionsIn (a .types .now) (a .constants .now) (a .functions .now) (a .externs .now) (a .cases .now)) (s .pre .0) (s .pre .2) (a .work32 .now) (a .work64 .now) (s .pre .3) (a .n - 0) _ _ (omega arith) (c .before .before .before .before .before .before .before .before .before .before .before .before .before .before .reach .ensures) ∙ c .before .before .before .before .before .before .before .before .before .before .enum-told .given .1)) (c .before .before .before .before .before .before .after-loops .ensures)
+    answers-same _ _ _ _ _ (branches-loops _ _ ∙ checked-passed _ _ (reached-answer (a .n) (a .code .now) (a .metadata .now) (sectionsIn (a .types .now) (a .constants .now) (a .functions .now) (a .externs .now) (a .cases .now)) (s .pre .given) (s .pre .checked) (a .work32 .now) (a .work64 .now) (s .pre .numbered) (a .n - 0) _ _ (omega arith) (c .before .before .before .before .before .before .before .before .before .before .before .before .before .before .reach .ensures) ∙ c .before .before .before .before .before .before .before .before .before .before .enum-told .given .1)) (c .before .before .before .before .before .before .after-loops .ensures)
 
 pub after-branches-spec : {M : Type 1} → statement M
 after-branches-spec =

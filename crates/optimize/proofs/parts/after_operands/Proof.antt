@@ -18,41 +18,42 @@ check-branches-requires : tie.Need-check-branches-requires
 check-branches-requires c κs =
     let s = c .before .before .before .before .before .before .before .before .before .before .before .before .before in
     let a = s .args in
-    let size : length (midOf 0 (a .n - 0) (a .work64 .now)) ≡ a .n - 0 = mid-long (a .work64 .now) 0 (a .n - 0) (omega (arith, s .pre .4 .values, s .pre .4 .within)) in
-    (rw size (omega (arith, s .pre .0 .few)), list-lent (s .pre .4) (a .n - 0) (a .at + a .count - a .at) (omega arith) (omega arith))
+    let size : length (midOf 0 (a .n - 0) (a .work64 .now)) ≡ a .n - 0 = mid-long (a .work64 .now) 0 (a .n - 0) (omega (arith, s .pre .listed .values, s .pre .listed .within)) in
+    (rw size (omega (arith, s .pre .given .few)), list-lent (s .pre .listed) (a .n - 0) (a .at + a .count - a .at) (omega arith) (omega arith))
 
 number-requires : tie.Need-number-requires
 number-requires c κs =
     let s = c .before .before .before .before .before .before .before .before .before .before .before .before .before .before .before .before .before .before in
     let a = s .args in
-    (loaded-numberable (a .n) (a .code .now) (a .metadata .now) (sectionsIn (a .types .now) (a .constants .now) (a .functions .now) (a .externs .now) (a .cases .now)) (s .pre .0) (length (a .out .now)) _ _ (s .pre .1) (s .pre .2) (s .pre .3), s .pre .4)
+    (loaded-numberable (a .n) (a .code .now) (a .metadata .now) (sectionsIn (a .types .now) (a .constants .now) (a .functions .now) (a .externs .now) (a .cases .now)) (s .pre .given) (length (a .out .now)) _ _ (s .pre .room) (s .pre .operands) (s .pre .code), s .pre .listed)
 
 after-branches-requires : tie.Need-after-branches-requires
 after-branches-requires c κs =
     let s = c .before .before .before .before .before .before .before .before .before .before .before .before .before .before .before .before .before .before .before .before .before .before .before .before .before .before in
     let a = s .args in
     let n = c .before .before .before .before .before .before .before .number in
-    let passed = (loaded-branches (a .n) (a .code .now) (a .metadata .now) (sectionsIn (a .types .now) (a .constants .now) (a .functions .now) (a .externs .now) (a .cases .now)) (s .pre .0) (a .n - 0) (a .work64 .now) (omega arith) (s .pre .3) ∙ sym (c .before .before .before .before .before .before .before .before .before .before .before .before .check-branches .ensures (a .metadata .now)) ∙ c .before .before .before .before .before .before .before .before .before .before .enum-told .given .1) in
-    let checked : Checked (sectionsIn (a .types .now) (a .constants .now) (a .functions .now) (a .externs .now) (a .cases .now)) (cellsIn (a .n) (a .code .now) (a .metadata .now)) = record { operands = s .pre .2; branches = passed } in
-    let renumbered = loaded-renumbered (a .n) (a .code .now) (a .metadata .now) (sectionsIn (a .types .now) (a .constants .now) (a .functions .now) (a .externs .now) (a .cases .now)) (s .pre .0) (a .work64 .now) _ _ (s .pre .3) (n .ensures .0 (a .metadata .now) (length (a .types .now)) (tablesOf (a .functions .now) (a .externs .now) (a .cases .now))) in (
-      s .pre .0,
-      same-room _ _ _ _ _ _ _ (s .pre .1) (n .kept .1 .1 .0) (n .kept .1 .1 .1 .0),
-      checked,
-      renumbered,
-      numbered-listed (a .n) (a .code .now) (a .metadata .now) (sectionsIn (a .types .now) (a .constants .now) (a .functions .now) (a .externs .now) (a .cases .now)) (s .pre .0) checked _ _ renumbered (s .pre .3) (n .kept .1 .1 .1 .0) (n .ensures .1) (s .pre .4),
-    )
+    let passed = (loaded-branches (a .n) (a .code .now) (a .metadata .now) (sectionsIn (a .types .now) (a .constants .now) (a .functions .now) (a .externs .now) (a .cases .now)) (s .pre .given) (a .n - 0) (a .work64 .now) (omega arith) (s .pre .code) ∙ sym (c .before .before .before .before .before .before .before .before .before .before .before .before .check-branches .ensures (a .metadata .now)) ∙ c .before .before .before .before .before .before .before .before .before .before .enum-told .given .1) in
+    let checked : Checked (sectionsIn (a .types .now) (a .constants .now) (a .functions .now) (a .externs .now) (a .cases .now)) (cellsIn (a .n) (a .code .now) (a .metadata .now)) = record { operands = s .pre .operands; branches = passed } in
+    let renumbered = loaded-renumbered (a .n) (a .code .now) (a .metadata .now) (sectionsIn (a .types .now) (a .constants .now) (a .functions .now) (a .externs .now) (a .cases .now)) (s .pre .given) (a .work64 .now) _ _ (s .pre .code) (n .ensures .0 (a .metadata .now) (length (a .types .now)) (tablesOf (a .functions .now) (a .externs .now) (a .cases .now))) in
+    record {
+      given = s .pre .given;
+      room = same-room _ _ _ _ _ _ _ (s .pre .room) (n .kept .1 .1 .0) (n .kept .1 .1 .1 .0);
+      checked = checked;
+      numbered = renumbered;
+      listed = numbered-listed (a .n) (a .code .now) (a .metadata .now) (sectionsIn (a .types .now) (a .constants .now) (a .functions .now) (a .externs .now) (a .cases .now)) (s .pre .given) checked _ _ renumbered (s .pre .code) (n .kept .1 .1 .1 .0) (n .ensures .1) (s .pre .listed);
+    }
 
 returns : tie.Need-returns
 returns c =
     let s = c .before .before .before .before .before .before .before .before .before .before .before .before .before .before .before .before .before in
     let a = s .args in
-    answers-same _ (refused _ _) _ _ _ (operands-branches _ _ ∙ checked-refused _ _ _ _ (loaded-branches (a .n) (a .code .now) (a .metadata .now) (sectionsIn (a .types .now) (a .constants .now) (a .functions .now) (a .externs .now) (a .cases .now)) (s .pre .0) (a .n - 0) (a .work64 .now) (omega arith) (s .pre .3) ∙ sym (c .before .before .before .check-branches .ensures (a .metadata .now)) ∙ c .before .k .given .1)) (answers-refused _ _ _ (a .out .now) refl)
+    answers-same _ (refused _ _) _ _ _ (operands-branches _ _ ∙ checked-refused _ _ _ _ (loaded-branches (a .n) (a .code .now) (a .metadata .now) (sectionsIn (a .types .now) (a .constants .now) (a .functions .now) (a .externs .now) (a .cases .now)) (s .pre .given) (a .n - 0) (a .work64 .now) (omega arith) (s .pre .code) ∙ sym (c .before .before .before .check-branches .ensures (a .metadata .now)) ∙ c .before .k .given .1)) (answers-refused _ _ _ (a .out .now) refl)
 
 returns-2 : tie.Need-returns-2
 returns-2 c =
     let s = c .before .before .before .before .before .before .before .before .before .before .before .before .before .before .before .before .before .before .before .before .before .before .before .before .before .before .before .before .before .before .before .before .before in
     let a = s .args in
-    answers-same _ _ _ _ _ (operands-branches _ _ ∙ checked-passed _ _ (loaded-branches (a .n) (a .code .now) (a .metadata .now) (sectionsIn (a .types .now) (a .constants .now) (a .functions .now) (a .externs .now) (a .cases .now)) (s .pre .0) (a .n - 0) (a .work64 .now) (omega arith) (s .pre .3) ∙ sym (c .before .before .before .before .before .before .before .before .before .before .before .before .before .before .before .before .before .before .before .check-branches .ensures (a .metadata .now)) ∙ c .before .before .before .before .before .before .before .before .before .before .before .before .before .before .before .before .before .enum-told .given .1)) (c .before .before .before .before .before .before .after-branches .ensures)
+    answers-same _ _ _ _ _ (operands-branches _ _ ∙ checked-passed _ _ (loaded-branches (a .n) (a .code .now) (a .metadata .now) (sectionsIn (a .types .now) (a .constants .now) (a .functions .now) (a .externs .now) (a .cases .now)) (s .pre .given) (a .n - 0) (a .work64 .now) (omega arith) (s .pre .code) ∙ sym (c .before .before .before .before .before .before .before .before .before .before .before .before .before .before .before .before .before .before .before .check-branches .ensures (a .metadata .now)) ∙ c .before .before .before .before .before .before .before .before .before .before .before .before .before .before .before .before .before .enum-told .given .1)) (c .before .before .before .before .before .before .after-branches .ensures)
 
 pub after-operands-spec : {M : Type 1} → statement M
 after-operands-spec =

@@ -49,13 +49,14 @@ after-operands-requires c κs =
     let m = c .before .before .before .before .before .before .before .before in
     let listing = c .before .before .before .before .count .given .1 in
     let listed = rw listing at (m .check-operands .ensures .1) in
-    let made = list-made (a .n) (length (a .types .now)) _ _ _ (m .check-operands .last .0) (rw (c .before .before .before .before .before .before .before .before .before .before .work64-room .ensures)) (s .pre .0 .some) (rw (long l) (s .pre .1 .room64)) (m .check-operands .kept .0) (listed .0, listed .1, m .check-operands .ensures .2) in (
-      s .pre .0,
-      same-room _ _ _ _ _ _ _ (s .pre .1) refl (m .check-operands .kept .0 ∙ long l),
-      operands-answer (a .n) (a .code .now) (a .metadata .now) _ (sectionsIn (a .types .now) (a .constants .now) (a .functions .now) (a .externs .now) (a .cases .now)) (s .pre .0) (front l) ∙ sym (m .check-operands .ensures .0) ∙ ap checkOf listing,
-      made .1 ∙ front l,
-      made .0,
-    )
+    let made = list-made (a .n) (length (a .types .now)) _ _ _ (m .check-operands .last .0) (rw (c .before .before .before .before .before .before .before .before .before .before .work64-room .ensures)) (s .pre .0 .some) (rw (long l) (s .pre .1 .room64)) (m .check-operands .kept .0) (listed .0, listed .1, m .check-operands .ensures .2) in
+    record {
+      given = s .pre .0;
+      room = same-room _ _ _ _ _ _ _ (s .pre .1) refl (m .check-operands .kept .0 ∙ long l);
+      operands = operands-answer (a .n) (a .code .now) (a .metadata .now) _ (sectionsIn (a .types .now) (a .constants .now) (a .functions .now) (a .externs .now) (a .cases .now)) (s .pre .0) (front l) ∙ sym (m .check-operands .ensures .0) ∙ ap checkOf listing;
+      code = made .1 ∙ front l;
+      listed = made .0;
+    }
 
 returns : tie.Need-returns
 unfolding checkOf
