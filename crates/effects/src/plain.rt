@@ -5,12 +5,12 @@ ghost use Prim.Native.Nat.{_/_, _%_, _<_};
 ghost use Rattle.instruction.specs.Instruction.{ofWord};
 ghost use Rattle.effects.specs.Plain.{isPlain, plainWithin};
 use crate::form;
-use crate::table;
+use instruction::opcode;
 
 pub fn is_plain(op: u8, row: u64) -> bool
     ensures { λ r. ⌜ r ≡ isPlain op row ⌝ }
 {
-    (op != table::SELECT_EXEC) & (row < 0x30000) & (row / 256 % 256 < 3)
+    (op != opcode::SELECT_EXEC) & (row < 0x30000) & (row / 256 % 256 < 3)
 }
 
 // Of a plain row and an instruction's word: no slot is at or past the limit.

@@ -11,6 +11,7 @@ use crate::form;
 use crate::select;
 use crate::table;
 use instruction::Instruction;
+use instruction::opcode;
 use unit::Metadata;
 
 // The k-th of packed forms.
@@ -26,7 +27,7 @@ pub fn read_count(i: Instruction, m: Metadata) -> usize
     ensures { λ r. ⌜ ((T : Tables) → r ≡ length (allReads T (record { instruction = i; metadata = m }))) ⌝ }
 {
     let op = i.op;
-    if op == table::SELECT_EXEC {
+    if op == opcode::SELECT_EXEC {
         return 2 * (m.second as usize);
     }
     (table::row(op) % 16) as usize
@@ -44,7 +45,7 @@ pub fn read_range(
     ensures { λ r. ⌜ r ≡ getD (allReads (tablesOf (now (functions .entry)) (now (externs .entry)) (now (cases .entry))) (record { instruction = i; metadata = m })) k emptyRange ⌝ }
 {
     let op = i.op;
-    if op == table::SELECT_EXEC {
+    if op == opcode::SELECT_EXEC {
         return select::case_read(k, m, cases);
     }
     let form = form_at(table::row(op) / 256, k);
@@ -56,7 +57,7 @@ pub fn write_count(i: Instruction, m: Metadata) -> usize
     ensures { λ r. ⌜ ((T : Tables) → r ≡ length (writes T (record { instruction = i; metadata = m }))) ⌝ }
 {
     let op = i.op;
-    if op == table::SELECT_EXEC {
+    if op == opcode::SELECT_EXEC {
         return 1 + (m.second as usize);
     }
     (table::row(op) / 16 % 16) as usize
@@ -74,7 +75,7 @@ pub fn write_range(
     ensures { λ r. ⌜ r ≡ getD (writes (tablesOf (now (functions .entry)) (now (externs .entry)) (now (cases .entry))) (record { instruction = i; metadata = m })) k emptyRange ⌝ }
 {
     let op = i.op;
-    if op != table::SELECT_EXEC {
+    if op != opcode::SELECT_EXEC {
         let form = form_at(table::row(op) / 1099511627776, k);
         return form::range_of(form, i, m, functions, externs);
     }

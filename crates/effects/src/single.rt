@@ -6,13 +6,25 @@ ghost use Rattle.instruction.specs.Instruction.{ofWord};
 ghost use Rattle.instruction.specs.declared.Class.{Class};
 ghost use Rattle.effects.specs.Single.{isSingle, readsFirst, readsSecond, singleWithin};
 use crate::form;
+use instruction::number;
+
+// Sets of classes, as bits by their numbers.
+const SINGLE: u64 = (1 << number::LOAD_INT)
+    | (1 << number::LOAD_CONST)
+    | (1 << number::COPY)
+    | (1 << number::UNARY)
+    | (1 << number::BINARY);
+
+const READING_FIRST: u64 = (1 << number::COPY) | (1 << number::UNARY) | (1 << number::BINARY);
+
+const READING_SECOND: u64 = 1 << number::BINARY;
 
 // Is it one of these? It writes slot a, and of single slots it reads b and c at most.
 pub fn is_single(k: u64) -> bool
     requires { ⌜ k < 15 ⌝ }
     ensures { λ r. ⌜ ((x : Class) → k ≡ numberOf x → r ≡ isSingle x) ⌝ }
 {
-    (110u64 >> k) % 2 == 1
+    (SINGLE >> k) % 2 == 1
 }
 
 // Of these, does it read b?
@@ -20,7 +32,7 @@ pub fn reads_first(k: u64) -> bool
     requires { ⌜ k < 15 ⌝ }
     ensures { λ r. ⌜ ((x : Class) → k ≡ numberOf x → r ≡ readsFirst x) ⌝ }
 {
-    (104u64 >> k) % 2 == 1
+    (READING_FIRST >> k) % 2 == 1
 }
 
 // And c?
@@ -28,7 +40,7 @@ pub fn reads_second(k: u64) -> bool
     requires { ⌜ k < 15 ⌝ }
     ensures { λ r. ⌜ ((x : Class) → k ≡ numberOf x → r ≡ readsSecond x) ⌝ }
 {
-    (64u64 >> k) % 2 == 1
+    (READING_SECOND >> k) % 2 == 1
 }
 
 // Of an instruction's word: no slot is at or past the limit.

@@ -16,8 +16,21 @@ ghost use Rattle.flow.specs.Block.{endsBlock};
 ghost use Rattle.flow.specs.Control.{Controls};
 use effects::Check;
 use instruction::Instruction;
+use instruction::number;
 use instruction::opcode;
 use unit::refusal;
+
+// Sets of classes, as bits by their numbers: all but Jump, Return, Panic and Invalid go on to the next place.
+const FALLING: u64 = (1 << number::INVALID)
+    - 1
+    - (1 << number::JUMP)
+    - (1 << number::RETURN)
+    - (1 << number::PANIC);
+
+const BRANCHES: u64 = (1 << number::JUMP)
+    | (1 << number::JUMP_IF)
+    | (1 << number::JUMP_IF_NOT)
+    | (1 << number::FOR_LOOP);
 
 // Does a block end after an instruction of that opcode? Most end none, and the number tells it fastest: Jump, JumpIf, JumpIfNot,
 // Return, Panic and ForLoop do.
@@ -25,7 +38,12 @@ pub fn ends_block(op: u8) -> bool
     ensures { λ r. ⌜ r ≡ endsBlock (classOf op) ⌝ }
 {
     match op {
-        57 | 58 | 59 | 64 | 111 | 124 => true,
+        opcode::JUMP
+        | opcode::JUMP_IF
+        | opcode::JUMP_IF_NOT
+        | opcode::RETURN
+        | opcode::PANIC
+        | opcode::FOR_LOOP => true,
         _ => false,
     }
 }
@@ -36,7 +54,7 @@ pub fn falls(k: u64) -> u64
     requires { ⌜ k < 15 ⌝ }
     ensures { λ r. ⌜ ((x : Class) → k ≡ numberOf x → r ≡ boolByte (falls x)) ⌝ }
 {
-    (10111u64 >> k) % 2
+    (FALLING >> k) % 2
 }
 
 // 1 if it may be at a branch's target.
@@ -44,7 +62,7 @@ pub fn branches(k: u64) -> u64
     requires { ⌜ k < 15 ⌝ }
     ensures { λ r. ⌜ ((x : Class) → k ≡ numberOf x → r ≡ boolByte (branches x)) ⌝ }
 {
-    (1920u64 >> k) % 2
+    (BRANCHES >> k) % 2
 }
 
 // The distance of a branch from its place, or of ForLoop from the next place.
@@ -61,7 +79,7 @@ pub fn branch_target(p: usize, i: Instruction, k: u64) -> u64
     requires { ⌜ (p ≤ maxInstructions) × (k ≡ numberOf (class i)) ⌝ }
     ensures { λ r. ⌜ (branches (class i) ≡ true → r ≡ target p i) ⌝ }
 {
-    let looped = k == 10;
+    let looped = k == number::FOR_LOOP;
     let from = (p as u64) + (looped as u64);
     std::num::wrapping_add_u64(from, distance(i, looped))
 }

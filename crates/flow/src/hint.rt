@@ -16,6 +16,7 @@ ghost use Rattle.flow.specs.Reach.{markAll};
 use crate::mark;
 use effects::Check;
 use instruction::Instruction;
+use instruction::opcode;
 use unit::Metadata;
 use unit::entry;
 use unit::refusal;
@@ -24,7 +25,7 @@ use words::fill;
 pub fn is_loop_hint(i: Instruction) -> bool
     ensures { λ r. ⌜ r ≡ isLoopHint i ⌝ }
 {
-    (i.op == 0) & (i.flags == 1)
+    (i.op == opcode::HINT) & (i.flags == 1)
 }
 
 // Is it LoopEnd with an end inside?

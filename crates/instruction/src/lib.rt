@@ -6,6 +6,7 @@ ghost use borrow.Rule.Slice.PartMut.{putMid};
 ghost use Rattle.words.specs.Le.{toLe};
 ghost use Rattle.instruction.specs.Instruction.{instructionAt, toWord, ofWord, imm32, imm32Unsigned, withImm32, plain, class, forLoopDistance, staticCallFuncId, callShapeIsClosure, callShapeStaticFuncId};
 
+pub mod number;
 pub mod opcode;
 
 // What an instruction is to the optimizer.

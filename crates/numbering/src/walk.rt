@@ -22,6 +22,7 @@ ghost use Rattle.values.specs.declared.Found.the-variants.{Nothing};
 use crate::Loaded;
 use instruction::Class;
 use instruction::Instruction;
+use instruction::opcode;
 use unit::Constant;
 use values::Atom;
 use values::Folded;
@@ -30,21 +31,12 @@ use values::entries;
 use values::fold;
 use values::table;
 
-// The opcodes that replaced instructions have.
-const HINT: u8 = 0;
-
-const LOAD_INT: u8 = 1;
-
-const COPY: u8 = 3;
-
-const JUMP: u8 = 57;
-
 // "A folded result becomes LoadInt exactly if its signed reading fits 32 bits; otherwise the instruction stays"
 fn load_or_stay(i: Instruction, v: u64) -> Instruction
     ensures { λ r. ⌜ r ≡ loadOrStay i v ⌝ }
 {
     if fold::fits_imm32(v) {
-        return Instruction::new(LOAD_INT, i.a, 0, 0).with_imm32((v % 4294967296) as u32);
+        return Instruction::new(opcode::LOAD_INT, i.a, 0, 0).with_imm32((v % 4294967296) as u32);
     }
     i
 }
@@ -91,7 +83,7 @@ fn copy_or_stay(t: &mut [u64], types: &[u8], n: usize, i: Instruction, d: u64) -
 {
     let a = i.a;
     match table::store(t, types, n, a, d) {
-        Found::At(r) => Instruction::new(COPY, i.a, r as u16, 0),
+        Found::At(r) => Instruction::new(opcode::COPY, i.a, r as u16, 0),
         Found::Nothing => i,
     }
 }
@@ -398,9 +390,9 @@ fn number_jump(t: &mut [u64], types: &[u8], n: usize, i: Instruction, zero: bool
         return undecided(t, types, n, i);
     };
     if taken(zero, v) {
-        return Instruction::new(JUMP, 0, i.b, i.c);
+        return Instruction::new(opcode::JUMP, 0, i.b, i.c);
     }
-    Instruction::new(HINT, 0, 0, 0)
+    Instruction::new(opcode::HINT, 0, 0, 0)
 }
 
 // "a one-scalar Return"

@@ -14,10 +14,8 @@ ghost use Rattle.answer.specs.Jump.{dropIdle, jumpRounds};
 ghost use Rattle.removal.specs.Jumping.{Rounds, idleIn, endsIn, mapOf};
 use flow::branch;
 use instruction::Instruction;
+use instruction::opcode;
 use pc_map::boundary;
-
-// Jump's number.
-const JUMP: u8 = 57;
 
 // "up to 16 rounds"
 const ROUNDS: usize = 16;
@@ -29,7 +27,7 @@ fn is_idle(words: &[u64], work: &[u32], p: usize) -> bool
 {
     let n = words.len();
     let i = Instruction::from_word(words[p]);
-    if i.op != JUMP {
+    if i.op != opcode::JUMP {
         return false;
     }
     if work[p] != 1 {

@@ -9,12 +9,13 @@ ghost use Rattle.flow.specs.Control.{Controls};
 ghost use Rattle.flow.specs.Loop.{isPlainHint};
 ghost use Rattle.answer.specs.Pass.{usefulPlaces};
 use instruction::Instruction;
+use instruction::opcode;
 
 // "Hint with flags 0"
 fn is_plain_hint(i: Instruction) -> bool
     ensures { λ r. ⌜ r ≡ isPlainHint i ⌝ }
 {
-    (i.op == 0) & (i.flags == 0)
+    (i.op == opcode::HINT) & (i.flags == 0)
 }
 
 // It is not kept, by the list of the control places.

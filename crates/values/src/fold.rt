@@ -8,6 +8,7 @@ ghost use Rattle.values.specs.Folded.{answered, expressionOf};
 ghost use Rattle.values.specs.declared.Atom.{Atom};
 use crate::Atom;
 use crate::Folded;
+use instruction::opcode;
 use words::word;
 
 // "comparisons and BoolNot give 1 or 0"
@@ -64,12 +65,12 @@ fn bit_word(op: u8, flags: u8, x: u64, y: u64) -> u64
     ensures { λ r. ⌜ r ≡ bitWord op flags x y ⌝ }
 {
     match op {
-        48 => x & y,
-        49 => x | y,
-        50 => x ^ y,
-        51 => x & !y,
-        52 => !x,
-        56 => word_of(x == 0),
+        opcode::AND => x & y,
+        opcode::OR => x | y,
+        opcode::XOR => x ^ y,
+        opcode::AND_NOT => x & !y,
+        opcode::NOT => !x,
+        opcode::BOOL_NOT => word_of(x == 0),
         _ => truncate(flags, x),
     }
 }
@@ -79,20 +80,20 @@ pub fn fold_word(op: u8, flags: u8, x: u64, y: u64) -> u64
     ensures { λ r. ⌜ r ≡ foldWord op flags x y ⌝ }
 {
     match op {
-        19 => std::num::wrapping_add_u64(x, y),
-        20 => std::num::wrapping_sub_u64(x, y),
-        21 => word::wrapping_mul(x, y),
-        26 => word::wrapping_neg(x),
-        32 => word_of(x == y),
-        33 => word_of(x != y),
-        34 => word_of(word::signed_less(x, y)),
-        35 => word_of(x < y),
-        36 => word_of(!word::signed_less(y, x)),
-        37 => word_of(x <= y),
-        38 => word_of(word::signed_less(y, x)),
-        39 => word_of(y < x),
-        40 => word_of(!word::signed_less(x, y)),
-        41 => word_of(y <= x),
+        opcode::ADD_I => std::num::wrapping_add_u64(x, y),
+        opcode::SUB_I => std::num::wrapping_sub_u64(x, y),
+        opcode::MUL_I => word::wrapping_mul(x, y),
+        opcode::NEG_I => word::wrapping_neg(x),
+        opcode::EQ_I => word_of(x == y),
+        opcode::NE_I => word_of(x != y),
+        opcode::LT_I => word_of(word::signed_less(x, y)),
+        opcode::LT_U => word_of(x < y),
+        opcode::LE_I => word_of(!word::signed_less(y, x)),
+        opcode::LE_U => word_of(x <= y),
+        opcode::GT_I => word_of(word::signed_less(y, x)),
+        opcode::GT_U => word_of(y < x),
+        opcode::GE_I => word_of(!word::signed_less(x, y)),
+        opcode::GE_U => word_of(y <= x),
         _ => bit_word(op, flags, x, y),
     }
 }
@@ -112,16 +113,16 @@ pub fn fits_imm32(v: u64) -> bool
 fn folds_unary(op: u8) -> bool
     ensures { λ r. ⌜ r ≡ isIn op foldingUnary ⌝ }
 {
-    if op == 26 {
+    if op == opcode::NEG_I {
         return true;
     }
-    if op == 52 {
+    if op == opcode::NOT {
         return true;
     }
-    if op == 56 {
+    if op == opcode::BOOL_NOT {
         return true;
     }
-    op == 120
+    op == opcode::TRUNC
 }
 
 // AddI to MulI, EqI to GeU, And to AndNot.
