@@ -95,6 +95,13 @@ module _ {words list : List ℕ} {n : ℕ} (c : Controls words list n) (P : ℕ 
   back-first : P (getD list 0 n) → P 0
   back-first = skip-first c (λ q. P q → P 0) (λ p l e f x. f (step p l e x)) (λ x. x)
 
+-- what one place does: an idle jump's flag is cleared, and a kept place is the next
+abbrev pub Drops : Bool → ℕ → List ℕ → Bool → List ℕ → Bool → Type 0
+Drops idle p work dropped work′ dropped′ = ((idle ≡ true) × (work′ ≡ set work p 0) × (dropped′ ≡ true)) ⊎ ((idle ≡ false) × (work′ ≡ work) × (dropped′ ≡ dropped))
+
+abbrev pub Takes : Bool → ℕ → ℕ → ℕ → Type 0
+Takes kept p next next′ = ((kept ≡ true) × (next′ ≡ p)) ⊎ ((kept ≡ false) × (next′ ≡ next))
+
 -- The listed places from the k-th on are done, and all others from `end` on; `next` is the lowest that was kept from there on.
 pub record Walked (words list work₀ work : List ℕ) (dropped : Bool) (next end k : ℕ) : Type 0 where
   pub listed : k ≤ length list
@@ -169,8 +176,7 @@ module _ {words list work₀ : List ℕ} (r : Rounds words (length work₀)) (c 
 
         -- it is done
         pub walk-on : (idle : Bool) (work′ : List ℕ) (dropped′ : Bool) (next″ : ℕ) → idle ≡ idleIn (length words) work kept next′ p (ofWord (getD words p 0))
-            → ((idle ≡ true) × (work′ ≡ set work p 0) × (dropped′ ≡ true)) ⊎ ((idle ≡ false) × (work′ ≡ work) × (dropped′ ≡ dropped))
-            → ((kept ≡ true) × (next″ ≡ p)) ⊎ ((kept ≡ false) × (next″ ≡ next′)) → Walked words list work₀ work′ dropped′ next″ p (k - 1)
+            → Drops idle p work dropped work′ dropped′ → Takes kept p next′ next″ → Walked words list work₀ work′ dropped′ next″ p (k - 1)
         walk-on idle work′ dropped′ next″ e f g = record {
           listed = omega (arith, few);
           place = same-default list (k - 1) 0 (length words) few;
@@ -180,15 +186,15 @@ module _ {words list work₀ : List ℕ} (r : Rounds words (length work₀)) (c 
           same = same f;
         }
           where
-            lowest : ((kept ≡ true) × (next″ ≡ p)) ⊎ ((kept ≡ false) × (next″ ≡ next′)) → next″ ≡ keptFrom (keepIn words work₀) p
+            lowest : Takes kept p next′ next″ → next″ ≡ keptFrom (keepIn words work₀) p
             lowest (inl y) = y .1 ∙ sym (from-kept (keepIn words work₀) p (sym was ∙ y .0))
             lowest (inr n) = n .1 ∙ is ∙ sym (from-dropped (keepIn words work₀) p (sym was ∙ n .0))
 
-            step : ((idle ≡ true) × (work′ ≡ set work p 0) × (dropped′ ≡ true)) ⊎ ((idle ≡ false) × (work′ ≡ work) × (dropped′ ≡ dropped)) → Step (idleAt words work₀) work₀ work work′ p
+            step : Drops idle p work dropped work′ dropped′ → Step (idleAt words work₀) work₀ work work′ p
             step (inl y) = rw (y .1) (step-on p (omega (arith, walk-inside, before .long, r .long)) (sym test ∙ sym e ∙ y .0))
             step (inr n) = rw (n .1) (step-off p (before .rest p (λ a b. omega arith)) (sym test ∙ sym e ∙ n .0))
 
-            same : ((idle ≡ true) × (work′ ≡ set work p 0) × (dropped′ ≡ true)) ⊎ ((idle ≡ false) × (work′ ≡ work) × (dropped′ ≡ dropped)) → dropped′ ≡ false → work′ ≡ work₀
+            same : Drops idle p work dropped work′ dropped′ → dropped′ ≡ false → work′ ≡ work₀
             same (inl y) z = absurd (true≢false (sym (y .2) ∙ z))
             same (inr n) z = n .1 ∙ w .same (sym (n .2) ∙ z)
 

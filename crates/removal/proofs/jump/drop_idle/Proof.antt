@@ -1,11 +1,12 @@
 use mathlib.Core.Path.{_≡_, refl, _∙_}
 use mathlib.Core.Logic.{⊎-elim, inl, inr}
-use Prim.Native.Nat.{_-_, _<_}
+use Prim.Native.Nat.{ℕ, _-_, _<_}
 use native.Mathlib.Numerals.{add-one}
 use native.Mathlib.Omega.{arith}
+use lib.Dec.{eqb}
 use lib.ListN.{length, getD}
 use Rattle.removal.specs.Next.{nextKept}
-use Rattle.removal.specs.Rounding.{Walked, keepIn, walk-begin, walk-asks, walk-flags, walk-inside, walk-below, walk-on, walk-end, idle-dropped}
+use Rattle.removal.specs.Rounding.{Walked, Takes, keepIn, walk-begin, walk-asks, walk-flags, walk-inside, walk-below, walk-on, walk-end, idle-dropped}
 use borrow.Author.Needs.{needs}
 use Rattle.removal.proofs.jump.drop_idle.Statement.{statement}
 use Rattle.removal.proofs.jump.drop_idle.Tie as tie
@@ -66,23 +67,25 @@ mul-work c = let l = body (c .before .before .before .before) in omega (arith, i
 slice-write-work : tie.Need-slice-write-work Inv-loop μ-loop
 slice-write-work c = let l = body (c .before .before .before .before) in let s = start (l .before) in omega (arith, inside l, walk-asks (s .pre .0) (s .pre .1) (l .before .loop .inv) .long)
 
-loop-again : tie.Need-loop-again Inv-loop μ-loop
-loop-again c =
-    let i = c .before .before in
+-- the place is done, whichever way it came here
+again : (j : tie.Joined1 Inv-loop μ-loop) (next : ℕ) → let l = body (j .before .before .before .before) in
+    let a = start (l .before) .args in
+    let p = getD (a .list .now) (l .before .loop .k - 1) 0 in
+    Takes (eqb (getD (l .before .loop .work) p 0) 1) p (j .before .before .before .before .lowest-kept .result) next
+    → Walked (a .words .now) (a .list .now) (a .work .now) (j .if1 .work) (j .if1 .dropped) next p (l .before .loop .k - 1)
+again j next t =
+    let i = j .before in
     let f = i .before .before .before in
     let l = body f in
     let s = start (l .before) in
-    walk-on (s .pre .0) (s .pre .1) (l .before .loop .inv) (l .loop-test .taken) _ (found f) (i .is-idle .result) _ _ _ (i .is-idle .ensures)
-    (⊎-elim (λ w. inl (w .0 .taken, w .1, w .2)) (λ w. inr (w .0 .left, w .1, w .2)) (c .before .if1 .came)) (inl (c .if2 .taken, refl))
+    walk-on (s .pre .0) (s .pre .1) (l .before .loop .inv) (l .loop-test .taken) _ (found f) (i .is-idle .result) _ _ next (i .is-idle .ensures)
+    (⊎-elim (λ w. inl (w .0 .taken, w .1, w .2)) (λ w. inr (w .0 .left, w .1, w .2)) (j .if1 .came)) t
+
+loop-again : tie.Need-loop-again Inv-loop μ-loop
+loop-again c = again (c .before) _ (inl (c .if2 .taken, refl))
 
 loop-again-2 : tie.Need-loop-again-2 Inv-loop μ-loop
-loop-again-2 c =
-    let i = c .before .before in
-    let f = i .before .before .before in
-    let l = body f in
-    let s = start (l .before) in
-    walk-on (s .pre .0) (s .pre .1) (l .before .loop .inv) (l .loop-test .taken) _ (found f) (i .is-idle .result) _ _ _ (i .is-idle .ensures)
-    (⊎-elim (λ w. inl (w .0 .taken, w .1, w .2)) (λ w. inr (w .0 .left, w .1, w .2)) (c .before .if1 .came)) (inr (c .if2 .left, refl))
+loop-again-2 c = again (c .before) _ (inr (c .if2 .left, refl))
 
 same-length : tie.Need-same-length Inv-loop μ-loop
 same-length c = c .before .loop .inv .cleared .long
