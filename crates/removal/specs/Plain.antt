@@ -12,16 +12,16 @@ use Rattle.effects.specs.Cells.{cellsBy}
 use Rattle.flow.specs.Control.{isControl, no-plain-hint}
 use Rattle.flow.specs.Loop.{isPlainHint}
 use Rattle.answer.specs.Pass.{usefulPlaces}
-use Rattle.removal.specs.Cleared.{Cleared, cleared-off, cleared-cells}
+use Rattle.removal.specs.Cleared.{Cleared, step-off, cleared-up, cleared-cells}
 
 abbrev pub hintAt : List ℕ → ℕ → Bool
 hintAt words p = isPlainHint (ofWord (getD words p 0))
 
 -- what is no control place is no plain hint
-pub hints-idle : (words keep₀ keep : List ℕ) (p : ℕ) → p < length words → isControl (class (ofWord (getD words p 0))) ≡ false → Cleared (hintAt words) keep₀ keep p → Cleared (hintAt words) keep₀ keep (p + 1)
-hints-idle words keep₀ keep p h e c = cleared-off (hintAt words) keep₀ keep p c (no-plain-hint (ofWord (getD words p 0)) e)
+pub hints-idle : (words keep₀ keep : List ℕ) (p : ℕ) → p < length words → isControl (class (ofWord (getD words p 0))) ≡ false → Cleared (hintAt words) keep₀ keep 0 p → Cleared (hintAt words) keep₀ keep 0 (p + 1)
+hints-idle words keep₀ keep p h e c = cleared-up c (omega arith) (step-off p (c .rest p (λ a b. omega arith)) (no-plain-hint (ofWord (getD words p 0)) e))
 
-pub hints-dropped : (words keep₀ keep metadata : List ℕ) → length keep₀ ≡ length words → Cleared (hintAt words) keep₀ keep (length words) → keep ≡ usefulPlaces keep₀ (cellsBy words metadata)
+pub hints-dropped : (words keep₀ keep metadata : List ℕ) → length keep₀ ≡ length words → Cleared (hintAt words) keep₀ keep 0 (length words) → keep ≡ usefulPlaces keep₀ (cellsBy words metadata)
 unfolding usefulPlaces
 hints-dropped words keep₀ keep metadata e c =
     let whole : (l : List ℕ) → length l ≡ length words → take (length words) l ≡ l = λ l f. rw (← f) (take-length l) in

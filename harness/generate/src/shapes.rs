@@ -20,11 +20,12 @@ impl Shape {
     }
 }
 
-/// No law looks like these: loads of constants alone, and the worst known of our table, whose hash is fixed: constants chosen to
-/// fall in one bucket of it, along one path for as long as they can.
-pub const EXTREMES: [Shape; 2] = [
+/// No law looks like these: loads of constants alone; the worst known of our table, whose hash is fixed: constants chosen to
+/// fall in one bucket of it, along one path for as long as they can; and a row of jumps, which takes every jump round.
+pub const EXTREMES: [Shape; 3] = [
     Shape { name: "constants only", draw: constants_only },
     Shape { name: "one bucket", draw: one_bucket },
+    Shape { name: "row of jumps", draw: row_of_jumps },
 ];
 
 pub const SHAPES: [Shape; 5] = [
@@ -154,6 +155,20 @@ fn one_bucket(rng: &mut Rng, n: usize) -> Parts {
         let value = inverse.wrapping_mul(place as u64) << 32;
         draft.parts.constants.push(Constant::new(CONSTANT_INT, value));
         draft.op(Opcode::LoadConst, 0, (place % usize::from(HALF)) as u16, place as u16, 0);
+    }
+    end(draft)
+}
+
+/// Jumps in a row to the place after them, each also branched to: a round drops the last of them.
+fn row_of_jumps(rng: &mut Rng, n: usize) -> Parts {
+    let mut draft = frame(rng, n);
+    let first = n / 2;
+    while draft.place() < first {
+        let jump = first + draft.place();
+        draft.branch(Opcode::JumpIf, 0, jump as i64);
+    }
+    while draft.place() + 1 < n {
+        draft.branch(Opcode::Jump, 0, n as i64 - 1);
     }
     end(draft)
 }

@@ -5,14 +5,14 @@ use native.Mathlib.Omega.{arith}
 use lib.ListN.{length, getD}
 use Rattle.flow.specs.Control.{control-inside, at-control, skip-first, skip-next, skip-last}
 use Rattle.flow.specs.Loop.{isPlainHint}
-use Rattle.removal.specs.Cleared.{Cleared, cleared-none, cleared-on, cleared-off}
+use Rattle.removal.specs.Cleared.{Cleared, step-on, step-off, cleared-none, cleared-up}
 use Rattle.removal.specs.Plain.{hintAt, hints-idle, hints-dropped}
 use borrow.Author.Needs.{needs}
 use Rattle.removal.proofs.plain.drop_hints.Statement.{statement}
 use Rattle.removal.proofs.plain.drop_hints.Tie as tie
 
 abbrev Inv-loop : tie.InvT-loop
-Inv-loop words list keep₀ k₀ keep k = Cleared (hintAt words) keep₀ keep (getD list k (length words))
+Inv-loop words list keep₀ k₀ keep k = Cleared (hintAt words) keep₀ keep 0 (getD list k (length words))
 
 abbrev μ-loop : tie.MeasureT-loop
 μ-loop words list keep₀ k₀ keep k = length list - k
@@ -21,7 +21,7 @@ abbrev start : tie.At-loop Inv-loop μ-loop → tie.Start Inv-loop μ-loop
 start h = h .before .before .before .before
 
 loop-holds : tie.Need-loop-holds Inv-loop μ-loop
-loop-holds c = let s = c .before .before .before in skip-first (s .pre .2) (Cleared _ _ _) (hints-idle (s .args .words .now) _ _) (cleared-none _ _)
+loop-holds c = let s = c .before .before .before in skip-first (s .pre .2) (Cleared _ _ _ _) (hints-idle (s .args .words .now) _ _) (cleared-none _ _ 0)
 
 -- a listed place is one of the words
 inside : (l : tie.In-loop Inv-loop μ-loop) → let a = start (l .before) .args in getD (a .list .now) (l .before .loop .k) 0 < length (a .words .now)
@@ -46,13 +46,14 @@ loop-again c =
     let s = start h in
     let p = getD (s .args .list .now) (h .loop .k) 0 in
     let hint : c .before .is-plain-hint .result ≡ hintAt (s .args .words .now) p = c .before .is-plain-hint .ensures ∙ ap isPlainHint (c .before .before .from-word .ensures) in
-    let here : Cleared (hintAt (s .args .words .now)) (s .args .keep .now) (h .loop .keep) p = at-control (s .pre .2) (Cleared _ _ _) _ (l .loop-test .taken) (h .loop .inv) in
-    let next : Cleared (hintAt (s .args .words .now)) (s .args .keep .now) (c .if1 .keep) (p + 1) =
-    ⊎-elim
-    (λ w. rw (w .1) (cleared-on _ _ _ _ here (omega (arith, inside l, s .pre .0)) (sym hint ∙ w .0 .taken)))
-    (λ w. rw (w .1) (cleared-off _ _ _ _ here (sym hint ∙ w .0 .left)))
-    (c .if1 .came) in
-    skip-next (s .pre .2) (Cleared _ _ _) (hints-idle (s .args .words .now) _ _) _ (l .loop-test .taken) next
+    let here : Cleared (hintAt (s .args .words .now)) (s .args .keep .now) (h .loop .keep) 0 p = at-control (s .pre .2) (Cleared _ _ _ _) _ (l .loop-test .taken) (h .loop .inv) in
+    let next : Cleared (hintAt (s .args .words .now)) (s .args .keep .now) (c .if1 .keep) 0 (p + 1) =
+    cleared-up here (omega arith)
+    (⊎-elim
+    (λ w. rw (w .1) (step-on p (omega (arith, inside l, here .long, s .pre .0)) (sym hint ∙ w .0 .taken)))
+    (λ w. rw (w .1) (step-off p (here .rest p (λ a b. omega arith)) (sym hint ∙ w .0 .left)))
+    (c .if1 .came)) in
+    skip-next (s .pre .2) (Cleared _ _ _ _) (hints-idle (s .args .words .now) _ _) _ (l .loop-test .taken) next
 
 same-length : tie.Need-same-length Inv-loop μ-loop
 same-length c = c .before .loop .inv .long
@@ -61,7 +62,7 @@ returns : tie.Need-returns Inv-loop μ-loop
 returns c metadata =
     let h = c .before in
     let s = start h in
-    hints-dropped _ _ _ metadata (s .pre .0) (skip-last (s .pre .2) (Cleared _ _ _) (hints-idle (s .args .words .now) _ _) _ (c .loop-test .left) (h .loop .inv))
+    hints-dropped _ _ _ metadata (s .pre .0) (skip-last (s .pre .2) (Cleared _ _ _ _) (hints-idle (s .args .words .now) _ _) _ (c .loop-test .left) (h .loop .inv))
 
 pub drop-hints-spec : {M : Type 1} → statement M
 drop-hints-spec =
