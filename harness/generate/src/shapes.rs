@@ -27,8 +27,9 @@ pub const EXTREMES: [Shape; 2] = [
     Shape { name: "one bucket", draw: one_bucket },
 ];
 
-pub const SHAPES: [Shape; 5] = [
+pub const SHAPES: [Shape; 6] = [
     Shape { name: "material law", draw: laws::law },
+    Shape { name: "many slots", draw: laws::law_of_many_slots },
     Shape { name: "one block", draw: one_block },
     Shape { name: "blocks of 5 to 50", draw: short_blocks },
     Shape { name: "all different", draw: all_different },
