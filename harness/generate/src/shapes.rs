@@ -22,10 +22,8 @@ impl Shape {
 
 /// No law looks like these: loads of constants alone, and the worst known of our table, whose hash is fixed: constants chosen to
 /// fall in one bucket of it, along one path for as long as they can.
-pub const EXTREMES: [Shape; 2] = [
-    Shape { name: "constants only", draw: constants_only },
-    Shape { name: "one bucket", draw: one_bucket },
-];
+pub const EXTREMES: [Shape; 2] =
+    [Shape { name: "constants only", draw: constants_only }, Shape { name: "one bucket", draw: one_bucket }];
 
 pub const SHAPES: [Shape; 6] = [
     Shape { name: "material law", draw: laws::law },
@@ -157,4 +155,32 @@ fn one_bucket(rng: &mut Rng, n: usize) -> Parts {
         draft.op(Opcode::LoadConst, 0, (place % usize::from(HALF)) as u16, place as u16, 0);
     }
     end(draft)
+}
+
+#[cfg(test)]
+mod tests {
+    use super::*;
+    use std::collections::BTreeSet;
+    use unit::{Answer, Unit, TYPE_GC_BASE, TYPE_VALUE};
+
+    #[test]
+    fn shapes_are_rewritten() {
+        for shape in SHAPES.iter().chain(&EXTREMES) {
+            for n in [20, 200, 2_000] {
+                let answer = reference::pass(&shape.unit(1, n));
+                assert!(matches!(answer, Answer::Rewritten { .. }), "{} of {n}: {answer:?}", shape.name);
+            }
+        }
+    }
+
+    #[test]
+    fn many_slots_are_all_in_use() {
+        let bytes = laws::law_of_many_slots(&mut Rng::new(1, 65_536), 65_536).encode();
+        let unit = Unit::check(&bytes).unwrap();
+        let of_type = |slot_type| unit.types().filter(|&found| found == slot_type).count();
+        assert_eq!([TYPE_VALUE, TYPE_FLOAT, TYPE_GC_BASE].map(of_type), [400, 400, 6]);
+        let written = unit.code().filter(|found| is_arithmetic(found.op)).map(|found| found.a);
+        let followed = unit.code().filter(|found| found.op == Opcode::PtrGet as u8).map(|found| found.b);
+        assert_eq!(written.chain(followed).collect::<BTreeSet<u16>>().len(), 806);
+    }
 }
