@@ -4,3 +4,4 @@ pub mod Wordwise
 pub mod Free
 pub mod Single
 pub mod Branching
+pub mod Plain

@@ -35,7 +35,7 @@ fn masked(x: u64, m: u64, on: bool) -> u64
 }
 
 // The index, or 0.
-fn index_if(t: usize, when: bool) -> usize
+pub fn index_if(t: usize, when: bool) -> usize
     ensures { λ r. ⌜ r ≡ cond when t 0 ⌝ }
 {
     if when { t } else { 0 }

@@ -20,12 +20,15 @@ ghost use Rattle.use_def.specs.Sets.{Put, Same};
 ghost use Rattle.use_def.specs.Touched.{cell, Within, reading, writing, Fits, Before};
 ghost use Rattle.use_def.specs.Single.{SingleFits};
 ghost use Rattle.use_def.specs.Branching.{BranchFits};
+ghost use Rattle.use_def.specs.Plain.{Alike};
 use crate::row;
 use effects::Range;
 use effects::branching;
 use effects::form;
+use effects::plain;
 use effects::ranges;
 use effects::single;
+use effects::table;
 use instruction::Class;
 use instruction::Instruction;
 use unit::Metadata;
@@ -132,6 +135,17 @@ fn put_each_write(
     }
 }
 
+// Metadata with which the instruction has the ranges that it has with that of place p. Those of a plain opcode are the same with any:
+// the first entry does, which is in a cache, while that of a place far from the one before seldom is.
+fn told(i: Instruction, metadata: &[u8], p: usize) -> Metadata
+    requires { ⌜ metadataSize * p + metadataSize ≤ length (now metadata) ⌝ }
+    ensures { λ m. ⌜ Alike i m (metadataAt (now (metadata .entry)) p) ⌝ }
+{
+    let op = i.op;
+    let at = row::index_if(p, !plain::is_plain(op, table::row(op)));
+    entry::metadata(metadata, at)
+}
+
 // By class, or by its metadata where the class does not tell.
 pub fn put_reads(
     row: &mut [u64],
@@ -147,7 +161,7 @@ pub fn put_reads(
 {
     let c = i.class();
     if is_outside(c) {
-        let m = entry::metadata(metadata, p);
+        let m = told(i, metadata, p);
         put_each_read(row, i, m, functions, externs, cases);
         return;
     }
@@ -170,7 +184,7 @@ pub fn put_writes(
 {
     let c = i.class();
     if is_outside(c) {
-        let m = entry::metadata(metadata, p);
+        let m = told(i, metadata, p);
         put_each_write(row, on, i, m, functions, externs, cases);
         return;
     }

@@ -28,8 +28,9 @@ pub const EXTREMES: [Shape; 3] = [
     Shape { name: "row of jumps", draw: row_of_jumps },
 ];
 
-pub const SHAPES: [Shape; 5] = [
+pub const SHAPES: [Shape; 6] = [
     Shape { name: "material law", draw: laws::law },
+    Shape { name: "many slots", draw: laws::law_of_many_slots },
     Shape { name: "one block", draw: one_block },
     Shape { name: "blocks of 5 to 50", draw: short_blocks },
     Shape { name: "all different", draw: all_different },
@@ -171,4 +172,32 @@ fn row_of_jumps(rng: &mut Rng, n: usize) -> Parts {
         draft.branch(Opcode::Jump, 0, n as i64 - 1);
     }
     end(draft)
+}
+
+#[cfg(test)]
+mod tests {
+    use super::*;
+    use std::collections::BTreeSet;
+    use unit::{Answer, Unit, TYPE_GC_BASE, TYPE_VALUE};
+
+    #[test]
+    fn shapes_are_rewritten() {
+        for shape in SHAPES.iter().chain(&EXTREMES) {
+            for n in [20, 200, 2_000] {
+                let answer = reference::pass(&shape.unit(1, n));
+                assert!(matches!(answer, Answer::Rewritten { .. }), "{} of {n}: {answer:?}", shape.name);
+            }
+        }
+    }
+
+    #[test]
+    fn many_slots_are_all_in_use() {
+        let bytes = laws::law_of_many_slots(&mut Rng::new(1, 65_536), 65_536).encode();
+        let unit = Unit::check(&bytes).unwrap();
+        let of_type = |slot_type| unit.types().filter(|&found| found == slot_type).count();
+        assert_eq!([TYPE_VALUE, TYPE_FLOAT, TYPE_GC_BASE].map(of_type), [400, 400, 6]);
+        let written = unit.code().filter(|found| is_arithmetic(found.op)).map(|found| found.a);
+        let followed = unit.code().filter(|found| found.op == Opcode::PtrGet as u8).map(|found| found.b);
+        assert_eq!(written.chain(followed).collect::<BTreeSet<u16>>().len(), 806);
+    }
 }

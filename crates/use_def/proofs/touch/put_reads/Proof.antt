@@ -12,11 +12,15 @@ use Rattle.use_def.proofs.touch.put_reads.Tie as tie
 
 put-each-read-requires : tie.Need-put-each-read-requires
 put-each-read-requires c κs =
-    let f = c .before .before .before .before .before .before .before .before .before .before .pre .1 in
-    rw (c .before .metadata .ensures) (f .few, f .cases, f .reads-fit)
+    let s = c .before .before .before .before .before .before .before .before .before .before in
+    let f = s .pre .1 in
+    let d = c .before .told .ensures in
+    (f .few, d .cases (s .args .cases .now) (f .cases), rw (d .reads (tablesOf (s .args .functions .now) (s .args .externs .now) (s .args .cases .now))) (f .reads-fit))
 
 returns : tie.Need-returns
-returns c = rw (← c .before .before .before .before .metadata .ensures) (c .before .before .put-each-read .ensures)
+returns c =
+    let s = c .before .before .before .before .before .before .before .before .before .before .before .before .before in
+    rw (← c .before .before .before .before .told .ensures .reads (tablesOf (s .args .functions .now) (s .args .externs .now) (s .args .cases .now))) (c .before .before .put-each-read .ensures)
 
 put-range-requires : tie.Need-put-range-requires
 put-range-requires c κs =
