@@ -1,4 +1,4 @@
--- The answer of one pass for every bytes and every lengths of the lent buffers: document 01's table, from top to bottom.
+-- Definitions. The answer of one pass for every bytes and every lengths of the lent buffers: document 01's table, from top to bottom.
 -- Assumes nothing.
 use mathlib.Core.Bool.{Bool, cond, _&&_, _||_, not}
 use mathlib.Core.List.{List}

@@ -1,6 +1,6 @@
--- "Cleaning stops at the first pass that does not rewrite, or after 3, and adds the number of the last pass run, 1 where none ran."
+-- Definitions. "Cleaning stops at the first pass that does not rewrite, or after 3, and adds the number of the last pass run, 1 where none ran."
 -- Assumes nothing.
-use mathlib.Core.Bool.{Bool, cond, _&&_}
+use mathlib.Core.Bool.{Bool, _&&_}
 use mathlib.Core.List.{List, [], _∷_, map}
 use Prim.Native.Nat.{ℕ, zero, suc}
 use lib.Dec.{leb}

@@ -1,4 +1,4 @@
--- "then up to 16 rounds dropping a Jump, not a loop end, whose target's boundary is its own plus 1, by the map of the round's start"
+-- Definitions. "then up to 16 rounds dropping a Jump, not a loop end, whose target's boundary is its own plus 1, by the map of the round's start"
 -- Assumes nothing.
 use mathlib.Core.Bool.{Bool, false, cond, _&&_, not}
 use mathlib.Core.List.{List}

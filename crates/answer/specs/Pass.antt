@@ -1,4 +1,4 @@
--- One pass over the cells of a function: the answers from refusal 5 on, in the order of document 01's table.
+-- Definitions. One pass over the cells of a function: the answers from refusal 5 on, in the order of document 01's table.
 -- Assumes nothing.
 use mathlib.Core.Bool.{Bool, true, false, cond, _&&_, not}
 use mathlib.Core.List.{List, [], _∷_}

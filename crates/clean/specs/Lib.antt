@@ -1,5 +1,2 @@
-pub mod Placing
-pub mod Ready
-pub mod Later
-pub mod Cleaning
-pub mod First
+pub mod CleanAnswer
+pub mod laws

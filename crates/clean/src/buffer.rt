@@ -6,7 +6,7 @@ ghost use borrow.Rule.Slice.PartMut.{midOf, putMid};
 ghost use Rattle.words.specs.Le.{u32At};
 ghost use Rattle.unit.specs.Size.{maxInstructions};
 ghost use Rattle.unit.specs.Size.{placeSize};
-ghost use Rattle.clean.specs.Placing.{composed};
+ghost use Rattle.clean.specs.laws.Placing.{composed};
 use words::le;
 
 // The first n bytes of a buffer, at the front of another.

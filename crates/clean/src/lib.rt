@@ -10,9 +10,10 @@ ghost use Rattle.unit.specs.Size.{resultSize, maxInstructions};
 ghost use Rattle.answer.specs.Answer.{lentOf, sectionsOf, isSkipped, roomFor, afterRoom};
 ghost use Rattle.answer.specs.Clean.{cleanFrom, cleanedFirst, spareFor, cleanAnswer};
 ghost use Rattle.run.specs.Contract.{CleanContract, buffers, spares};
-ghost use Rattle.run.specs.Reading.{retainedIn};
-ghost use Rattle.clean.specs.Ready.{Ready};
-ghost use Rattle.clean.specs.Cleaning.{cleanedOf, AnswersCleaned, finished};
+ghost use Rattle.run.specs.laws.Reading.{retainedIn};
+ghost use Rattle.clean.specs.laws.Ready.{Ready};
+ghost use Rattle.clean.specs.laws.Cleaning.{finished};
+ghost use Rattle.clean.specs.CleanAnswer.{cleanedOf, AnswersCleaned};
 
 mod buffer;
 mod later;

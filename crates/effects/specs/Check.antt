@@ -1,4 +1,4 @@
--- The operands of every instruction: refusals 5, 6 and 7 "by lowest p: Invalid; effect error; a slot at or past s".
+-- Definitions. The operands of every instruction: refusals 5, 6 and 7 "by lowest p: Invalid; effect error; a slot at or past s".
 -- Assumes nothing.
 use mathlib.Core.Bool.{Bool, false, cond}
 use mathlib.Core.List.{List, [], _∷_, _++_}

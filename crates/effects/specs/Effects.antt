@@ -1,4 +1,4 @@
--- "each instruction declares ranges read, ranges written and, for the four Slot opcodes, an array range that counts as read"
+-- Definitions. "each instruction declares ranges read, ranges written and, for the four Slot opcodes, an array range that counts as read"
 -- Assumes nothing.
 use mathlib.Core.Bool.{Bool, true, false, cond, _&&_, _||_}
 use mathlib.Core.List.{List, [], _∷_, _++_, map}

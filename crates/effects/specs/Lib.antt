@@ -2,14 +2,4 @@ pub mod Shape
 pub mod Table
 pub mod Effects
 pub mod Check
-pub mod Cells
-pub mod Laws
-pub mod Form
-pub mod Rows
-pub mod Ranges
-pub mod Operands
-pub mod Plain
-pub mod ByClass
-pub mod Single
-pub mod Branching
-pub mod Sound
+pub mod laws

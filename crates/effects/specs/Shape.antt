@@ -1,4 +1,4 @@
--- The shape of an instruction's effects: what it needs to be told, and the ranges of slots that it then names.
+-- Definitions. The shape of an instruction's effects: what it needs to be told, and the ranges of slots that it then names.
 -- A shape stands for the opcodes of one arm of instruction_effects.rs (Table.antt says which).
 -- Assumes nothing.
 use mathlib.Core.Bool.{Bool, true, false, cond, _||_}

@@ -1,4 +1,4 @@
--- Which opcodes have which shape, arm by arm of instruction_effects.rs.
+-- Definitions. Which opcodes have which shape, arm by arm of instruction_effects.rs.
 -- Assumes nothing.
 use mathlib.Core.Bool.{cond}
 use mathlib.Core.List.{List, [], _∷_}

@@ -3,7 +3,7 @@ ghost use mathlib.Core.Path.{_≡_};
 ghost use Prim.Native.Nat.{_<_};
 ghost use Rattle.instruction.specs.Class.{numberOf};
 ghost use Rattle.instruction.specs.declared.Class.{Class};
-ghost use Rattle.effects.specs.Branching.{isBranching, readsCondition, isLoop};
+ghost use Rattle.effects.specs.laws.Branching.{isBranching, readsCondition, isLoop};
 use instruction::number;
 
 // Sets of classes, as bits by their numbers.

@@ -7,7 +7,7 @@ ghost use lib.Dec.{eqb};
 ghost use Rattle.unit.specs.Entry.{kindCallLayout, kindCallIfaceLayout, kindCallExternLayout};
 ghost use Rattle.effects.specs.Shape.{tablesOf, isThere, isKnown, met, callShape};
 ghost use Rattle.effects.specs.Effects.{demandsMet};
-ghost use Rattle.effects.specs.Form.{demandAt};
+ghost use Rattle.effects.specs.laws.Form.{demandAt};
 use crate::form;
 use crate::table;
 use instruction::Instruction;

@@ -7,8 +7,8 @@ ghost use Rattle.instruction.specs.Instruction.{ofWord, staticCallFuncId, callS
 ghost use Rattle.unit.specs.Entry.{functionAt};
 ghost use Rattle.unit.specs.declared.Metadata.{Metadata};
 ghost use Rattle.effects.specs.Shape.{Tables, rangeOf, tablesOf, paramSlots, returnSlots, externSlots, value, arguments};
-ghost use Rattle.effects.specs.Form.{formAt, emptyRange};
-ghost use Rattle.effects.specs.Plain.{slotOf};
+ghost use Rattle.effects.specs.laws.Form.{formAt, emptyRange};
+ghost use Rattle.effects.specs.laws.Plain.{slotOf};
 use crate::Range;
 use instruction::Instruction;
 use unit::Extern;

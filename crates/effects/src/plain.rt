@@ -3,7 +3,7 @@
 ghost use mathlib.Core.Path.{_≡_};
 ghost use Prim.Native.Nat.{_/_, _%_, _<_};
 ghost use Rattle.instruction.specs.Instruction.{ofWord};
-ghost use Rattle.effects.specs.Plain.{isPlain, plainWithin};
+ghost use Rattle.effects.specs.laws.Plain.{isPlain, plainWithin};
 use crate::form;
 use instruction::opcode;
 

@@ -4,7 +4,7 @@ ghost use Prim.Native.Nat.{_+_, _*_, _/_, _≤_, _<_};
 ghost use lib.ListN.{length, getD};
 ghost use Rattle.unit.specs.Size.{caseSize};
 ghost use Rattle.effects.specs.Effects.{caseReads, caseWrites};
-ghost use Rattle.effects.specs.Form.{emptyRange};
+ghost use Rattle.effects.specs.laws.Form.{emptyRange};
 use crate::Range;
 use unit::Metadata;
 use unit::entry;

@@ -4,7 +4,7 @@ ghost use Prim.Native.Nat.{_<_};
 ghost use Rattle.instruction.specs.Class.{numberOf};
 ghost use Rattle.instruction.specs.Instruction.{ofWord};
 ghost use Rattle.instruction.specs.declared.Class.{Class};
-ghost use Rattle.effects.specs.Single.{isSingle, readsFirst, readsSecond, singleWithin};
+ghost use Rattle.effects.specs.laws.Single.{isSingle, readsFirst, readsSecond, singleWithin};
 use crate::form;
 use instruction::number;
 

@@ -1,7 +1,7 @@
 // What each opcode reads, writes and demands. These are matches, one arm for each opcode, and no constant arrays: such a match becomes
 // a table of the program's constant data, while an array is built anew at each use.
 ghost use mathlib.Core.Path.{_≡_};
-ghost use Rattle.effects.specs.Form.{rowOf, demandRowOf};
+ghost use Rattle.effects.specs.laws.Form.{rowOf, demandRowOf};
 use instruction::opcode;
 
 // The ranges that an opcode reads and writes. The lowest byte has their numbers: reads, and 16 times writes. The next four bytes are

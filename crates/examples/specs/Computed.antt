@@ -1,6 +1,6 @@
 -- The definitions that answers and runs are computed by, crate by crate: to unfold a name here is to unfold all that its line names.
 -- Assumes nothing.
-use Rattle.words.specs.Bits as wordsBits
+use Rattle.words.specs.laws.Bits as wordsBits
 use Rattle.words.specs.Le as wordsLe
 use Rattle.words.specs.Lists as wordsLists
 use Rattle.words.specs.Word as wordsWord
@@ -9,7 +9,7 @@ use Rattle.instruction.specs.Instruction as instructionInstruction
 use Rattle.unit.specs.Entry as unitEntry
 use Rattle.unit.specs.Layout as unitLayout
 use Rattle.unit.specs.Result as unitResult
-use Rattle.effects.specs.Cells as effectsCells
+use Rattle.effects.specs.laws.Cells as effectsCells
 use Rattle.effects.specs.Check as effectsCheck
 use Rattle.effects.specs.Effects as effectsEffects
 use Rattle.effects.specs.Shape as effectsShape

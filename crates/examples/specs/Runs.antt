@@ -9,13 +9,14 @@ use native.Mathlib.Omega.{arith}
 use lib.Dec.{eqb}
 use lib.ListN.{length, replicate}
 use borrow.Author.Tests.{eq-eqb, eqb-true, eqb-false, not-true}
-use Rattle.words.specs.Truth.{left-true, right-true}
+use Rattle.words.specs.laws.Truth.{left-true, right-true}
 use Rattle.instruction.specs.Opcode as op
 use Rattle.instruction.specs.Instruction.{plain, withImm32}
 use Rattle.unit.specs.Entry.{typeValue}
-use Rattle.effects.specs.Shape.{Cell, Sections, tablesOf}
-use Rattle.run.specs.System.{System, after}
-use Rattle.run.specs.Machine.{Words, Event, Way, byReturn, byPanic, byReply, byCode, words, World, State, Program, step, wayOf, logOf, system, start, SameRuns}
+use Rattle.effects.specs.Shape.{Cell, tablesOf}
+use Rattle.run.specs.System.{System}
+use Rattle.run.specs.laws.System.{after}
+use Rattle.run.specs.Machine.{Words, Event, Way, byReturn, byPanic, byReply, byCode, words, World, State, step, wayOf, logOf, system, start, SameRuns}
 use Rattle.run.specs.Program.{Function, programOf}
 use Rattle.examples.specs.Computed.{runs}
 use Rattle.examples.specs.Unit.{cell, loadInt, three, return}

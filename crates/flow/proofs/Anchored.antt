@@ -9,14 +9,14 @@ use native.Mathlib.Omega.{arith}
 use lib.Dec.{eqb}
 use lib.ListN.{length, getD, replicate, length-replicate}
 use borrow.Rule.Slice.PartMut.{midOf, putMid}
-use Rattle.words.specs.Regions.{mid-long, get-mid, mid-put, put-long, Outside, outside-same, outside-part, outside-then, outside-front, outside-put}
+use Rattle.words.specs.laws.Regions.{mid-long, get-mid, mid-put, put-long, Outside, outside-same, outside-part, outside-then, outside-front, outside-put}
 use Rattle.instruction.specs.declared.Instruction.{Instruction}
 use Rattle.instruction.specs.Instruction.{class, ofWord}
 use Rattle.unit.specs.Entry.{metadataAt}
-use Rattle.effects.specs.Cells.{cellsBy}
-use Rattle.flow.specs.Control.{isControl}
+use Rattle.effects.specs.laws.Cells.{cellsBy}
+use Rattle.flow.specs.laws.Control.{isControl}
 use Rattle.flow.specs.Loop.{isLoopHint, anchors}
-use Rattle.flow.specs.Hints.{Anchoring, anchoring-begin, anchoring-turn, anchoring-idle, anchoring-end}
+use Rattle.flow.specs.laws.Hints.{Anchoring, anchoring-begin, anchoring-turn, anchoring-idle, anchoring-end}
 use Rattle.flow.specs.Reach.{markAll}
 
 pub record Anchored (words metadata xs : List ℕ) (at : ℕ) (w : List ℕ) (p : ℕ) : Type 0 where

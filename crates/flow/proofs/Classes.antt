@@ -7,11 +7,12 @@ use mathlib.Core.List.{List, [], _∷_}
 use Prim.Native.Nat.{ℕ}
 use types.Run.{OneOf}
 use denote.Enum.Declared.{tagOf}
-use Rattle.words.specs.Truth.{both}
+use Rattle.words.specs.laws.Truth.{both}
 use Rattle.instruction.proofs.Class.{the-type}
 use Rattle.instruction.specs.declared.Class.{Class}
 use Rattle.instruction.specs.declared.Class.the-variants.{Hint, LoadInt, LoadConst, Copy, CopyN, Unary, Binary, Jump, JumpIf, JumpIfNot, ForLoop, Return, Panic, Outside, Invalid}
-use Rattle.instruction.specs.Class.{numberOf, namedClass, named-number}
+use Rattle.instruction.specs.Class.{numberOf, namedClass}
+use Rattle.instruction.specs.laws.Class.{named-number}
 
 pub tag : (x : Class) → numberOf x ≡ tagOf the-type x
 unfolding numberOf

@@ -11,10 +11,10 @@ use lib.ListN.{length, getD, set, length-set}
 use lib.Seq.{getD-set-same}
 use mir.Val.{boolByte}
 use borrow.Rule.Slice.PartMut.{midOf}
-use Rattle.words.specs.Regions.{get-mid, mid-more, mid-set-after, Outside, outside-same, outside-set, outside-front}
+use Rattle.words.specs.laws.Regions.{get-mid, mid-more, mid-set-after, Outside, outside-same, outside-set, outside-front}
 use Rattle.instruction.specs.Instruction.{class, ofWord}
-use Rattle.flow.specs.BranchLaws.{byte-below}
-use Rattle.flow.specs.Control.{isControl, Controls, controls-none, controls-listed, controls-passed}
+use Rattle.flow.specs.laws.BranchLaws.{byte-below}
+use Rattle.flow.specs.laws.Control.{isControl, Controls, controls-none, controls-listed, controls-passed}
 
 pub record Controlling (xs : List ℕ) (n at : ℕ) (w : List ℕ) (count p : ℕ) : Type 0 where
   pub within : p ≤ n

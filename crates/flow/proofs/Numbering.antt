@@ -9,14 +9,15 @@ use native.Mathlib.Numerals.{add-one}
 use native.Mathlib.Omega.{arith}
 use lib.ListN.{length, getD, take, drop, set, length-set}
 use lib.Seq.{take-length, drop-drop, take-suc-set, take-set-le, drop-set-lt, set-split, append-snoc}
-use Rattle.words.specs.Lists.{sum, sum-take, tabulate}
+use Rattle.words.specs.Lists.{sum, tabulate}
+use Rattle.words.specs.laws.Lists.{sum-take}
 use borrow.Rule.Slice.PartMut.{midOf, putMid}
-use Rattle.words.specs.Regions.{mid-long, get-mid, mid-set, mid-set-before, mid-set-after, Outside, outside-same, outside-set, outside-front, outside-put}
-use Rattle.words.specs.Tabulate.{tabulated-turn, tabulated-end}
+use Rattle.words.specs.laws.Regions.{mid-long, get-mid, mid-set, mid-set-before, mid-set-after, Outside, outside-same, outside-set, outside-front, outside-put}
+use Rattle.words.specs.laws.Tabulate.{tabulated-turn, tabulated-end}
 use Rattle.flow.specs.Block.{blockOf}
-use Rattle.flow.specs.Blocks.{placesFrom, places-more, Numbered}
-use Rattle.flow.specs.Flags.{Flags, flag, sum-most, sum-first, sum-whole}
-use Rattle.flow.specs.Marks.{Marked}
+use Rattle.flow.specs.laws.Blocks.{placesFrom, places-more, Numbered}
+use Rattle.flow.specs.laws.Flags.{Flags, flag, sum-most, sum-first, sum-whole}
+use Rattle.flow.specs.laws.Marks.{Marked}
 
 pub record Numbering (l blocks starts₀ starts : List ℕ) (p count : ℕ) : Type 0 where
   pub within : p ≤ length l

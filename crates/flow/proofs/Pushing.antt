@@ -10,11 +10,11 @@ use Rattle.instruction.specs.declared.Instruction.{Instruction}
 use Rattle.instruction.specs.Instruction.{class, ofWord, imm32Unsigned}
 use Rattle.unit.specs.declared.Metadata.{Metadata}
 use Rattle.unit.specs.Entry.{kindLoopEnd, metadataAt}
-use Rattle.effects.specs.Cells.{cellOf}
+use Rattle.effects.specs.laws.Cells.{cellOf}
 use Rattle.flow.specs.Branch.{falls, branches, target}
 use Rattle.flow.specs.Loop.{isLoopHint, successors}
-use Rattle.flow.specs.Stack.{Pushed, push-none, push-then}
-use Rattle.flow.specs.Successors.{nearSuccessors, loopSuccessorsOf}
+use Rattle.flow.specs.laws.Stack.{Pushed, push-none, push-then}
+use Rattle.flow.specs.laws.Successors.{nearSuccessors, loopSuccessorsOf}
 
 module _ (n sp p : ℕ) (i : Instruction) (st : List ℕ) where
   pub push-near : (t : ℕ) (a b : Bool) {st₁ st₂ : List ℕ} {r₁ r₂ : ℕ} → a ≡ falls (class i) → Pushed n sp (cond a ((p + 1) ∷ []) []) st st₁ r₁

@@ -7,9 +7,9 @@ use native.Mathlib.Nat.{add-zero, zero-add}
 use native.Mathlib.Omega.{arith}
 use lib.ListN.{length, set, replicate, length-replicate, length-set}
 use borrow.Rule.Slice.PartMut.{midOf, putMid}
-use Rattle.words.specs.Regions.{mid-long, mid-set, mid-set-after, mid-put, put-long, Outside, outside-same, outside-set, outside-part, outside-then, outside-put}
+use Rattle.words.specs.laws.Regions.{mid-long, mid-set, mid-set-after, mid-put, put-long, Outside, outside-same, outside-set, outside-part, outside-then, outside-put}
 use Rattle.flow.specs.Reach.{reached}
-use Rattle.flow.specs.Stack.{marksOf, stackOf, Walked, stand-begin, stand-end}
+use Rattle.flow.specs.laws.Stack.{marksOf, stackOf, Walked, stand-begin, stand-end}
 
 module _ (n : ℕ) (next : ℕ → List ℕ) where
   -- what the walk starts from: no marks, and place 0 on the stack

@@ -1,6 +1,5 @@
--- "A block starts at place 0, at each branch target, and after each Jump, JumpIf, JumpIfNot, ForLoop, Return and Panic."
+-- Definitions. "A block starts at place 0, at each branch target, and after each Jump, JumpIf, JumpIfNot, ForLoop, Return and Panic."
 -- Assumes nothing.
-use mathlib.Core.Path.{_≡_, refl}
 use mathlib.Core.Bool.{Bool, true, false, cond, _||_}
 use mathlib.Core.List.{List, [], _∷_}
 use Prim.Native.Nat.{ℕ, suc, _-_}
@@ -30,25 +29,6 @@ endsBlock Return = true
 endsBlock Panic = true
 endsBlock Outside = false
 endsBlock Invalid = false
-
--- a branch ends its block
-pub no-branch : (x : Class) → endsBlock x ≡ false → branches x ≡ false
-unfolding endsBlock branches
-no-branch Hint e = refl
-no-branch LoadInt e = refl
-no-branch LoadConst e = refl
-no-branch Copy e = refl
-no-branch CopyN e = refl
-no-branch Unary e = refl
-no-branch Binary e = refl
-no-branch Jump e = cc
-no-branch JumpIf e = cc
-no-branch JumpIfNot e = cc
-no-branch ForLoop e = cc
-no-branch Return e = refl
-no-branch Panic e = refl
-no-branch Outside e = refl
-no-branch Invalid e = refl
 
 -- the targets of all branches, of cells that stand from place p on
 unfoldable pub branchTargets : ℕ → List Cell → List ℕ

@@ -1,4 +1,4 @@
--- Branches and their targets.
+-- Definitions. Branches and their targets.
 -- Assumes nothing.
 use mathlib.Core.Bool.{Bool, true, false, cond}
 use mathlib.Core.List.{List}

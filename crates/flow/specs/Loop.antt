@@ -1,4 +1,4 @@
--- Loop hints, and the places that are reached "from place 0 by the rewritten branches; a sound loop hint, flags 1, also reaches
+-- Definitions. Loop hints, and the places that are reached "from place 0 by the rewritten branches; a sound loop hint, flags 1, also reaches
 -- its end and an exit below n, an unsound one only the next place".
 -- Assumes nothing.
 use mathlib.Core.Bool.{Bool, cond, _&&_}

@@ -1,4 +1,4 @@
--- What is reached. Places are the numbers below n; `next p` lists the successors of p, and a number of that list that is not
+-- Definitions. What is reached. Places are the numbers below n; `next p` lists the successors of p, and a number of that list that is not
 -- below n is none. Marks are a list of n numbers, 1 for a place that is reached and 0 for any other.
 -- Assumes nothing.
 use mathlib.Core.Bool.{Bool, true, false}

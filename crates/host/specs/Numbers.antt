@@ -1,12 +1,11 @@
--- Answers as numbers, for programs in other languages.
+-- Definitions. Answers as numbers, for programs in other languages.
 -- Assumes nothing.
-use mathlib.Core.Path.{_≡_}
 use Rattle.answer.specs.Pass.{Outcome}
 use Rattle.answer.specs.Clean.{Cleaned as Cleaning}
-use Rattle.optimize.specs.Parts.{answerOf}
+use Rattle.optimize.specs.PassAnswer.{answerOf}
 use Rattle.optimize.specs.declared.Answer.{Answer}
 use Rattle.optimize.specs.declared.Answer.the-variants.{Unchanged, Refused, Rewritten}
-use Rattle.clean.specs.Cleaning.{cleanedOf}
+use Rattle.clean.specs.CleanAnswer.{cleanedOf}
 use Rattle.clean.specs.declared.Cleaned.{Cleaned}
 use Rattle.host.specs.declared.Numbers.{Numbers}
 use Rattle.host.specs.declared.CleanedNumbers.{CleanedNumbers}
@@ -27,7 +26,3 @@ numbersOfOutcome o = numbersOf (answerOf o)
 
 abbrev pub numbersOfCleaning : Cleaning → CleanedNumbers
 numbersOfCleaning c = cleanedNumbersOf (cleanedOf c)
-
-pub cleaned-numbers : (c : Cleaned) (n : Numbers) → n ≡ numbersOf (c .answer) → _≡_ {A = CleanedNumbers} (record { kind = n .kind; number = n .number; place = n .place; passes = c .passes }) (cleanedNumbersOf c)
-unfolding cleanedNumbersOf
-cleaned-numbers c n e = rw e

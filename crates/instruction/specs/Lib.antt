@@ -1,4 +1,4 @@
 pub mod Opcode
 pub mod Class
 pub mod Instruction
-pub mod Laws
+pub mod laws

@@ -1,4 +1,4 @@
--- The opcodes of instruction.rs: "the opcode's number is its place in `Opcode`, from 0".
+-- Definitions. The opcodes of instruction.rs: "the opcode's number is its place in `Opcode`, from 0".
 -- Cited as op.AddI and so on, after `use .. Opcode as op`. Assumes nothing.
 use mathlib.Core.List.{List, [], _∷_}
 use Prim.Native.Nat.{ℕ}

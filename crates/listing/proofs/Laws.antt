@@ -17,14 +17,14 @@ use Rattle.words.specs.Le.{u32At}
 use Rattle.instruction.specs.declared.Instruction.{Instruction}
 use Rattle.instruction.specs.Instruction.{instructionAt}
 use Rattle.unit.specs.Result.{resultBytes, resultPlacesAt}
-use Rattle.unit.specs.Laws.{result-long}
+use Rattle.unit.specs.laws.Laws.{result-long}
 use Rattle.unit.specs.Size.{resultSize}
 use Rattle.answer.specs.Pass.{Outcome, unchanged, refused, rewritten, outputAfter}
 use Rattle.answer.specs.Answer.{Lent, lentOf, passAnswer}
 use Rattle.optimize.specs.declared.Answer.{Answer}
 use Rattle.optimize.specs.declared.Answer.the-variants.{Refused}
-use Rattle.optimize.specs.Parts.{answerOf}
-use Rattle.listing.specs.Puts.{Puts, Fits, puts-one, puts-long, puts-then, puts-text}
+use Rattle.optimize.specs.PassAnswer.{answerOf}
+use Rattle.listing.specs.laws.Puts.{Puts, Fits, puts-one, puts-long, puts-then, puts-text}
 use Rattle.listing.specs.Text.{decimal, ended, fields, line, textOf, listingWith, listing}
 
 cond-long : (t : Bool) (k : ℕ) (xs : List ℕ) → length xs ≤ k → length (cond t [] xs) ≤ k

@@ -1,4 +1,4 @@
--- What the listing program prints: "in decimal, the answer and then new place, old place, op, flags, a, b, c".
+-- Definitions. What the listing program prints: "in decimal, the answer and then new place, old place, op, flags, a, b, c".
 -- Assumes nothing.
 use mathlib.Core.Bool.{cond}
 use mathlib.Core.List.{List, [], _∷_, _++_}
@@ -15,7 +15,7 @@ use Rattle.answer.specs.Answer.{Lent, lentOf, passAnswer}
 use Rattle.answer.specs.Pass.{outputAfter}
 use Rattle.optimize.specs.declared.Answer.{Answer}
 use Rattle.optimize.specs.declared.Answer.the-variants.{Unchanged, Refused, Rewritten}
-use Rattle.optimize.specs.Parts.{answerOf}
+use Rattle.optimize.specs.PassAnswer.{answerOf}
 
 -- the decimal digits of v, the last k if it has more
 unfoldable pub decimal : ℕ → ℕ → List ℕ

@@ -5,7 +5,7 @@ ghost use lib.ListN.{length, take};
 ghost use Rattle.io.specs.Counts.{Counts};
 ghost use Rattle.answer.specs.Answer.{lentOf};
 ghost use Rattle.listing.specs.Text.{listing, listingWith};
-ghost use Rattle.listing.specs.Puts.{Puts};
+ghost use Rattle.listing.specs.laws.Puts.{Puts};
 use libc::STDIN_FILENO;
 use libc::STDOUT_FILENO;
 use optimize::Answer;

@@ -2,7 +2,7 @@
 ghost use Prim.Native.Nat.{_+_, _*_, _≤_, _<_};
 ghost use lib.ListN.{length};
 ghost use Rattle.listing.specs.Text.{ended, fields, line, lines, textOf};
-ghost use Rattle.listing.specs.Puts.{Puts, Listed, Fits};
+ghost use Rattle.listing.specs.laws.Puts.{Puts, Listed, Fits};
 use instruction::Instruction;
 use optimize::Answer;
 use unit::result;

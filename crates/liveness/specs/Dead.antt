@@ -1,4 +1,4 @@
--- "dead pure stores (all slots Value or Float, none live; empty CopyN too)"
+-- Definitions. "dead pure stores (all slots Value or Float, none live; empty CopyN too)"
 -- Assumes nothing.
 use mathlib.Core.Bool.{Bool, false, cond, not, _&&_}
 use mathlib.Core.List.{List, [], _∷_}

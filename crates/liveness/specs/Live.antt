@@ -1,4 +1,4 @@
--- Live slots. A row tells for each of the s slots whether it is live; there is one row for each block, the slots that are live
+-- Definitions. Live slots. A row tells for each of the s slots whether it is live; there is one row for each block, the slots that are live
 -- where the block starts.
 -- Assumes nothing.
 use mathlib.Core.Bool.{Bool, true, false, cond, not, _&&_, _||_, Bool·beq}

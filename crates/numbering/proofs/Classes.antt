@@ -19,8 +19,8 @@ use Rattle.effects.specs.Shape.{Sections}
 use Rattle.flow.proofs.Classes.{tag, of-tag}
 use Rattle.values.specs.Table.{Values, valueOf}
 use Rattle.values.specs.Number.{numberUnary, numberBinary, numberJump, cleared as clearedBy, numberBy}
-use Rattle.numbering.specs.Walk.{foldBy, secondOf, binaryClass, operatorClass, onZero, combined, operated, takes, pureBy, otherBy, by-other}
-use Rattle.values.specs.Named.{Named}
+use Rattle.numbering.specs.laws.Walk.{foldBy, secondOf, binaryClass, operatorClass, onZero, combined, operated, takes, pureBy, otherBy, by-other}
+use Rattle.values.specs.laws.Named.{Named}
 
 pub not-number : (k : Class) (ks : List ℕ) (j : ℕ) → (OneOf ks j → ⊥) → OneOf ks (variantOf class-type k) → eqb (numberOf k) j ≡ false
 not-number k ks j h o = ne-eqb (numberOf k) j (λ e. h (rw (sym (tag k) ∙ e) at o))

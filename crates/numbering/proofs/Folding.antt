@@ -10,9 +10,9 @@ use Rattle.words.specs.Lists.{isIn}
 use Rattle.values.specs.Fold.{foldingUnary, foldingBinary, foldWord}
 use Rattle.values.specs.Table.{Expression}
 use Rattle.values.specs.Number.{foldUnary, foldBinary}
-use Rattle.values.specs.Folded.{integerOf, answered, expressionOf}
-use Rattle.values.specs.Memory.{integerAt, atomAt}
-use Rattle.numbering.specs.Walk.{wordOf, foldBy}
+use Rattle.values.specs.laws.Folded.{integerOf, answered, expressionOf}
+use Rattle.values.specs.laws.Memory.{integerAt, atomAt}
+use Rattle.numbering.specs.laws.Walk.{wordOf, foldBy}
 use Rattle.values.specs.declared.Atom.{Atom}
 use Rattle.values.specs.declared.Atom.the-variants.{Integer, Float, Definition}
 use Rattle.values.specs.declared.Folded.{Folded}

@@ -11,12 +11,12 @@ use Rattle.instruction.specs.Instruction.{plain}
 use Rattle.effects.specs.Shape.{Tables}
 use Rattle.values.specs.Table.{Values, valueOf, expressionIn, recordedSlot}
 use Rattle.values.specs.Number.{copyOrStay}
-use Rattle.values.specs.Folded.{expressionOf}
-use Rattle.values.specs.Entries.{Key, value, newest}
-use Rattle.values.specs.Search.{newest-le}
-use Rattle.values.specs.Memory.{memoryOf, numberAt, expressionKey, slotFound, limit, usableAt, expressionIf, expressionAt, Ready, atomIn, atomFound, Holds}
-use Rattle.values.specs.Kept.{Kept, Same}
-use Rattle.numbering.specs.Walk.{sectionsOf, Room}
+use Rattle.values.specs.laws.Folded.{expressionOf}
+use Rattle.values.specs.laws.Entries.{Key, value, newest}
+use Rattle.values.specs.laws.Search.{newest-le}
+use Rattle.values.specs.laws.Memory.{memoryOf, numberAt, expressionKey, slotFound, limit, usableAt, expressionIf, expressionAt, Ready, atomIn, atomFound, Holds}
+use Rattle.values.specs.laws.Kept.{Kept, Same}
+use Rattle.numbering.specs.laws.Walk.{sectionsOf, Room}
 use Rattle.values.specs.declared.Atom.{Atom}
 use Rattle.values.specs.declared.Found.{Found}
 use Rattle.values.specs.declared.Found.the-variants.{At, Nothing}

@@ -12,16 +12,16 @@ use lib.ListN.{length, getD, set, take, drop, length-set}
 use lib.Seq.{take-suc-set, drop-cons, take-all, getD-set-other, drop-length}
 use borrow.Author.Tests.{ne-eqb}
 use borrow.Rule.Slice.PartMut.{midOf, putMid}
-use Rattle.words.specs.Regions.{mid-long, get-mid, mid-set, mid-set-before, mid-put, put-long, outside-same, outside-part, outside-front}
+use Rattle.words.specs.laws.Regions.{mid-long, get-mid, mid-set, mid-set-before, mid-put, put-long, outside-same, outside-part, outside-front}
 use Rattle.instruction.specs.declared.Instruction.{Instruction}
 use Rattle.instruction.specs.Instruction.{ofWord, toWord}
 use Rattle.effects.specs.Shape.{Tables, Cell}
-use Rattle.effects.specs.Cells.{cellsBy}
+use Rattle.effects.specs.laws.Cells.{cellsBy}
 use Rattle.values.specs.Table.{Values, empty}
 use Rattle.values.specs.Number.{number, numberCode}
-use Rattle.values.specs.Memory.{memoryOf, Ready, Holds}
-use Rattle.values.specs.Kept.{Kept, Clears}
-use Rattle.numbering.specs.Walk.{sectionsOf, Stands, Room, Becomes, numberWords, code-words, Begins, Enters, Turns}
+use Rattle.values.specs.laws.Memory.{memoryOf, Ready, Holds}
+use Rattle.values.specs.laws.Kept.{Kept, Clears}
+use Rattle.numbering.specs.laws.Walk.{sectionsOf, Stands, Room, Becomes, numberWords, code-words, Begins, Enters, Turns}
 use Rattle.values.proofs.Recording.{unchanged}
 use Rattle.numbering.proofs.Keeping.{kept-then}
 

@@ -7,11 +7,11 @@ use native.Mathlib.Omega.{arith}
 use lib.ListN.{length, getD, set, length-set, replicate, length-replicate, getD-replicate}
 use lib.Seq.{getD-set-same, getD-set-other}
 use borrow.Rule.Slice.PartMut.{putMid, midOf}
-use Rattle.words.specs.Regions.{mid-long, get-mid, get-before}
-use Rattle.values.specs.Entries.{Linked}
-use Rattle.values.specs.Adding.{no-entries}
-use Rattle.values.specs.Memory.{marksAt, constantsAt, expressionsAt, endAt, memoryOf}
-use Rattle.numbering.specs.Walk.{Begins}
+use Rattle.words.specs.laws.Regions.{mid-long, get-mid, get-before}
+use Rattle.values.specs.laws.Entries.{Linked}
+use Rattle.values.specs.laws.Adding.{no-entries}
+use Rattle.values.specs.laws.Memory.{marksAt, constantsAt, expressionsAt, endAt, memoryOf}
+use Rattle.numbering.specs.laws.Walk.{Begins}
 use Rattle.values.proofs.Parts.{put-length, part-put}
 use Rattle.values.proofs.Holding.{nothing-ordered, nothing-holds}
 

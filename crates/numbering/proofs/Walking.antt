@@ -19,11 +19,11 @@ use Rattle.values.specs.Fold.{fitsImm32}
 use Rattle.effects.specs.Shape.{Sections, Tables}
 use Rattle.values.specs.Table.{Values, Expression, valueOf, expressionIn, recordedSlot, representative, learn}
 use Rattle.values.specs.Number.{Numbered, setA, setB, setBC, loadOrStay, stored as storedBy, copyOrStay, byExpression, byValue, numberCopy, numberConstant, numberRead, decided, numberJump, cleared as clearedBy, numberBy}
-use Rattle.values.specs.Folded.{integerOf, expressionOf}
-use Rattle.values.specs.Entries.{Key}
-use Rattle.values.specs.Memory.{memoryOf, numberAt, constantOf, constantKey, expressionKey, limit, integerAt, expressionAt, Ready, atomIn, atomFound, Holds}
-use Rattle.values.specs.Kept.{Kept, Clears, Represents, Stores, Interns, Learns}
-use Rattle.numbering.specs.Walk.{sectionsOf, wordOf, Stands, Becomes, Second, secondNumber, foldBy, secondOf, atomOf, KindOf, combined, operated, scalarIn, undecidedBy, pureBy, otherBy}
+use Rattle.values.specs.laws.Folded.{integerOf, expressionOf}
+use Rattle.values.specs.laws.Entries.{Key}
+use Rattle.values.specs.laws.Memory.{memoryOf, numberAt, constantOf, constantKey, expressionKey, limit, integerAt, expressionAt, Ready, atomIn, atomFound, Holds}
+use Rattle.values.specs.laws.Kept.{Kept, Clears, Represents, Stores, Interns, Learns}
+use Rattle.numbering.specs.laws.Walk.{sectionsOf, wordOf, Stands, Becomes, Second, secondNumber, foldBy, secondOf, atomOf, KindOf, combined, operated, scalarIn, undecidedBy, pureBy, otherBy}
 use Rattle.values.specs.declared.Atom.{Atom}
 use Rattle.values.specs.declared.Atom.the-variants.{Integer, Float, Definition}
 use Rattle.values.specs.declared.Found.{Found}

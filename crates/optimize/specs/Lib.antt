@@ -1,8 +1,2 @@
-pub mod Parts
-pub mod Whole
-pub mod Steps
-pub mod Listing
-pub mod Numbered
-pub mod Chain
-pub mod Concluded
-pub mod Loading
+pub mod PassAnswer
+pub mod laws

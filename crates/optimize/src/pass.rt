@@ -7,7 +7,7 @@ ghost use Rattle.unit.specs.Layout.{headerOf, isUnit};
 ghost use Rattle.unit.specs.Size.{maxInstructions, maxLocalSlots};
 ghost use Rattle.answer.specs.Answer.{lentOf, isSkipped, roomFor, afterRoom, afterLayout, passAnswer};
 ghost use Rattle.run.specs.Contract.{PassContract, buffers};
-ghost use Rattle.optimize.specs.Parts.{Answers, answerOf};
+ghost use Rattle.optimize.specs.PassAnswer.{Answers, answerOf};
 use crate::Answer;
 use crate::parts;
 use unit::Counts;

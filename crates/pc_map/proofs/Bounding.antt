@@ -7,11 +7,12 @@ use native.Mathlib.Nat.{zero-add}
 use native.Mathlib.Omega.{arith}
 use lib.ListN.{length, getD, set}
 use borrow.Rule.Slice.PartMut.{midOf, putMid, put-same}
-use Rattle.words.specs.Lists.{sum, sum-take, tabulate, length-tabulate}
-use Rattle.words.specs.Regions.{mid-long, get-mid, put-long, get-before, tabulate-turn}
-use Rattle.flow.specs.Flags.{Flags}
+use Rattle.words.specs.Lists.{sum, tabulate}
+use Rattle.words.specs.laws.Lists.{sum-take, length-tabulate}
+use Rattle.words.specs.laws.Regions.{mid-long, get-mid, put-long, get-before, tabulate-turn}
+use Rattle.flow.specs.laws.Flags.{Flags}
 use Rattle.pc_map.specs.Boundary.{boundary}
-use Rattle.pc_map.specs.Boundaries.{boundary-most}
+use Rattle.pc_map.specs.laws.Boundaries.{boundary-most}
 
 pub record Bounding (xs : List ℕ) (n : ℕ) (w : List ℕ) (next p : ℕ) : Type 0 where
   pub within : p ≤ n

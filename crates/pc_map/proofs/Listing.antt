@@ -10,12 +10,13 @@ use native.Mathlib.Omega.{arith}
 use lib.ListN.{length, getD, set, drop, length-set, drop-of-length-le}
 use lib.Seq.{drop-cons, getD-set-same}
 use borrow.Rule.Slice.PartMut.{midOf}
-use Rattle.words.specs.Lists.{sum, sum-take}
-use Rattle.words.specs.Regions.{mid-long, get-mid, mid-more, mid-set-after, Outside, outside-same, outside-set, outside-front}
-use Rattle.flow.specs.Flags.{Flags, flag}
+use Rattle.words.specs.Lists.{sum}
+use Rattle.words.specs.laws.Lists.{sum-take}
+use Rattle.words.specs.laws.Regions.{mid-long, get-mid, mid-more, mid-set-after, Outside, outside-same, outside-set, outside-front}
+use Rattle.flow.specs.laws.Flags.{Flags, flag}
 use Rattle.pc_map.specs.Boundary.{boundary}
-use Rattle.pc_map.specs.Boundaries.{boundary-most}
-use Rattle.pc_map.specs.Listed.{keptFrom, keptList}
+use Rattle.pc_map.specs.laws.Boundaries.{boundary-most}
+use Rattle.pc_map.specs.laws.Listed.{keptFrom, keptList}
 
 pub record Listing (xs : List ℕ) (n at : ℕ) (w : List ℕ) (next p : ℕ) : Type 0 where
   pub within : p ≤ n

@@ -16,10 +16,10 @@ use Rattle.effects.specs.Shape.{Cell}
 use Rattle.flow.specs.Branch.{target}
 use Rattle.flow.specs.Loop.{isLoopHint}
 use Rattle.pc_map.specs.Boundary.{boundary}
-use Rattle.pc_map.specs.Boundaries.{Mapped, mapped-long, mapped-at, boundary-most}
+use Rattle.pc_map.specs.laws.Boundaries.{Mapped, mapped-long, mapped-at, boundary-most}
 use Rattle.pc_map.specs.Relocate.{movedJump, movedForLoop, relocateBy, relocate}
-use Rattle.pc_map.specs.Relocated.{cell, movedExit, moved-metadata}
-use Rattle.pc_map.specs.View.{instructionIn, moved-boundary}
+use Rattle.pc_map.specs.laws.Relocated.{cell, movedExit, moved-metadata}
+use Rattle.pc_map.specs.laws.View.{instructionIn, moved-boundary}
 use Rattle.pc_map.specs.declared.view.Moved.the-variants.{To}
 
 -- the low 16 bits of a difference modulo 2 ^ 32

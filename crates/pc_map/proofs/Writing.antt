@@ -9,24 +9,24 @@ use native.Mathlib.Omega.{arith}
 use lib.ListN.{length, getD, length-append}
 use borrow.Rule.Slice.PartMut.{putMid}
 use Rattle.words.specs.Le.{toLe}
-use Rattle.words.specs.Regions.{put-put}
+use Rattle.words.specs.laws.Regions.{put-put}
 use Rattle.instruction.specs.declared.Instruction.{Instruction}
 use Rattle.instruction.specs.Instruction.{toWord, ofWord, imm32Unsigned, class}
 use Rattle.unit.specs.declared.Metadata.{Metadata}
 use Rattle.unit.specs.Entry.{metadataAt, metadataBytes}
 use Rattle.unit.specs.Result.{Retained, resultMetadataAt, resultPlacesAt, resultHeader, codeBytes, metadataBytesAll, placeBytes, resultBytes}
-use Rattle.unit.specs.Laws.{result-header-long, code-bytes-long, metadata-bytes-all-long}
+use Rattle.unit.specs.laws.Laws.{result-header-long, code-bytes-long, metadata-bytes-all-long}
 use Rattle.unit.specs.Size.{resultHeaderSize, resultSize}
 use Rattle.effects.specs.Shape.{Cell, cellAt}
-use Rattle.effects.specs.Cells.{cellOf, cellsBy, cells-long, cell-at}
+use Rattle.effects.specs.laws.Cells.{cellOf, cellsBy, cells-long, cell-at}
 use Rattle.flow.specs.Branch.{branches, target}
 use Rattle.flow.specs.Loop.{isLoopHint}
-use Rattle.pc_map.specs.Listed.{keptList, kept-each}
+use Rattle.pc_map.specs.laws.Listed.{keptList, kept-each}
 use Rattle.pc_map.specs.Relocate.{relocate, retainFrom}
-use Rattle.pc_map.specs.Movable.{Movable}
-use Rattle.pc_map.specs.Relocated.{cell}
-use Rattle.pc_map.specs.Retaining.{retainedAt, retain-at, retain-many, Section, Written, written-begin, written-turn, written-end}
-use Rattle.pc_map.specs.View.{isRetained}
+use Rattle.pc_map.specs.laws.Movable.{Movable}
+use Rattle.pc_map.specs.laws.Relocated.{cell}
+use Rattle.pc_map.specs.laws.Retaining.{retainedAt, retain-at, retain-many, Section, Written, written-begin, written-turn, written-end}
+use Rattle.pc_map.specs.laws.View.{isRetained}
 
 -- what `relocate` asks of the instruction that was read
 pub asked : (n k p : ℕ) (i j : Instruction) → i ≡ j → k ≡ n + 1 → Movable n p j → (branches (class i) ≡ true → target p i < k) × (isLoopHint i ≡ true → imm32Unsigned i < k)

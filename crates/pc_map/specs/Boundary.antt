@@ -1,4 +1,4 @@
--- "The boundary of old place p (0 to n) is the number of retained instructions before p."
+-- Definitions. "The boundary of old place p (0 to n) is the number of retained instructions before p."
 -- Kept places are a list of numbers, 1 for a place that is retained and 0 for any other.
 -- Assumes nothing.
 use mathlib.Core.Bool.{Bool}

@@ -1,9 +1,3 @@
 pub mod Boundary
 pub mod Relocate
-pub mod Boundaries
-pub mod Relocated
-pub mod Moved
-pub mod Listed
-pub mod Retaining
-pub mod View
-pub mod Movable
+pub mod laws

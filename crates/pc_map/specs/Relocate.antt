@@ -1,4 +1,4 @@
--- Relocation: what is retained, with its branches moved.
+-- Definitions. Relocation: what is retained, with its branches moved.
 -- Assumes nothing.
 use mathlib.Core.Bool.{cond, _&&_}
 use mathlib.Core.List.{List, [], _∷_}

@@ -4,11 +4,11 @@ ghost use Prim.Native.Nat.{_+_, _*_, _≤_};
 ghost use lib.ListN.{length};
 ghost use borrow.Rule.Slice.PartMut.{midOf, putMid};
 ghost use Rattle.words.specs.Lists.{tabulate};
-ghost use Rattle.words.specs.Regions.{Outside};
+ghost use Rattle.words.specs.laws.Regions.{Outside};
 ghost use Rattle.unit.specs.Size.{maxInstructions};
-ghost use Rattle.flow.specs.Flags.{Flags};
+ghost use Rattle.flow.specs.laws.Flags.{Flags};
 ghost use Rattle.pc_map.specs.Boundary.{boundary};
-ghost use Rattle.pc_map.specs.Listed.{keptList};
+ghost use Rattle.pc_map.specs.laws.Listed.{keptList};
 
 // Stores the boundaries of the places 0 to n after the n flags. The result is the last, the number of retained instructions.
 pub fn boundaries(work: &mut [u32], n: usize) -> u32

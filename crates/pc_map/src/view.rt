@@ -3,7 +3,7 @@
 ghost use mathlib.Core.Path.{_≡_};
 ghost use Prim.Native.Nat.{_<_};
 ghost use lib.ListN.{length, getD};
-ghost use Rattle.pc_map.specs.View.{instructionIn};
+ghost use Rattle.pc_map.specs.laws.View.{instructionIn};
 
 pub struct PcMap<'a> {
     pub boundaries: &'a [u32],

@@ -1,4 +1,4 @@
--- What one pass and the cleaning promise, of what they are given and what they leave: a definition for each.
+-- Definitions. What one pass and the cleaning promise, of what they are given and what they leave: a definition for each.
 -- Assumes nothing.
 use mathlib.Core.Path.{_≡_}
 use mathlib.Core.List.{List}

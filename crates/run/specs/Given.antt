@@ -1,6 +1,6 @@
 -- Demand 3 for whole units: what one pass or the cleaning returns runs as the unit's function does.
 -- Assumes nothing.
-use mathlib.Core.Path.{_≡_, refl, sym, ap, _∙_}
+use mathlib.Core.Path.{_≡_, refl, ap}
 use mathlib.Core.Bool.{Bool, true, false, cond, not, _&&_, _||_, true≢false}
 use mathlib.Core.List.{List, [], _∷_, _++_}
 use mathlib.Core.Option.{some}
@@ -9,14 +9,16 @@ use native.Mathlib.Omega.{arith}
 use lib.Dec.{eqb, ltb}
 use lib.ListN.{length, drop, length-map, List·getD-map}
 use borrow.Author.Tests.{eqb-true}
-use Rattle.words.specs.Bytes.{Bytes, bytes-mid, le-fits}
-use Rattle.words.specs.Lists.{length-tabulate, getD-tabulate}
-use Rattle.instruction.specs.Instruction.{Fields, instructionAt}
+use Rattle.words.specs.Bytes.{Bytes}
+use Rattle.words.specs.laws.Bytes.{bytes-mid, le-fits}
+use Rattle.words.specs.laws.Lists.{length-tabulate, getD-tabulate}
+use Rattle.instruction.specs.Instruction.{instructionAt}
+use Rattle.instruction.specs.laws.Instruction.{Fields}
 use Rattle.unit.specs.declared.Constant.{Constant}
 use Rattle.unit.specs.declared.Constant.the-variants.{Nil, Bool as BoolConstant, Int, Float as FloatConstant, String, Missing}
 use Rattle.unit.specs.Entry.{metadataAt, constantOf, constantAt, constantKind, constantValue}
 use Rattle.unit.specs.Layout.{headerOf, codeOf, metadataOf, constantsOf, isUnit}
-use Rattle.unit.specs.Laws.{MetadataFields, unit-laid}
+use Rattle.unit.specs.laws.Laws.{MetadataFields, unit-laid}
 use Rattle.unit.specs.Result.{Retained, resultBytes, readResult}
 use Rattle.unit.specs.Size.{instructionSize, metadataSize, constantSize, resultSize, maxInstructions}
 use Rattle.unit.specs.Refusal.{notUnit, shortBuffer, metadataCount, typeCount}
@@ -27,15 +29,16 @@ use Rattle.values.specs.Number.{constantAtom}
 use Rattle.answer.specs.Pass.{Outcome, unchanged, refused, rewritten, outputAfter, isWorkedOn, optimized, pass}
 use Rattle.answer.specs.Answer.{Lent, cellsOf, sectionsOf, roomFor, isSkipped, afterRoom, afterSkipped, afterLayout, answerWith, passAnswer}
 use Rattle.answer.specs.Clean.{cellOf, cellsAfter, placedBy, afterPass, cleanFrom, cleanedFirst, spareFor, cleanAnswer}
-use Rattle.run.specs.Machine.{SameRuns, same-runs-refl, same-runs-trans}
+use Rattle.run.specs.Machine.{SameRuns}
+use Rattle.run.specs.laws.Machine.{same-runs-refl, same-runs-trans}
 use Rattle.run.specs.Program.{Function, programOf}
 use Rattle.run.specs.Returned.{givenFunction, resultFunction, outputFunction, RunsAlike}
-use Rattle.run.specs.Valuation.{Below, integer, float}
-use Rattle.run.specs.Relocated.{pick}
-use Rattle.run.specs.Checked.{Well}
-use Rattle.run.specs.Passed.{Good, worked-size, optimized-runs, pass-worked, pass-runs}
-use Rattle.run.specs.Reading.{AllFit, noRetained, result-back}
-use Rattle.run.specs.Fitting.{AllSound, Again, optimized-again, again-fits, placed-long, placed-fits}
+use Rattle.run.specs.laws.Valuation.{Below, integer, float}
+use Rattle.run.specs.laws.Relocated.{pick}
+use Rattle.run.specs.laws.Checked.{Well}
+use Rattle.run.specs.laws.Passed.{Good, worked-size, optimized-runs, pass-worked, pass-runs}
+use Rattle.run.specs.laws.Reading.{AllFit, noRetained, result-back}
+use Rattle.run.specs.laws.Fitting.{AllSound, Again, optimized-again, again-fits, placed-long, placed-fits}
 
 -- ---- the function of a unit of bytes is well
 

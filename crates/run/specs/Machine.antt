@@ -1,4 +1,4 @@
--- The machine of document 01's "How a function runs", over nodes: a node is what one instruction at its place does. Nothing here
+-- Definitions. The machine of document 01's "How a function runs", over nodes: a node is what one instruction at its place does. Nothing here
 -- knows of opcodes. Assumes nothing.
 use mathlib.Core.Path.{_≡_, refl}
 use mathlib.Core.Bool.{Bool, true, false, cond}
@@ -8,7 +8,8 @@ use Prim.Native.Nat.{ℕ, suc}
 use lib.Dec.{ltb, eqb}
 use native.Mathlib.Omega.{arith}
 use Rattle.unit.specs.declared.Metadata.{Metadata}
-use Rattle.run.specs.System.{System, Same, same-refl, same-trans}
+use Rattle.run.specs.System.{System}
+use Rattle.run.specs.laws.System.{Same}
 
 -- the words of the slots, by the slot's number; those of 64 bits are among them
 abbrev pub Words : Type 0
@@ -114,9 +115,3 @@ start σ = at 0 σ []
 -- Whole runs are the same, in every world and from all words.
 pub record SameRuns (F F′ : World → Program) : Type 0 where
   pub runs : (W : World) (σ : Words) → Same (system W (F W)) (start σ) (system W (F′ W)) (start σ)
-
-pub same-runs-refl : (F : World → Program) → SameRuns F F
-same-runs-refl F = record { runs = λ W σ. same-refl (system W (F W)) (start σ) }
-
-pub same-runs-trans : {F₁ F₂ F₃ : World → Program} → SameRuns F₁ F₂ → SameRuns F₂ F₃ → SameRuns F₁ F₃
-same-runs-trans p q = record { runs = λ W σ. same-trans (p .runs W σ) (q .runs W σ) }

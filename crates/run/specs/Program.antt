@@ -1,4 +1,4 @@
--- What each instruction does in a run: "Pure opcodes, Hint, Jump, JumpIf and JumpIfNot are silent. .. Every other instruction is
+-- Definitions. What each instruction does in a run: "Pure opcodes, Hint, Jump, JumpIf and JumpIfNot are silent. .. Every other instruction is
 -- outside". Assumes nothing.
 use mathlib.Core.Bool.{Bool, true, false, cond, not, _&&_}
 use mathlib.Core.List.{List, [], _∷_, _++_, map}

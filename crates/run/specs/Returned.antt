@@ -1,4 +1,4 @@
--- The function given and the function returned, and demand 3 as a claim about an answer and the output's bytes after it.
+-- Definitions. The function given and the function returned, and demand 3 as a claim about an answer and the output's bytes after it.
 -- Assumes nothing.
 use mathlib.Core.List.{List}
 use Prim.Native.Nat.{ℕ}

@@ -7,7 +7,7 @@ use native.Mathlib.Omega.{arith}
 use lib.ListN.{length}
 use borrow.Rule.Slice.PartMut.{putMid}
 use Rattle.words.specs.Le.{toLe}
-use Rattle.words.specs.Regions.{put-put}
+use Rattle.words.specs.laws.Regions.{put-put}
 
 pub four-words : (a v₁ v₂ v₃ v₄ : ℕ) (d : List ℕ) {d₁ d₂ d₃ d₄ : List ℕ} → a + 16 ≤ length d
     → d₁ ≡ putMid a 4 d (toLe 4 v₁) → d₂ ≡ putMid (a + 4) 4 d₁ (toLe 4 v₂) → d₃ ≡ putMid (a + 8) 4 d₂ (toLe 4 v₃) → d₄ ≡ putMid (a + 12) 4 d₃ (toLe 4 v₄)

@@ -1,4 +1,4 @@
--- The entries of the unit's sections, each read from its section's bytes.
+-- Definitions. The entries of the unit's sections, each read from its section's bytes.
 -- Assumes nothing.
 use mathlib.Core.Bool.{Bool, true, false, cond}
 use mathlib.Core.List.{List, _∷_, _++_}

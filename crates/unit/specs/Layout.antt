@@ -1,4 +1,4 @@
--- "The unit": its header, its sections, and whether bytes are one.
+-- Definitions. "The unit": its header, its sections, and whether bytes are one.
 -- Assumes nothing.
 use mathlib.Core.Bool.{Bool, false, cond, _&&_}
 use mathlib.Core.List.{List}

@@ -3,4 +3,4 @@ pub mod Size
 pub mod Entry
 pub mod Layout
 pub mod Result
-pub mod Laws
+pub mod laws

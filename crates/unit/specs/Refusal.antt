@@ -1,4 +1,4 @@
--- The refusal numbers of document 01's table of answers.
+-- Definitions. The refusal numbers of document 01's table of answers.
 -- Assumes nothing.
 use Prim.Native.Nat.{ℕ}
 

@@ -1,4 +1,4 @@
--- "Result: words n', 16, 16 + 8n', 16 + 24n'; then code, metadata, and each instruction's old place (32 bits)"
+-- Definitions. "Result: words n', 16, 16 + 8n', 16 + 24n'; then code, metadata, and each instruction's old place (32 bits)"
 -- Assumes nothing.
 use mathlib.Core.List.{List, [], _∷_, _++_}
 use Prim.Native.Nat.{ℕ, _+_, _*_}

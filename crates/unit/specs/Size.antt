@@ -1,7 +1,6 @@
--- Sizes: each number of document 01's layout and each lent buffer's length in one definition.
+-- Definitions. Sizes: each number of document 01's layout and each lent buffer's length in one definition.
 -- Assumes nothing.
-use Prim.Native.Nat.{ℕ, _+_, _*_, _/_, _≤_, min}
-use native.Mathlib.Omega.{arith}
+use Prim.Native.Nat.{ℕ, _+_, _*_, _/_, min}
 
 -- bytes of the header and of one entry of each section
 abbrev pub headerSize : ℕ
@@ -60,13 +59,6 @@ work64Room n s = 24 * n + 4 * s + setWords s + 3 * setWords s * min n (maxSetWor
 -- what liveness takes of it: the code, one set, and three sets of each block
 abbrev pub setsRoom : ℕ → ℕ → ℕ
 setsRoom n s = n + setWords s + 3 * setWords s * min n (maxSetWords / setWords s)
-
--- it leaves n words, where the list of the control places stands
-pub sets-fit : (n s : ℕ) → setsRoom n s + n ≤ work64Room n s
-sets-fit n s = more (3 * setWords s * min n (maxSetWords / setWords s)) (setWords s)
-  where
-    more : (sets w : ℕ) → n + w + sets + n ≤ 24 * n + 4 * s + w + sets
-    more sets w = omega arith
 
 -- the largest function that is worked on, and the largest number of local slots
 abbrev pub maxInstructions : ℕ

@@ -1,7 +1,1 @@
-pub mod Sets
-pub mod Touched
-pub mod Wordwise
-pub mod Free
-pub mod Single
-pub mod Branching
-pub mod Plain
+pub mod laws

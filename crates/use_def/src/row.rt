@@ -7,11 +7,11 @@ ghost use lib.Dec.{eqb};
 ghost use lib.Bits.{bitAnd, bitOr};
 ghost use lib.ListN.{length, replicate};
 ghost use borrow.Rule.Slice.PartMut.{midOf};
-ghost use Rattle.words.specs.Bits.{member};
+ghost use Rattle.words.specs.laws.Bits.{member};
 ghost use Rattle.effects.specs.Effects.{rangeHas, rangeWithin};
-ghost use Rattle.use_def.specs.Sets.{Put, range};
-ghost use Rattle.use_def.specs.Wordwise.{allBits, Moved};
-ghost use Rattle.words.specs.Only.{At, Only};
+ghost use Rattle.use_def.specs.laws.Sets.{Put, range};
+ghost use Rattle.use_def.specs.laws.Wordwise.{allBits, Moved};
+ghost use Rattle.words.specs.laws.Only.{At, Only};
 use effects::Range;
 use words::bits;
 

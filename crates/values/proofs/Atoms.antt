@@ -8,11 +8,11 @@ use Prim.Native.Nat.{ℕ, suc, _+_, _-_, _≤_, _<_}
 use native.Mathlib.Omega.{arith}
 use lib.Dec.{eqb, ltb}
 use borrow.Author.Tests.{eqb-true, eqb-false, eq-eqb, ne-eqb, lt-ltb, le-ltb, ltb-true, ltb-false}
-use Rattle.words.specs.Truth.{both, same-bool}
+use Rattle.words.specs.laws.Truth.{both, same-bool}
 use Rattle.values.specs.Table.{atStart, sameAtom}
-use Rattle.values.specs.Folded.{integerOf}
-use Rattle.values.specs.Entries.{Key, key, keyAt, newest}
-use Rattle.values.specs.Memory.{Memory, constantOf, constantKey, limit, atomAt, integerAt, Ordered, atomIn}
+use Rattle.values.specs.laws.Folded.{integerOf}
+use Rattle.values.specs.laws.Entries.{Key, key, keyAt, newest}
+use Rattle.values.specs.laws.Memory.{Memory, constantOf, constantKey, limit, atomAt, integerAt, Ordered, atomIn}
 use Rattle.values.specs.declared.Atom.{Atom}
 use Rattle.values.specs.declared.Atom.the-variants.{Integer, Float, Definition}
 

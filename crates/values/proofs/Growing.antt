@@ -10,12 +10,12 @@ use borrow.Author.Tests.{eqb-true, eq-eqb}
 use lib.ListN.{length, getD, set, length-set}
 use lib.Seq.{getD-set-same, getD-set-other}
 use borrow.Rule.Slice.PartMut.{putMid}
-use Rattle.words.specs.Regions.{mid-long, mid-set-before, get-before}
-use Rattle.words.specs.Truth.{both}
-use Rattle.values.specs.Entries.{Key, newest, Added}
-use Rattle.values.specs.Search.{newest-le, newest-key}
-use Rattle.values.specs.Memory.{part, marksAt, constantsAt, expressionsAt, endAt, Memory, memoryOf, constantOf, constantKey, expressionKey, limit, expressionIf, expressionAt, Ready}
-use Rattle.values.specs.Kept.{Interns, Learns}
+use Rattle.words.specs.laws.Regions.{mid-long, mid-set-before, get-before}
+use Rattle.words.specs.laws.Truth.{both}
+use Rattle.values.specs.laws.Entries.{Key, newest, Added}
+use Rattle.values.specs.laws.Search.{newest-le, newest-key}
+use Rattle.values.specs.laws.Memory.{part, marksAt, constantsAt, expressionsAt, endAt, Memory, memoryOf, constantOf, constantKey, expressionKey, limit, expressionIf, expressionAt, Ready}
+use Rattle.values.specs.laws.Kept.{Interns, Learns}
 use Rattle.values.specs.declared.Found.the-variants.{Nothing}
 use Rattle.values.proofs.Atoms.{atom-zero, atom-constant}
 use Rattle.values.proofs.Parts.{put-length, part-put, part-before, part-after}

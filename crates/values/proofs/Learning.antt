@@ -8,11 +8,11 @@ use Prim.Native.Nat.{ℕ, zero, suc, _+_, _*_, _-_, _/_, _%_, _≤_, _<_}
 use native.Mathlib.Omega.{arith}
 use lib.Dec.{eqb, ltb}
 use borrow.Author.Tests.{eqb-true, eqb-false, eq-eqb, ne-eqb, ltb-true, ltb-false}
-use Rattle.words.specs.Truth.{both, same-bool}
+use Rattle.words.specs.laws.Truth.{both, same-bool}
 use Rattle.values.specs.Table.{Values, Expression, slotIn, expressionIn, sameAtom, sameExpression, learn}
-use Rattle.values.specs.Entries.{Key, keyAt, value, newest, sameKey, Added}
-use Rattle.values.specs.Search.{same-key, key-same, newest-le, newest-key}
-use Rattle.values.specs.Memory.{Memory, numberAt, markedAt, constantOf, constantKey, expressionKey, slotFound, limit, expressionIf, expressionAt, Ordered, atomIn, atomFound, HasNumber, Holds}
+use Rattle.values.specs.laws.Entries.{Key, keyAt, value, newest, sameKey, Added}
+use Rattle.values.specs.laws.Search.{same-key, key-same, newest-le, newest-key}
+use Rattle.values.specs.laws.Memory.{Memory, numberAt, markedAt, constantOf, constantKey, expressionKey, slotFound, limit, expressionIf, expressionAt, Ordered, atomIn, atomFound, HasNumber, Holds}
 use Rattle.values.specs.declared.Atom.{Atom}
 use Rattle.values.specs.declared.Found.{Found}
 use Rattle.values.specs.declared.Found.the-variants.{At, Nothing}

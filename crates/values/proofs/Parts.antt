@@ -7,8 +7,8 @@ use native.Mathlib.Omega.{arith}
 use lib.ListN.{length, getD}
 use lib.Seq.{ext-getD}
 use borrow.Rule.Slice.PartMut.{putMid}
-use Rattle.words.specs.Regions.{mid-long, get-mid, mid-put, put-long, get-before, get-after}
-use Rattle.values.specs.Memory.{part}
+use Rattle.words.specs.laws.Regions.{mid-long, get-mid, mid-put, put-long, get-before, get-after}
+use Rattle.values.specs.laws.Memory.{part}
 
 module _ (a e : ℕ) (t u : List ℕ) (from : a ≤ e) (to : e ≤ length t) (long : length u ≡ e - a) where
   inside : a + (e - a) ≤ length t

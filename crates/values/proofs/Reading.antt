@@ -9,10 +9,10 @@ use native.Mathlib.Omega.{arith}
 use lib.Dec.{eqb}
 use lib.ListN.{length, getD}
 use borrow.Author.Tests.{eq-eqb, ne-eqb, lt-ltb, le-ltb}
-use Rattle.words.specs.Regions.{get-mid}
-use Rattle.values.specs.Entries.{Key, keyAt, newest}
-use Rattle.values.specs.Search.{newest-le}
-use Rattle.values.specs.Memory.{constantsAt, expressionsAt, endAt, Memory, memoryOf, numberAt, markedAt, markedOr, slotOr, usableIn, usableAt, integerAt, expressionIf, expressionAt, limit, Ready}
+use Rattle.words.specs.laws.Regions.{get-mid}
+use Rattle.values.specs.laws.Entries.{Key, keyAt, newest}
+use Rattle.values.specs.laws.Search.{newest-le}
+use Rattle.values.specs.laws.Memory.{constantsAt, expressionsAt, endAt, Memory, memoryOf, numberAt, markedAt, markedOr, slotOr, usableIn, usableAt, integerAt, expressionIf, expressionAt, limit, Ready}
 use Rattle.values.specs.declared.Found.{Found}
 use Rattle.values.specs.declared.Found.the-variants.{At, Nothing}
 use Rattle.values.proofs.Holding.{marked-low, usable-marked}

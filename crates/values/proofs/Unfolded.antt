@@ -8,7 +8,7 @@ use native.Mathlib.Omega.{arith}
 use types.Run.{OneOf}
 use denote.Enum.Declared.{tagOf}
 use Rattle.values.proofs.Atom.{the-type}
-use Rattle.values.specs.Folded.{answered}
+use Rattle.values.specs.laws.Folded.{answered}
 use Rattle.values.specs.Number.{foldUnary, foldBinary}
 use Rattle.values.specs.Table.{Expression}
 use Rattle.values.specs.declared.Atom.{Atom}

@@ -1,4 +1,4 @@
--- Folding: the words that integer opcodes give.
+-- Definitions. Folding: the words that integer opcodes give.
 -- "The 17 integer binary opcodes, NegI, Not, BoolNot and Trunc fold; sums and products wrap modulo 2^64; AndNot is &^ of the Go
 -- specification; comparisons and BoolNot give 1 or 0; Trunc keeps the low 1, 2 or 4 bytes by flags modulo 128 (otherwise the
 -- whole word), sign-extended where flags reach 128."

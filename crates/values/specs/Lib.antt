@@ -1,12 +1,4 @@
 pub mod Fold
-pub mod Bitwise
 pub mod Table
 pub mod Number
-pub mod Folded
-pub mod Entries
-pub mod Search
-pub mod Attaching
-pub mod Adding
-pub mod Memory
-pub mod Kept
-pub mod Named
+pub mod laws

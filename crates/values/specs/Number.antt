@@ -1,4 +1,4 @@
--- The walk over the function: each instruction rewritten by the values known before it.
+-- Definitions. The walk over the function: each instruction rewritten by the values known before it.
 -- Assumes nothing.
 use mathlib.Core.Bool.{Bool, cond, _&&_, _||_, not}
 use mathlib.Core.List.{List, [], _∷_}

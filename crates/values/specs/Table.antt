@@ -1,4 +1,4 @@
--- The table of values: "Within a block a slot's value is a known 64-bit integer, a float constant's bits, or a definition."
+-- Definitions. The table of values: "Within a block a slot's value is a known 64-bit integer, a float constant's bits, or a definition."
 -- Lists of entries, newest first: the first entry of a key counts.
 -- Assumes nothing.
 use mathlib.Core.Bool.{Bool, false, cond, _&&_}

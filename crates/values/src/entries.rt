@@ -6,7 +6,7 @@
 ghost use mathlib.Core.Path.{_≡_};
 ghost use Prim.Native.Nat.{_+_, _*_, _≤_, _<_};
 ghost use lib.ListN.{length};
-ghost use Rattle.values.specs.Entries.{key, childOf, linkOf, mixed, bucketOf, headAt, sameKey, keyIn, newest, Forward, Attached, Findable, Addable, Added};
+ghost use Rattle.values.specs.laws.Entries.{key, childOf, linkOf, mixed, bucketOf, headAt, sameKey, keyIn, newest, Forward, Attached, Findable, Addable, Added};
 use words::word;
 
 // A sum of products by odd constants: its high bits depend on all bits of the key.

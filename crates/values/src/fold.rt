@@ -4,7 +4,7 @@ ghost use Prim.Native.Nat.{_%_, _^_};
 ghost use Rattle.words.specs.Lists.{isIn};
 ghost use Rattle.values.specs.Fold.{bool, lowBits, trunc, bitWord, foldingUnary, foldingBinary, foldWord, fitsImm32};
 ghost use Rattle.values.specs.Number.{foldUnary, foldBinary};
-ghost use Rattle.values.specs.Folded.{answered, expressionOf};
+ghost use Rattle.values.specs.laws.Folded.{answered, expressionOf};
 ghost use Rattle.values.specs.declared.Atom.{Atom};
 use crate::Atom;
 use crate::Folded;

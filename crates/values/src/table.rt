@@ -5,10 +5,10 @@
 ghost use mathlib.Core.Path.{_≡_};
 ghost use Prim.Native.Nat.{ℕ, _+_, _*_, _≤_, _<_};
 ghost use lib.ListN.{length, getD};
-ghost use Rattle.values.specs.Entries.{key, bucketOf, headAt};
-ghost use Rattle.values.specs.Folded.{integerOf};
-ghost use Rattle.values.specs.Memory.{memoryOf, numberAt, markedAt, markedOr, slotOr, usableAt, expressionAt, expressionKey, integerAt, limit, Ready};
-ghost use Rattle.values.specs.Kept.{Clears, Represents, Stores, Interns, Learns};
+ghost use Rattle.values.specs.laws.Entries.{key, bucketOf, headAt};
+ghost use Rattle.values.specs.laws.Folded.{integerOf};
+ghost use Rattle.values.specs.laws.Memory.{memoryOf, numberAt, markedAt, markedOr, slotOr, usableAt, expressionAt, expressionKey, integerAt, limit, Ready};
+ghost use Rattle.values.specs.laws.Kept.{Clears, Represents, Stores, Interns, Learns};
 ghost use Rattle.values.specs.declared.Found.the-variants.{Nothing};
 use crate::Atom;
 use crate::Found;

@@ -1,12 +1,8 @@
--- Words of 64 bits: products modulo 2 ^ 64, and signed readings.
+-- Definitions. Words of 64 bits: products modulo 2 ^ 64, and signed readings.
 -- Assumes nothing.
-use mathlib.Core.Path.{_≡_, sym}
 use mathlib.Core.Bool.{Bool, cond}
-use Prim.Native.Nat.{ℕ, _+_, _*_, _-_, _/_, _%_, _^_, _<_, _≤_}
-use native.Mathlib.Nat.{mul-add, add-mul, mul-assoc, mul-right-comm, mul-mul-mul-comm, div-add-mod', mul-le-mul}
-use native.Mathlib.Omega.{arith}
+use Prim.Native.Nat.{ℕ, _+_, _-_, _%_, _^_}
 use lib.Dec.{ltb}
-use borrow.Author.Tests.{lt-ltb, le-ltb}
 
 -- a before b in the order of signed readings: turning the sign bit over makes it the order of the words
 abbrev pub signedLess : ℕ → ℕ → Bool
@@ -15,32 +11,3 @@ signedLess a b = ltb ((a + 2 ^ 63) % 2 ^ 64) ((b + 2 ^ 63) % 2 ^ 64)
 -- the word with the signed reading of a number of k bits
 unfoldable pub signExtend : ℕ → ℕ → ℕ
 signExtend k x = cond (ltb x (2 ^ (k - 1))) x (2 ^ 64 - (2 ^ k - x))
-
-pub sign-plus : (k x : ℕ) → x < 2 ^ (k - 1) → signExtend k x ≡ x
-unfolding signExtend
-sign-plus k x h = rw (lt-ltb x (2 ^ (k - 1)) h)
-
-pub sign-minus : (k x : ℕ) → 2 ^ (k - 1) ≤ x → signExtend k x ≡ 2 ^ 64 - (2 ^ k - x)
-unfolding signExtend
-sign-minus k x h = rw (le-ltb x (2 ^ (k - 1)) h)
-
--- a product of two halves fits a word
-pub halves : {a b : ℕ} → a < 4294967296 → b < 4294967296 → a * b < 2 ^ 64
-halves {a} {b} ha hb =
-    let x : a ≤ 4294967295 = omega arith in
-    let y : b ≤ 4294967295 = omega arith in
-    let z : a * b ≤ 4294967295 * 4294967295 = mul-le-mul x y in
-    omega arith
-
-expand : (a1 a0 b1 b0 : ℕ) → (a1 * 4294967296 + a0) * (b1 * 4294967296 + b0) ≡ a1 * b1 * 18446744073709551616 + a1 * b0 * 4294967296 + a0 * b1 * 4294967296 + a0 * b0
-expand a1 a0 b1 b0 =
-    let p : a1 * 4294967296 * (b1 * 4294967296) ≡ a1 * b1 * 18446744073709551616 = mul-mul-mul-comm a1 4294967296 b1 4294967296 in
-    let q : a1 * 4294967296 * b0 ≡ a1 * b0 * 4294967296 = mul-right-comm a1 4294967296 b0 in
-    let r : a0 * (b1 * 4294967296) ≡ a0 * b1 * 4294967296 = sym (mul-assoc a0 b1 4294967296) in
-    simp (add-mul, mul-add, p, q, r) (omega arith)
-
--- the product of the low halves and the sum of the cross products make the product
-pub mul-wraps : (a b : ℕ) → (a % 4294967296 * (b % 4294967296) + (a % 4294967296 * (b / 4294967296) % 4294967296 + a / 4294967296 * (b % 4294967296) % 4294967296) % 4294967296 * 4294967296) % 2 ^ 64 ≡ a * b % 2 ^ 64
-mul-wraps a b =
-    let e : a * b ≡ (a / 4294967296 * 4294967296 + a % 4294967296) * (b / 4294967296 * 4294967296 + b % 4294967296) = rw (div-add-mod' a 4294967296, div-add-mod' b 4294967296) in
-    rw (e, expand) (omega arith)

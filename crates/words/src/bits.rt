@@ -2,7 +2,7 @@
 ghost use mathlib.Core.Path.{_≡_};
 ghost use Prim.Native.Nat.{_*_, _<_};
 ghost use lib.ListN.{length};
-ghost use Rattle.words.specs.Bits.{member, inserted, removed};
+ghost use Rattle.words.specs.laws.Bits.{member, inserted, removed};
 
 pub fn contains(s: &[u64], i: usize) -> bool
     requires { ⌜ i < 64 * length (now s) ⌝ }

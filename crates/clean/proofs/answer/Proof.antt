@@ -1,8 +1,8 @@
 use mathlib.Core.Path.{sym, ap, _∙_}
 use Rattle.unit.specs.declared.Header.{Header}
-use Rattle.unit.specs.Laws.{layout-unit, layout-refused}
-use Rattle.clean.specs.Cleaning.{answers-cleaned, stop-answers, stopped}
-use Rattle.clean.specs.First.{clean-refused}
+use Rattle.unit.specs.laws.Laws.{layout-unit, layout-refused}
+use Rattle.clean.specs.laws.Cleaning.{answers-cleaned, stop-answers, stopped}
+use Rattle.clean.specs.laws.First.{clean-refused}
 use borrow.Author.Needs.{needs}
 use Rattle.clean.proofs.answer.Statement.{statement}
 use Rattle.clean.proofs.answer.Tie as tie

@@ -6,8 +6,8 @@ use lib.ListN.{length}
 use Rattle.unit.specs.Layout.{headerOf}
 use Rattle.answer.specs.Answer.{lentOf, isSkipped, roomFor}
 use Rattle.answer.specs.Clean.{spareFor}
-use Rattle.clean.specs.Cleaning.{answers-cleaned, stop-answers, ready-as}
-use Rattle.clean.specs.First.{unaltered-answers, room-first, first-unchanged, first-refused, first-ready, first-rewritten}
+use Rattle.clean.specs.laws.Cleaning.{answers-cleaned, stop-answers, ready-as}
+use Rattle.clean.specs.laws.First.{unaltered-answers, room-first, first-unchanged, first-refused, first-ready, first-rewritten}
 use borrow.Author.Needs.{needs}
 use Rattle.clean.proofs.first_pass.Statement.{statement}
 use Rattle.clean.proofs.first_pass.Tie as tie

@@ -1,5 +1,5 @@
 use mathlib.Core.Path.{refl, _∙_}
-use Rattle.clean.specs.Cleaning.{give-answers}
+use Rattle.clean.specs.laws.Cleaning.{give-answers}
 use borrow.Author.Needs.{needs}
 use Rattle.clean.proofs.give.Statement.{statement}
 use Rattle.clean.proofs.give.Tie as tie

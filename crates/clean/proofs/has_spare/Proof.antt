@@ -1,4 +1,4 @@
-use Rattle.clean.specs.First.{spare-test}
+use Rattle.clean.specs.laws.First.{spare-test}
 use borrow.Author.Needs.{needs}
 use Rattle.clean.proofs.has_spare.Statement.{statement}
 use Rattle.clean.proofs.has_spare.Tie as tie

@@ -3,12 +3,12 @@ use mathlib.Core.Path.{_≡_, sym, ap, _∙_}
 use mathlib.Core.Bool.{Bool, true, false, _&&_}
 use lib.ListN.{length}
 use Rattle.unit.specs.Layout.{headerOf}
-use Rattle.unit.specs.Laws.{unit-laid}
+use Rattle.unit.specs.laws.Laws.{unit-laid}
 use Rattle.answer.specs.Answer.{Lent, lentOf, isSkipped, roomFor}
 use Rattle.answer.specs.Clean.{spareFor}
-use Rattle.optimize.specs.Whole.{worked-on}
-use Rattle.clean.specs.Cleaning.{answers-cleaned, stop-answers}
-use Rattle.clean.specs.First.{unaltered-answers, clean-skipped, clean-short, clean-first}
+use Rattle.optimize.specs.laws.Whole.{worked-on}
+use Rattle.clean.specs.laws.Cleaning.{answers-cleaned, stop-answers}
+use Rattle.clean.specs.laws.First.{unaltered-answers, clean-skipped, clean-short, clean-first}
 use borrow.Author.Needs.{needs}
 use Rattle.clean.proofs.laid.Statement.{statement}
 use Rattle.clean.proofs.laid.Tie as tie

@@ -2,8 +2,8 @@ use Rattle.words.specs.Bytes.{Bytes}
 use mathlib.Core.Path.{refl}
 use native.Mathlib.Omega.{arith}
 use Rattle.answer.specs.Answer.{sectionsOf}
-use Rattle.run.specs.Reading.{retainedIn}
-use Rattle.clean.specs.Cleaning.{answers-cleaned, stop-answers, from-unchanged, from-refused, ready-as, next-ready, from-rewritten}
+use Rattle.run.specs.laws.Reading.{retainedIn}
+use Rattle.clean.specs.laws.Cleaning.{answers-cleaned, stop-answers, from-unchanged, from-refused, ready-as, next-ready, from-rewritten}
 use borrow.Author.Needs.{needs}
 use Rattle.clean.proofs.second_pass.Statement.{statement}
 use Rattle.clean.proofs.second_pass.Tie as tie

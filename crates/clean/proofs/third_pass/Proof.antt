@@ -3,8 +3,8 @@ use mathlib.Core.Path.{refl}
 use native.Mathlib.Omega.{arith}
 use Rattle.answer.specs.Answer.{sectionsOf}
 use Rattle.answer.specs.Clean.{cleanFrom}
-use Rattle.run.specs.Reading.{retainedIn}
-use Rattle.clean.specs.Cleaning.{answers-cleaned, stop-answers, from-unchanged, from-refused, next-ready, from-rewritten}
+use Rattle.run.specs.laws.Reading.{retainedIn}
+use Rattle.clean.specs.laws.Cleaning.{answers-cleaned, stop-answers, from-unchanged, from-refused, next-ready, from-rewritten}
 use borrow.Author.Needs.{needs}
 use Rattle.clean.proofs.third_pass.Statement.{statement}
 use Rattle.clean.proofs.third_pass.Tie as tie

@@ -1,5 +1,6 @@
 use mathlib.Core.Path.{ap, _∙_}
-use Rattle.host.specs.Numbers.{cleanedNumbersOf, cleaned-numbers}
+use Rattle.host.specs.Numbers.{cleanedNumbersOf}
+use Rattle.host.specs.laws.Numbers.{cleaned-numbers}
 use borrow.Author.Needs.{needs}
 use Rattle.host.proofs.lampruda_clean.Statement.{statement}
 use Rattle.host.proofs.lampruda_clean.Tie as tie

@@ -1,6 +1,6 @@
 use borrow.Author.Tests.{not-true, not-false}
 use Prim.Native.Nat.{_-_}
-use Rattle.words.specs.Every.{Passed, none-passed, more-passed, all-passed, one-failed}
+use Rattle.words.specs.laws.Every.{Passed, none-passed, more-passed, all-passed, one-failed}
 use Rattle.unit.specs.Entry.{goodMetadata, metadataAt}
 use borrow.Author.Needs.{needs}
 use Rattle.parse.proofs.every_metadata.Statement.{statement}

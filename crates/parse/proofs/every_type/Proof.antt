@@ -1,7 +1,7 @@
 use borrow.Author.Tests.{le-leb, lt-leb}
 use Prim.Native.Nat.{_-_}
 use lib.ListN.{length}
-use Rattle.words.specs.Every.{Passed, none-passed, more-passed, all-passed, one-failed}
+use Rattle.words.specs.laws.Every.{Passed, none-passed, more-passed, all-passed, one-failed}
 use Rattle.unit.specs.Entry.{goodType, typeAt}
 use borrow.Author.Needs.{needs}
 use Rattle.parse.proofs.every_type.Statement.{statement}

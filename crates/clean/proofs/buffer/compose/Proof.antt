@@ -5,7 +5,7 @@ use lib.ListN.{length}
 use borrow.Rule.Slice.PartMut.{putMid}
 use borrow.Author.Needs.{needs}
 use Rattle.unit.specs.Size.{placeSize}
-use Rattle.clean.specs.Placing.{composed, place-left, compose-turn, compose-end}
+use Rattle.clean.specs.laws.Placing.{composed, place-left, compose-turn, compose-end}
 use Rattle.clean.proofs.buffer.compose.Statement.{statement}
 use Rattle.clean.proofs.buffer.compose.Tie as tie
 

@@ -4,7 +4,7 @@ use native.Mathlib.Omega.{arith}
 use lib.ListN.{length, length-set}
 use borrow.Rule.Slice.PartMut.{midOf, putMid}
 use borrow.Author.Needs.{needs}
-use Rattle.clean.specs.Placing.{copy-turn}
+use Rattle.clean.specs.laws.Placing.{copy-turn}
 use Rattle.clean.proofs.buffer.copy.Statement.{statement}
 use Rattle.clean.proofs.buffer.copy.Tie as tie
 

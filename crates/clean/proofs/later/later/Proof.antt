@@ -1,7 +1,7 @@
 use Rattle.words.specs.Bytes.{Bytes}
 use mathlib.Core.Path.{refl}
 use native.Mathlib.Omega.{arith}
-use Rattle.clean.specs.Later.{small-answers, unchanged-answers, refused-answers, places-inside, rewritten-answers}
+use Rattle.clean.specs.laws.Later.{small-answers, unchanged-answers, refused-answers, places-inside, rewritten-answers}
 use borrow.Author.Needs.{needs}
 use Rattle.clean.proofs.later.later.Statement.{statement}
 use Rattle.clean.proofs.later.later.Tie as tie

@@ -1,4 +1,4 @@
-use Rattle.clean.specs.Later.{place-asks, place-puts}
+use Rattle.clean.specs.laws.Later.{place-asks, place-puts}
 use borrow.Author.Needs.{needs}
 use Rattle.clean.proofs.later.place.Statement.{statement}
 use Rattle.clean.proofs.later.place.Tie as tie

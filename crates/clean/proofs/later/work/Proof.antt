@@ -1,7 +1,7 @@
 use Rattle.words.specs.Bytes.{Bytes}
 use native.Mathlib.Omega.{arith}
-use Rattle.optimize.specs.Parts.{answers-same}
-use Rattle.clean.specs.Ready.{code-part, metadata-part, later-given, later-answer}
+use Rattle.optimize.specs.laws.Parts.{answers-same}
+use Rattle.clean.specs.laws.Ready.{code-part, metadata-part, later-given, later-answer}
 use borrow.Author.Needs.{needs}
 use Rattle.clean.proofs.later.work.Statement.{statement}
 use Rattle.clean.proofs.later.work.Tie as tie

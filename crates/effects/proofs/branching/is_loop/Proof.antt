@@ -1,7 +1,8 @@
 use mathlib.Core.Path.{refl}
 use Rattle.words.specs.Lists.{every}
-use Rattle.instruction.specs.Class.{namedClass, numberOf, class-bit}
-use Rattle.effects.specs.Branching.{isLoop}
+use Rattle.instruction.specs.Class.{namedClass, numberOf}
+use Rattle.instruction.specs.laws.Class.{class-bit}
+use Rattle.effects.specs.laws.Branching.{isLoop}
 use borrow.Author.Needs.{needs}
 use Rattle.effects.proofs.branching.is_loop.Statement.{statement}
 use Rattle.effects.proofs.branching.is_loop.Tie as tie

@@ -2,7 +2,7 @@ use mathlib.Core.Path.{_≡_}
 use native.Mathlib.Omega.{arith}
 use borrow.Author.Tests.{ne-eqb, le-ltb}
 use Rattle.effects.specs.Shape.{met}
-use Rattle.effects.specs.Form.{demandAt}
+use Rattle.effects.specs.laws.Form.{demandAt}
 use borrow.Author.Needs.{needs}
 use Rattle.effects.proofs.demand.call_met.Statement.{statement}
 use Rattle.effects.proofs.demand.call_met.Tie as tie

@@ -1,6 +1,6 @@
 use Rattle.effects.specs.Shape.{Tables, tablesOf, Cell, met}
-use Rattle.effects.specs.Form.{demandAt}
-use Rattle.effects.specs.Ranges.{demands-row}
+use Rattle.effects.specs.laws.Form.{demandAt}
+use Rattle.effects.specs.laws.Ranges.{demands-row}
 use borrow.Author.Needs.{needs}
 use Rattle.effects.proofs.demand.demands_met.Statement.{statement}
 use Rattle.effects.proofs.demand.demands_met.Tie as tie

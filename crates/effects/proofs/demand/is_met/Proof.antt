@@ -1,6 +1,6 @@
 use borrow.Author.Tests.{ne-eqb, lt-ltb}
 use Rattle.effects.specs.Shape.{met}
-use Rattle.effects.specs.Form.{demandAt}
+use Rattle.effects.specs.laws.Form.{demandAt}
 use borrow.Author.Needs.{needs}
 use Rattle.effects.proofs.demand.is_met.Statement.{statement}
 use Rattle.effects.proofs.demand.is_met.Tie as tie

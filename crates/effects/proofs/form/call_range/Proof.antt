@@ -1,8 +1,8 @@
 use native.Mathlib.Nat.{add-zero}
 use lib.ListN.{List·getD-eq-default}
 use Rattle.effects.specs.Shape.{rangeOf, applies, value}
-use Rattle.effects.specs.Form.{formAt, forms, noPart}
-use Rattle.words.specs.Keys.{past}
+use Rattle.effects.specs.laws.Form.{formAt, forms, noPart}
+use Rattle.words.specs.laws.Keys.{past}
 use borrow.Author.Needs.{needs}
 use Rattle.effects.proofs.form.call_range.Statement.{statement}
 use Rattle.effects.proofs.form.call_range.Tie as tie

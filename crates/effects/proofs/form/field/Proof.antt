@@ -1,4 +1,4 @@
-use Rattle.effects.specs.Plain.{field-slot}
+use Rattle.effects.specs.laws.Plain.{field-slot}
 use borrow.Author.Needs.{needs}
 use Rattle.effects.proofs.form.field.Statement.{statement}
 use Rattle.effects.proofs.form.field.Tie as tie

@@ -1,8 +1,8 @@
 use mathlib.Core.Path.{_≡_}
 use native.Mathlib.Nat.{add-zero}
 use Rattle.effects.specs.Shape.{rangeOf, applies, value}
-use Rattle.effects.specs.Form.{formAt, forms}
-use Rattle.words.specs.Keys.{past, only}
+use Rattle.effects.specs.laws.Form.{formAt, forms}
+use Rattle.words.specs.laws.Keys.{past, only}
 use borrow.Author.Needs.{needs}
 use Rattle.effects.proofs.form.field_range.Statement.{statement}
 use Rattle.effects.proofs.form.field_range.Tie as tie

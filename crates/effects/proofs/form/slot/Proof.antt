@@ -1,6 +1,6 @@
 use mathlib.Core.Path.{_∙_}
 use native.Mathlib.Omega.{arith}
-use Rattle.instruction.specs.Instruction.{Fields, of-to}
+use Rattle.instruction.specs.laws.Instruction.{Fields, of-to}
 use borrow.Author.Needs.{needs}
 use Rattle.effects.proofs.form.slot.Statement.{statement}
 use Rattle.effects.proofs.form.slot.Tie as tie

@@ -1,4 +1,4 @@
-use Rattle.effects.specs.Plain.{slot-form}
+use Rattle.effects.specs.laws.Plain.{slot-form}
 use borrow.Author.Needs.{needs}
 use Rattle.effects.proofs.form.slot_range.Statement.{statement}
 use Rattle.effects.proofs.form.slot_range.Tie as tie

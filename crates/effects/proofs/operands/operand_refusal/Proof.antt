@@ -2,11 +2,12 @@ use mathlib.Core.Path.{_≡_, sym, _∙_}
 use mathlib.Core.Bool.{true}
 use native.Mathlib.Omega.{arith}
 use borrow.Author.Tests.{not-false}
-use Rattle.instruction.specs.Class.{number-below}
-use Rattle.instruction.specs.Instruction.{ofWord, class, word-fields}
+use Rattle.instruction.specs.laws.Class.{number-below}
+use Rattle.instruction.specs.Instruction.{ofWord, class}
+use Rattle.instruction.specs.laws.Instruction.{word-fields}
 use Rattle.effects.specs.Shape.{Cell, Tables, tablesOf}
-use Rattle.effects.specs.Cells.{cellOf}
-use Rattle.effects.specs.Single.{isSingle, single-passes, single-outside}
+use Rattle.effects.specs.laws.Cells.{cellOf}
+use Rattle.effects.specs.laws.Single.{isSingle, single-passes, single-outside}
 use borrow.Author.Needs.{needs}
 use Rattle.effects.proofs.operands.operand_refusal.Statement.{statement}
 use Rattle.effects.proofs.operands.operand_refusal.Tie as tie

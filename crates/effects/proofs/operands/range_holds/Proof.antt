@@ -1,5 +1,5 @@
 use mathlib.Core.Path.{sym}
-use Rattle.effects.specs.Operands.{holds-late, holds-empty, holds-long, holds-sum}
+use Rattle.effects.specs.laws.Operands.{holds-late, holds-empty, holds-long, holds-sum}
 use borrow.Author.Needs.{needs}
 use Rattle.effects.proofs.operands.range_holds.Statement.{statement}
 use Rattle.effects.proofs.operands.range_holds.Tie as tie

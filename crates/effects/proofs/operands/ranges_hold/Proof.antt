@@ -1,6 +1,6 @@
 use Rattle.effects.specs.Shape.{Cell, Tables, tablesOf}
 use Rattle.effects.specs.Effects.{allReads, writes}
-use Rattle.effects.specs.Operands.{rangeHolds, all-append}
+use Rattle.effects.specs.laws.Operands.{rangeHolds, all-append}
 use borrow.Author.Needs.{needs}
 use Rattle.effects.proofs.operands.ranges_hold.Statement.{statement}
 use Rattle.effects.proofs.operands.ranges_hold.Tie as tie

@@ -5,7 +5,7 @@ use native.Mathlib.Omega.{arith}
 use borrow.Author.Tests.{not-true, not-false}
 use Rattle.effects.specs.Shape.{Cell, Tables, tablesOf}
 use Rattle.effects.specs.Effects.{allReads, writes, demandsMet, allOf}
-use Rattle.effects.specs.Operands.{slots, rangeHolds, cases-inside, refused-demand, not-refused, refused-within, refused-fit}
+use Rattle.effects.specs.laws.Operands.{slots, rangeHolds, cases-inside, refused-demand, not-refused, refused-within, refused-fit}
 use borrow.Author.Needs.{needs}
 use Rattle.effects.proofs.operands.ranges_refusal.Statement.{statement}
 use Rattle.effects.proofs.operands.ranges_refusal.Tie as tie

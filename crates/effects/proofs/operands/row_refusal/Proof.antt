@@ -1,11 +1,12 @@
 use mathlib.Core.Path.{sym, _∙_}
 use native.Mathlib.Omega.{arith}
 use borrow.Author.Tests.{not-false}
-use Rattle.instruction.specs.Instruction.{ofWord, word-fields}
+use Rattle.instruction.specs.Instruction.{ofWord}
+use Rattle.instruction.specs.laws.Instruction.{word-fields}
 use Rattle.effects.specs.Shape.{Cell, Tables, tablesOf}
-use Rattle.effects.specs.Cells.{cellOf}
-use Rattle.effects.specs.Operands.{refused-invalid}
-use Rattle.effects.specs.Plain.{Plain, plain-row, plain-passes, plain-outside}
+use Rattle.effects.specs.laws.Cells.{cellOf}
+use Rattle.effects.specs.laws.Operands.{refused-invalid}
+use Rattle.effects.specs.laws.Plain.{Plain, plain-row, plain-passes, plain-outside}
 use borrow.Author.Needs.{needs}
 use Rattle.effects.proofs.operands.row_refusal.Statement.{statement}
 use Rattle.effects.proofs.operands.row_refusal.Tie as tie

@@ -2,11 +2,11 @@ use borrow.Author.Tests.{not-true, not-false}
 use mathlib.Core.Path.{sym, ap, _∙_}
 use Prim.Native.Nat.{_-_}
 use lib.ListN.{getD}
-use Rattle.words.specs.Every.{Passed, none-passed, more-passed, all-passed, one-failed}
+use Rattle.words.specs.laws.Every.{Passed, none-passed, more-passed, all-passed, one-failed}
 use Rattle.effects.specs.Shape.{tablesOf}
 use Rattle.effects.specs.Effects.{writes}
-use Rattle.effects.specs.Form.{emptyRange}
-use Rattle.effects.specs.Operands.{rangeHolds, every-range}
+use Rattle.effects.specs.laws.Form.{emptyRange}
+use Rattle.effects.specs.laws.Operands.{rangeHolds, every-range}
 use borrow.Author.Needs.{needs}
 use Rattle.effects.proofs.operands.writes_hold.Statement.{statement}
 use Rattle.effects.proofs.operands.writes_hold.Tie as tie

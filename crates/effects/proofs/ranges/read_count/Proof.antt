@@ -1,6 +1,6 @@
 use mathlib.Core.Path.{sym}
 use Rattle.effects.specs.Shape.{Cell}
-use Rattle.effects.specs.Ranges.{reads-select, case-reads-long, read-count-row}
+use Rattle.effects.specs.laws.Ranges.{reads-select, case-reads-long, read-count-row}
 use borrow.Author.Needs.{needs}
 use Rattle.effects.proofs.ranges.read_count.Statement.{statement}
 use Rattle.effects.proofs.ranges.read_count.Tie as tie

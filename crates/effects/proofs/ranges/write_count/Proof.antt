@@ -1,7 +1,7 @@
 use mathlib.Core.Path.{sym}
 use native.Mathlib.Omega.{arith}
 use Rattle.effects.specs.Shape.{Cell}
-use Rattle.effects.specs.Ranges.{writes-select, case-writes-long, write-count-row}
+use Rattle.effects.specs.laws.Ranges.{writes-select, case-writes-long, write-count-row}
 use borrow.Author.Needs.{needs}
 use Rattle.effects.proofs.ranges.write_count.Statement.{statement}
 use Rattle.effects.proofs.ranges.write_count.Tie as tie

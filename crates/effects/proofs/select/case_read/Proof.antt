@@ -1,5 +1,5 @@
 use borrow.Author.Tests.{eq-eqb, ne-eqb}
-use Rattle.effects.specs.Ranges.{case-reads-at}
+use Rattle.effects.specs.laws.Ranges.{case-reads-at}
 use borrow.Author.Needs.{needs}
 use Rattle.effects.proofs.select.case_read.Statement.{statement}
 use Rattle.effects.proofs.select.case_read.Tie as tie

@@ -1,5 +1,5 @@
 use borrow.Author.Tests.{eq-eqb, ne-eqb}
-use Rattle.effects.specs.Ranges.{case-writes-at}
+use Rattle.effects.specs.laws.Ranges.{case-writes-at}
 use borrow.Author.Needs.{needs}
 use Rattle.effects.proofs.select.case_write.Statement.{statement}
 use Rattle.effects.proofs.select.case_write.Tie as tie

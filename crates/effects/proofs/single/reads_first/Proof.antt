@@ -1,7 +1,8 @@
 use mathlib.Core.Path.{refl}
 use Rattle.words.specs.Lists.{every}
-use Rattle.instruction.specs.Class.{namedClass, numberOf, class-bit}
-use Rattle.effects.specs.Single.{readsFirst}
+use Rattle.instruction.specs.Class.{namedClass, numberOf}
+use Rattle.instruction.specs.laws.Class.{class-bit}
+use Rattle.effects.specs.laws.Single.{readsFirst}
 use borrow.Author.Needs.{needs}
 use Rattle.effects.proofs.single.reads_first.Statement.{statement}
 use Rattle.effects.proofs.single.reads_first.Tie as tie

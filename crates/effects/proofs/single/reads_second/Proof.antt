@@ -1,7 +1,8 @@
 use mathlib.Core.Path.{refl}
 use Rattle.words.specs.Lists.{every}
-use Rattle.instruction.specs.Class.{namedClass, numberOf, class-bit}
-use Rattle.effects.specs.Single.{readsSecond}
+use Rattle.instruction.specs.Class.{namedClass, numberOf}
+use Rattle.instruction.specs.laws.Class.{class-bit}
+use Rattle.effects.specs.laws.Single.{readsSecond}
 use borrow.Author.Needs.{needs}
 use Rattle.effects.proofs.single.reads_second.Statement.{statement}
 use Rattle.effects.proofs.single.reads_second.Tie as tie

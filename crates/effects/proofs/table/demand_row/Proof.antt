@@ -5,9 +5,10 @@ use Prim.Native.Nat.{ℕ}
 use lib.Dec.{eqb, ltb}
 use lib.ListN.{List·getD-eq-default}
 use borrow.Author.Tests.{eqb-true, ltb-true, ltb-false}
-use Rattle.words.specs.Lists.{isIn, every, every-at}
-use Rattle.effects.specs.Form.{demandRows, demandRowOf}
-use Rattle.words.specs.Keys.{none-of}
+use Rattle.words.specs.Lists.{isIn, every}
+use Rattle.words.specs.laws.Lists.{every-at}
+use Rattle.effects.specs.laws.Form.{demandRows, demandRowOf}
+use Rattle.words.specs.laws.Keys.{none-of}
 use borrow.Author.Needs.{needs}
 use Rattle.effects.proofs.table.demand_row.Statement.{statement}
 use Rattle.effects.proofs.table.demand_row.Tie as tie

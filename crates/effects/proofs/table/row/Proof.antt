@@ -1,7 +1,7 @@
 use Prim.Native.Nat.{zero-le}
 use lib.ListN.{List·getD-eq-default}
-use Rattle.effects.specs.Form.{rows}
-use Rattle.words.specs.Keys.{past}
+use Rattle.effects.specs.laws.Form.{rows}
+use Rattle.words.specs.laws.Keys.{past}
 use borrow.Author.Needs.{needs}
 use Rattle.effects.proofs.table.row.Statement.{statement}
 use Rattle.effects.proofs.table.row.Tie as tie

@@ -3,8 +3,8 @@ use mathlib.Core.List.{List}
 use Prim.Native.Nat.{ℕ, _-_, _<_}
 use native.Mathlib.Omega.{arith}
 use lib.ListN.{length, getD, length-set}
-use Rattle.flow.specs.Control.{control-inside, at-control, skip-first, skip-next, skip-last}
-use Rattle.flow.specs.Leaders.{Leading, leading-begin, leading-turn, leading-idle, leading-end}
+use Rattle.flow.specs.laws.Control.{control-inside, at-control, skip-first, skip-next, skip-last}
+use Rattle.flow.specs.laws.Leaders.{Leading, leading-begin, leading-turn, leading-idle, leading-end}
 use borrow.Author.Needs.{needs}
 use Rattle.flow.proofs.block.mark_leaders.Statement.{statement}
 use Rattle.flow.proofs.block.mark_leaders.Tie as tie

@@ -5,13 +5,14 @@ use Prim.Native.Nat.{ℕ, suc, _+_}
 use native.Mathlib.Numerals.{add-one}
 use borrow.Author.Tests.{not-true, not-false}
 use Rattle.instruction.specs.declared.Instruction.{Instruction}
-use Rattle.instruction.specs.Class.{number-below}
+use Rattle.instruction.specs.laws.Class.{number-below}
 use Rattle.instruction.specs.Instruction.{class}
 use Rattle.flow.specs.Branch.{branches, target}
-use Rattle.flow.specs.Block.{endsBlock, no-branch}
-use Rattle.flow.specs.BranchLaws.{bit-one}
-use Rattle.flow.specs.Leaders.{starts}
-use Rattle.flow.specs.Marking.{mark-append}
+use Rattle.flow.specs.Block.{endsBlock}
+use Rattle.flow.specs.laws.Block.{no-branch}
+use Rattle.flow.specs.laws.BranchLaws.{bit-one}
+use Rattle.flow.specs.laws.Leaders.{starts}
+use Rattle.flow.specs.laws.Marking.{mark-append}
 use Rattle.flow.specs.Reach.{markAll}
 use borrow.Author.Needs.{needs}
 use Rattle.flow.proofs.block.mark_starts.Statement.{statement}

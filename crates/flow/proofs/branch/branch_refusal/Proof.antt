@@ -3,11 +3,11 @@ use mathlib.Core.Bool.{true}
 use Prim.Native.Nat.{_≤_, _<_}
 use native.Mathlib.Omega.{arith}
 use borrow.Author.Tests.{not-true}
-use Rattle.instruction.specs.Class.{number-below}
+use Rattle.instruction.specs.laws.Class.{number-below}
 use Rattle.instruction.specs.Instruction.{class}
 use Rattle.flow.specs.Branch.{branches, target}
-use Rattle.flow.specs.Block.{no-branch}
-use Rattle.flow.specs.BranchLaws.{inside-none, inside-yes, inside-no, bit-set, bit-clear}
+use Rattle.flow.specs.laws.Block.{no-branch}
+use Rattle.flow.specs.laws.BranchLaws.{inside-none, inside-yes, inside-no, bit-set, bit-clear}
 use borrow.Author.Needs.{needs}
 use Rattle.flow.proofs.branch.branch_refusal.Statement.{statement}
 use Rattle.flow.proofs.branch.branch_refusal.Tie as tie

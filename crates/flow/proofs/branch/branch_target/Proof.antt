@@ -1,7 +1,7 @@
 use mathlib.Core.Path.{_∙_}
 use native.Mathlib.Omega.{arith}
 use lib.Dec.{eqb}
-use Rattle.flow.specs.BranchLaws.{byte-below, loop-target}
+use Rattle.flow.specs.laws.BranchLaws.{byte-below, loop-target}
 use borrow.Author.Needs.{needs}
 use Rattle.flow.proofs.branch.branch_target.Statement.{statement}
 use Rattle.flow.proofs.branch.branch_target.Tie as tie

@@ -1,9 +1,10 @@
 use mathlib.Core.Path.{refl}
 use native.Mathlib.Omega.{arith}
 use Rattle.words.specs.Lists.{every}
-use Rattle.instruction.specs.Class.{namedClass, class-bit}
+use Rattle.instruction.specs.Class.{namedClass}
+use Rattle.instruction.specs.laws.Class.{class-bit}
 use Rattle.flow.specs.Branch.{branches}
-use Rattle.flow.specs.BranchLaws.{bit-byte}
+use Rattle.flow.specs.laws.BranchLaws.{bit-byte}
 use borrow.Author.Needs.{needs}
 use Rattle.flow.proofs.branch.branches.Statement.{statement}
 use Rattle.flow.proofs.branch.branches.Tie as tie

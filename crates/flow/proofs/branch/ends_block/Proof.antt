@@ -7,8 +7,9 @@ use native.Mathlib.Omega.{arith}
 use lib.Dec.{ltb}
 use types.Run.{OneOf}
 use borrow.Author.Tests.{not-true, lt-ltb, le-ltb}
-use Rattle.words.specs.Lists.{isIn, every, every-at}
-use Rattle.words.specs.Keys.{none-of}
+use Rattle.words.specs.Lists.{isIn, every}
+use Rattle.words.specs.laws.Lists.{every-at}
+use Rattle.words.specs.laws.Keys.{none-of}
 use Rattle.instruction.specs.Class.{single, classOf}
 use Rattle.flow.specs.Block.{endsBlock}
 use Rattle.flow.proofs.branch.ends_block.Statement.{statement}

@@ -1,9 +1,9 @@
 use mathlib.Core.Path.{sym, _∙_}
 use native.Mathlib.Numerals.{add-one}
-use Rattle.instruction.specs.Class.{number-below}
+use Rattle.instruction.specs.laws.Class.{number-below}
 use Rattle.instruction.specs.Instruction.{class}
 use Rattle.flow.specs.Branch.{branches}
-use Rattle.flow.specs.BranchLaws.{next-target, bit-set, bit-clear}
+use Rattle.flow.specs.laws.BranchLaws.{next-target, bit-set, bit-clear}
 use borrow.Author.Needs.{needs}
 use Rattle.flow.proofs.branch.target.Statement.{statement}
 use Rattle.flow.proofs.branch.target.Tie as tie

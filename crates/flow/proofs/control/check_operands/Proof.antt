@@ -3,15 +3,15 @@ use Prim.Native.Nat.{ℕ, _-_, _<_}
 use native.Mathlib.Omega.{arith}
 use lib.ListN.{length, getD}
 use borrow.Rule.Slice.PartMut.{midOf}
-use Rattle.words.specs.Regions.{mid-long}
+use Rattle.words.specs.laws.Regions.{mid-long}
 use Rattle.instruction.specs.Instruction.{class, ofWord}
 use Rattle.effects.specs.Shape.{tablesOf}
 use Rattle.effects.specs.Check.{operandRefusal, operandCheck}
-use Rattle.effects.specs.Cells.{cellOf}
-use Rattle.effects.specs.Laws.{Unrefused, refused-first, refused-none, refused-later, refused-here}
-use Rattle.flow.specs.Control.{isControl}
-use Rattle.flow.specs.Listing.{checkOf, ListedBy}
-use Rattle.flow.specs.BranchLaws.{byte-below}
+use Rattle.effects.specs.laws.Cells.{cellOf}
+use Rattle.effects.specs.laws.Laws.{Unrefused, refused-first, refused-none, refused-later, refused-here}
+use Rattle.flow.specs.laws.Control.{isControl}
+use Rattle.flow.specs.laws.Listing.{checkOf, ListedBy}
+use Rattle.flow.specs.laws.BranchLaws.{byte-below}
 use Rattle.flow.proofs.Controlling.{Controlling, controlling-begin, controlling-word, controlling-turn, controlling-end}
 use borrow.Author.Needs.{needs}
 use Rattle.flow.proofs.control.check_operands.Statement.{statement}

@@ -1,10 +1,11 @@
 use mathlib.Core.Path.{refl}
 use native.Mathlib.Omega.{arith}
 use Rattle.words.specs.Lists.{every}
-use Rattle.instruction.specs.Class.{namedClass, numberOf, number-below, class-bit}
+use Rattle.instruction.specs.Class.{namedClass, numberOf}
+use Rattle.instruction.specs.laws.Class.{number-below, class-bit}
 use Rattle.instruction.specs.Instruction.{ofWord, class}
-use Rattle.flow.specs.BranchLaws.{bit-byte}
-use Rattle.flow.specs.Control.{isControl}
+use Rattle.flow.specs.laws.BranchLaws.{bit-byte}
+use Rattle.flow.specs.laws.Control.{isControl}
 use borrow.Author.Needs.{needs}
 use Rattle.flow.proofs.control.control.Statement.{statement}
 use Rattle.flow.proofs.control.control.Tie as tie

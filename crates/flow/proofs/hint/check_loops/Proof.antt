@@ -5,11 +5,11 @@ use native.Mathlib.Omega.{arith}
 use lib.Dec.{eqb}
 use lib.ListN.{length, getD}
 use Rattle.instruction.specs.Instruction.{class, ofWord}
-use Rattle.effects.specs.Cells.{cellOf, cellsBy, cells-long}
-use Rattle.flow.specs.Control.{isControl, control-inside, no-loop-hint}
-use Rattle.flow.specs.Hints.{loopTest}
+use Rattle.effects.specs.laws.Cells.{cellOf, cellsBy, cells-long}
+use Rattle.flow.specs.laws.Control.{isControl, control-inside, no-loop-hint}
+use Rattle.flow.specs.laws.Hints.{loopTest}
 use Rattle.flow.specs.Loop.{loopCheck}
-use Rattle.flow.specs.Sweep.{Swept, swept-first, swept-none, swept-later, swept-here}
+use Rattle.flow.specs.laws.Sweep.{Swept, swept-first, swept-none, swept-later, swept-here}
 use borrow.Author.Needs.{needs}
 use Rattle.flow.proofs.hint.check_loops.Statement.{statement}
 use Rattle.flow.proofs.hint.check_loops.Tie as tie

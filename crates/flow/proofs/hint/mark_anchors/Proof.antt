@@ -2,7 +2,7 @@ use mathlib.Core.Path.{_≡_, _∙_}
 use Prim.Native.Nat.{ℕ, _+_, _-_, _<_}
 use native.Mathlib.Omega.{arith}
 use lib.ListN.{length, getD}
-use Rattle.flow.specs.Control.{control-inside, at-control, skip-first, skip-next, skip-last}
+use Rattle.flow.specs.laws.Control.{control-inside, at-control, skip-first, skip-next, skip-last}
 use Rattle.flow.proofs.Anchored.{Anchored, anchored-begin, zeroed-long, zeroed-outside, anchored-turn, anchored-idle, anchored-end}
 use borrow.Author.Needs.{needs}
 use Rattle.flow.proofs.hint.mark_anchors.Statement.{statement}

@@ -3,13 +3,14 @@ use mathlib.Core.Bool.{Bool, not, _&&_, Bool·beq}
 use Prim.Native.Nat.{ℕ, _<_}
 use native.Mathlib.Omega.{arith}
 use lib.Dec.{ltb, leb}
-use Rattle.words.specs.Lists.{every, every-at}
-use Rattle.words.specs.Truth.{beq-true}
+use Rattle.words.specs.Lists.{every}
+use Rattle.words.specs.laws.Lists.{every-at}
+use Rattle.words.specs.laws.Truth.{beq-true}
 use Rattle.instruction.specs.Class.{single, classOf, numberOf}
 use Rattle.instruction.specs.Opcode.{maxValid}
 use Rattle.flow.specs.Block.{endsBlock}
 use Rattle.flow.specs.Branch.{falls}
-use Rattle.flow.specs.Successors.{goesOn}
+use Rattle.flow.specs.laws.Successors.{goesOn}
 use borrow.Author.Needs.{needs}
 use Rattle.flow.proofs.reach.goes_on.Statement.{statement}
 use Rattle.flow.proofs.reach.goes_on.Tie as tie

@@ -4,11 +4,11 @@ use Prim.Native.Nat.{ℕ, _+_, _*_, _-_, _≤_}
 use native.Mathlib.Omega.{arith}
 use lib.ListN.{length}
 use borrow.Rule.Slice.PartMut.{same-len-mid}
-use Rattle.effects.specs.Cells.{cellsBy, cells-long}
+use Rattle.effects.specs.laws.Cells.{cellsBy, cells-long}
 use Rattle.flow.specs.Loop.{reachedPlaces}
 use Rattle.flow.specs.Reach.{reached}
-use Rattle.flow.specs.Stack.{marksOf, Walked, left}
-use Rattle.flow.specs.Successors.{following}
+use Rattle.flow.specs.laws.Stack.{marksOf, Walked, left}
+use Rattle.flow.specs.laws.Successors.{following}
 use Rattle.flow.proofs.Walked.{first-long, first-outside, walked-begin, walked-few, walked-then, walked-end}
 use borrow.Author.Needs.{needs}
 use Rattle.flow.proofs.reach.mark_reached.Statement.{statement}

@@ -6,12 +6,12 @@ use native.Mathlib.Omega.{arith}
 use lib.ListN.{length, getD, set, length-set}
 use borrow.Author.Tests.{ltb-true}
 use borrow.Rule.Slice.PartMut.{midOf}
-use Rattle.words.specs.Regions.{mid-long}
-use Rattle.words.specs.Truth.{both}
+use Rattle.words.specs.laws.Regions.{mid-long}
+use Rattle.words.specs.laws.Truth.{both}
 use Rattle.instruction.specs.Instruction.{ofWord}
-use Rattle.effects.specs.Cells.{cellOf, cellsBy}
-use Rattle.flow.specs.Stack.{marksOf, left}
-use Rattle.flow.specs.Successors.{following, successors-few, following-at, goes-on}
+use Rattle.effects.specs.laws.Cells.{cellOf, cellsBy}
+use Rattle.flow.specs.laws.Stack.{marksOf, left}
+use Rattle.flow.specs.laws.Successors.{following, successors-few, following-at, goes-on}
 use Rattle.flow.proofs.Running.{Running, run-begin, run-fits, run-place, run-old, run-free, run-push, run-less, run-next}
 use borrow.Author.Needs.{needs}
 use Rattle.flow.proofs.reach.mark_run.Statement.{statement}

@@ -1,5 +1,5 @@
 use native.Mathlib.Omega.{arith}
-use Rattle.flow.specs.Stack.{push-yes, push-no, push-none}
+use Rattle.flow.specs.laws.Stack.{push-yes, push-no, push-none}
 use borrow.Author.Needs.{needs}
 use Rattle.flow.proofs.reach.push_if.Statement.{statement}
 use Rattle.flow.proofs.reach.push_if.Tie as tie

@@ -1,9 +1,9 @@
 use Prim.Native.Nat.{_+_}
 use native.Mathlib.Omega.{arith}
 use lib.Dec.{eqb}
-use Rattle.instruction.specs.Class.{number-below}
-use Rattle.flow.specs.BranchLaws.{bit-one}
-use Rattle.flow.specs.Successors.{at-most-one}
+use Rattle.instruction.specs.laws.Class.{number-below}
+use Rattle.flow.specs.laws.BranchLaws.{bit-one}
+use Rattle.flow.specs.laws.Successors.{at-most-one}
 use Rattle.flow.proofs.Pushing.{push-near}
 use borrow.Author.Needs.{needs}
 use Rattle.flow.proofs.reach.push_near.Statement.{statement}

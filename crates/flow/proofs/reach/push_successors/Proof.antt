@@ -1,5 +1,5 @@
 use native.Mathlib.Omega.{arith}
-use Rattle.flow.specs.Successors.{near-few}
+use Rattle.flow.specs.laws.Successors.{near-few}
 use Rattle.flow.proofs.Pushing.{push-all}
 use borrow.Author.Needs.{needs}
 use Rattle.flow.proofs.reach.push_successors.Statement.{statement}

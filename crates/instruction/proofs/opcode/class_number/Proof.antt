@@ -1,6 +1,7 @@
 use Prim.Native.Nat.{zero-le}
-use Rattle.words.specs.Keys.{past}
-use Rattle.instruction.specs.Class.{classOf, numberOf, single, class-past}
+use Rattle.words.specs.laws.Keys.{past}
+use Rattle.instruction.specs.Class.{classOf, numberOf, single}
+use Rattle.instruction.specs.laws.Class.{class-past}
 use Rattle.instruction.proofs.opcode.class_number.Statement.{statement}
 use Rattle.instruction.proofs.opcode.class_number.Tie as tie
 

@@ -1,8 +1,9 @@
 use mathlib.Core.Path.{_≡_, sym, ap, _∙_}
 use Prim.Native.Nat.{ℕ, zero-le}
-use Rattle.words.specs.Keys.{past}
+use Rattle.words.specs.laws.Keys.{past}
 use Rattle.instruction.specs.declared.Class.{Class}
-use Rattle.instruction.specs.Class.{numberOf, namedClass, named-number, number-past}
+use Rattle.instruction.specs.Class.{numberOf, namedClass}
+use Rattle.instruction.specs.laws.Class.{named-number, number-past}
 use borrow.Author.Needs.{needs}
 use Rattle.instruction.proofs.opcode.class_of.Statement.{statement}
 use Rattle.instruction.proofs.opcode.class_of.Tie as tie

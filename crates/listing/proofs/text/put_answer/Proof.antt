@@ -1,6 +1,6 @@
 use native.Mathlib.Omega.{arith}
 use Rattle.listing.specs.Text.{textOf, unchangedText, refusedText, rewrittenText}
-use Rattle.listing.specs.Puts.{puts-then}
+use Rattle.listing.specs.laws.Puts.{puts-then}
 use borrow.Author.Needs.{needs}
 use Rattle.listing.proofs.text.put_answer.Statement.{statement}
 use Rattle.listing.proofs.text.put_answer.Tie as tie

@@ -3,7 +3,7 @@ use Prim.Native.Nat.{_≤_, _-_}
 use native.Mathlib.Omega.{arith}
 use lib.ListN.{length, take}
 use borrow.Rule.Slice.PartMut.{putMid, put-same}
-use Rattle.listing.specs.Puts.{copy-turn, copy-all}
+use Rattle.listing.specs.laws.Puts.{copy-turn, copy-all}
 use borrow.Author.Needs.{needs}
 use Rattle.listing.proofs.text.put_bytes.Statement.{statement}
 use Rattle.listing.proofs.text.put_bytes.Tie as tie

@@ -1,6 +1,6 @@
 use native.Mathlib.Omega.{arith}
 use Rattle.listing.proofs.Laws.{line-puts}
-use Rattle.listing.specs.Puts.{puts-then}
+use Rattle.listing.specs.laws.Puts.{puts-then}
 use borrow.Author.Needs.{needs}
 use Rattle.listing.proofs.text.put_line.Statement.{statement}
 use Rattle.listing.proofs.text.put_line.Tie as tie

@@ -3,7 +3,7 @@ use mathlib.Core.Path.{_≡_}
 use native.Mathlib.Numerals.{add-one}
 use native.Mathlib.Omega.{arith}
 use Rattle.listing.specs.Text.{lines}
-use Rattle.listing.specs.Puts.{Puts, puts-none, puts-then, puts-long}
+use Rattle.listing.specs.laws.Puts.{Puts, puts-none, puts-then, puts-long}
 use borrow.Author.Needs.{needs}
 use Rattle.listing.proofs.text.put_lines.Statement.{statement}
 use Rattle.listing.proofs.text.put_lines.Tie as tie

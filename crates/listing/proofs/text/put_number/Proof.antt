@@ -1,5 +1,5 @@
 use native.Mathlib.Omega.{arith}
-use Rattle.listing.specs.Puts.{puts-long}
+use Rattle.listing.specs.laws.Puts.{puts-long}
 use Rattle.listing.proofs.Laws.{digits-long, number-puts}
 use borrow.Author.Needs.{needs}
 use Rattle.listing.proofs.text.put_number.Statement.{statement}

@@ -4,11 +4,11 @@ use Prim.Native.Nat.{_+_, _*_, _-_, _≤_, _<_}
 use native.Mathlib.Omega.{arith}
 use lib.ListN.{length}
 use Rattle.effects.specs.Shape.{Tables, tablesOf}
-use Rattle.effects.specs.Cells.{cellsBy}
-use Rattle.liveness.specs.Memory.{codeOf, usesOf, preservedOf, InSums, past-sums, in-sums, sums-turn, same-word, same-code}
-use Rattle.words.specs.Only.{Only, only-none, only-both, same-mid}
-use Rattle.liveness.specs.Shown.{row-before}
-use Rattle.liveness.specs.Visit.{Summed, summed-begin}
+use Rattle.effects.specs.laws.Cells.{cellsBy}
+use Rattle.liveness.specs.laws.Memory.{codeOf, usesOf, preservedOf, InSums, past-sums, in-sums, sums-turn, same-word, same-code}
+use Rattle.words.specs.laws.Only.{Only, only-none, only-both, same-mid}
+use Rattle.liveness.specs.laws.Shown.{row-before}
+use Rattle.liveness.specs.laws.Visit.{Summed, summed-begin}
 use borrow.Author.Needs.{needs}
 use Rattle.liveness.proofs.block.summarize.Statement.{statement}
 use Rattle.liveness.proofs.block.summarize.Tie as tie

@@ -4,12 +4,12 @@ use Prim.Native.Nat.{ℕ, suc, _+_, _-_, _≤_}
 use native.Mathlib.Omega.{arith}
 use lib.ListN.{length, getD}
 use borrow.Rule.Slice.PartMut.{midOf, putMid}
-use Rattle.words.specs.Regions.{mid-long}
+use Rattle.words.specs.laws.Regions.{mid-long}
 use Rattle.effects.specs.Shape.{Tables, tablesOf}
-use Rattle.effects.specs.Cells.{cellOf, cellsBy}
-use Rattle.liveness.specs.Memory.{cell-in}
-use Rattle.words.specs.Only.{At, Either, Only, only-none, only-both, lent-long, both-lent, same-mid}
-use Rattle.liveness.specs.Through.{Summary, summary-begin, summary-turn}
+use Rattle.effects.specs.laws.Cells.{cellOf, cellsBy}
+use Rattle.liveness.specs.laws.Memory.{cell-in}
+use Rattle.words.specs.laws.Only.{At, Either, Only, only-none, only-both, lent-long, both-lent, same-mid}
+use Rattle.liveness.specs.laws.Through.{Summary, summary-begin, summary-turn}
 use borrow.Author.Needs.{needs}
 use Rattle.liveness.proofs.block.summarize_block.Statement.{statement}
 use Rattle.liveness.proofs.block.summarize_block.Tie as tie

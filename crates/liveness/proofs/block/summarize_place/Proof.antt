@@ -2,14 +2,14 @@ use mathlib.Core.Path.{refl, sym, _∙_}
 use Prim.Native.Nat.{ℕ}
 use lib.ListN.{getD}
 use borrow.Author.Tests.{eq-eqb, ne-eqb}
-use Rattle.instruction.specs.Class.{number-below}
+use Rattle.instruction.specs.laws.Class.{number-below}
 use Rattle.instruction.specs.Instruction.{ofWord}
 use Rattle.effects.specs.Shape.{Tables, Cell, tablesOf}
-use Rattle.effects.specs.Cells.{cellOf}
-use Rattle.words.specs.Only.{only-none, lent-long, second-long}
-use Rattle.use_def.specs.Single.{SingleFits, single-fits}
-use Rattle.use_def.specs.Branching.{BranchFits, branch-fits}
-use Rattle.liveness.specs.Through.{not-placed, lent-placed}
+use Rattle.effects.specs.laws.Cells.{cellOf}
+use Rattle.words.specs.laws.Only.{only-none, lent-long, second-long}
+use Rattle.use_def.specs.laws.Single.{SingleFits, single-fits}
+use Rattle.use_def.specs.laws.Branching.{BranchFits, branch-fits}
+use Rattle.liveness.specs.laws.Through.{not-placed, lent-placed}
 use borrow.Author.Needs.{needs}
 use Rattle.liveness.proofs.block.summarize_place.Statement.{statement}
 use Rattle.liveness.proofs.block.summarize_place.Tie as tie

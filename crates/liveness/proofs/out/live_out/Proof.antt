@@ -5,13 +5,13 @@ use native.Mathlib.Omega.{arith}
 use lib.Dec.{ltb}
 use lib.Bits.{bitAnd}
 use borrow.Rule.Slice.PartMut.{midOf}
-use Rattle.instruction.specs.Class.{number-below}
+use Rattle.instruction.specs.laws.Class.{number-below}
 use Rattle.instruction.specs.Instruction.{class}
 use Rattle.flow.specs.Branch.{falls, branches}
-use Rattle.use_def.specs.Wordwise.{allBits}
-use Rattle.liveness.specs.Memory.{liveOf, start-inside, start-row}
-use Rattle.flow.specs.BranchLaws.{byte-below}
-use Rattle.liveness.specs.Out.{both-bits, place-if, next-place, target-place, target-inside, out-joined}
+use Rattle.use_def.specs.laws.Wordwise.{allBits}
+use Rattle.liveness.specs.laws.Memory.{liveOf, start-inside, start-row}
+use Rattle.flow.specs.laws.BranchLaws.{byte-below}
+use Rattle.liveness.specs.laws.Out.{both-bits, place-if, next-place, target-place, target-inside, out-joined}
 use borrow.Author.Needs.{needs}
 use Rattle.liveness.proofs.out.live_out.Statement.{statement}
 use Rattle.liveness.proofs.out.live_out.Tie as tie

@@ -4,11 +4,11 @@ use Prim.Native.Nat.{ℕ, _+_, _-_, _≤_, _<_}
 use native.Mathlib.Omega.{arith}
 use lib.ListN.{length, getD}
 use Rattle.effects.specs.Shape.{Sections}
-use Rattle.effects.specs.Cells.{cellsBy}
+use Rattle.effects.specs.laws.Cells.{cellsBy}
 use Rattle.liveness.specs.Live.{Row}
-use Rattle.liveness.specs.Memory.{codeOf, usesOf, preservedOf, liveOf, InRows, still-ready, visited-then}
-use Rattle.words.specs.Only.{Only, only-none, only-both}
-use Rattle.liveness.specs.Rounding.{Around, Rounding, rounding-begin, rounding-turn, rounding-end}
+use Rattle.liveness.specs.laws.Memory.{codeOf, usesOf, preservedOf, liveOf, InRows, still-ready, visited-then}
+use Rattle.words.specs.laws.Only.{Only, only-none, only-both}
+use Rattle.liveness.specs.laws.Rounding.{Around, Rounding, rounding-begin, rounding-turn, rounding-end}
 use borrow.Author.Needs.{needs}
 use Rattle.liveness.proofs.round.round.Statement.{statement}
 use Rattle.liveness.proofs.round.round.Tie as tie

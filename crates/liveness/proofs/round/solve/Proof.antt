@@ -5,12 +5,12 @@ use native.Mathlib.Omega.{arith}
 use lib.ListN.{length}
 use borrow.Author.Tests.{not-true, not-false}
 use Rattle.effects.specs.Shape.{Sections}
-use Rattle.effects.specs.Cells.{cellsBy}
+use Rattle.effects.specs.laws.Cells.{cellsBy}
 use Rattle.liveness.specs.Live.{Row}
-use Rattle.liveness.specs.Memory.{codeOf, usesOf, preservedOf, liveOf, InRows, still-ready, rows-code, rows-uses, rows-preserved}
-use Rattle.words.specs.Only.{Only, only-none, only-both}
-use Rattle.liveness.specs.Rounding.{Around}
-use Rattle.liveness.specs.Solving.{Solving, solving-begin, solving-turn, solving-found, solving-none}
+use Rattle.liveness.specs.laws.Memory.{codeOf, usesOf, preservedOf, liveOf, InRows, still-ready, rows-code, rows-uses, rows-preserved}
+use Rattle.words.specs.laws.Only.{Only, only-none, only-both}
+use Rattle.liveness.specs.laws.Rounding.{Around}
+use Rattle.liveness.specs.laws.Solving.{Solving, solving-begin, solving-turn, solving-found, solving-none}
 use borrow.Author.Needs.{needs}
 use Rattle.liveness.proofs.round.solve.Statement.{statement}
 use Rattle.liveness.proofs.round.solve.Tie as tie

@@ -2,9 +2,9 @@ use mathlib.Core.Path.{refl}
 use Prim.Native.Nat.{_+_, _*_, _≤_}
 use native.Mathlib.Nat.{mul-le-mul}
 use native.Mathlib.Omega.{arith}
-use Rattle.liveness.specs.Droppable.{few-words, few-blocks}
-use Rattle.liveness.specs.Stores.{no-words, too-many}
-use Rattle.liveness.specs.Workable.{workable, put-itself}
+use Rattle.liveness.specs.laws.Droppable.{few-words, few-blocks}
+use Rattle.liveness.specs.laws.Stores.{no-words, too-many}
+use Rattle.liveness.specs.laws.Workable.{workable, put-itself}
 use borrow.Author.Needs.{needs}
 use Rattle.liveness.proofs.stores.drop_dead_stores.Statement.{statement}
 use Rattle.liveness.proofs.stores.drop_dead_stores.Tie as tie

@@ -1,6 +1,6 @@
 use mathlib.Core.Path.{_∙_}
 use borrow.Author.Tests.{not-true, not-false}
-use Rattle.liveness.specs.Workable.{Begun, part-blocks, part-starts, part-flags, some-size, zero-long, zero-code, summarizable, ready, sweepable, begun, stores-left, stores-swept}
+use Rattle.liveness.specs.laws.Workable.{Begun, part-blocks, part-starts, part-flags, some-size, zero-long, zero-code, summarizable, ready, sweepable, begun, stores-left, stores-swept}
 use borrow.Author.Needs.{needs}
 use Rattle.liveness.proofs.stores.drop_stores.Statement.{statement}
 use Rattle.liveness.proofs.stores.drop_stores.Tie as tie

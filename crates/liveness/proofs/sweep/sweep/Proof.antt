@@ -3,13 +3,13 @@ use mathlib.Core.List.{List}
 use Prim.Native.Nat.{ℕ, suc, _+_, _-_, _≤_, _<_}
 use native.Mathlib.Omega.{arith}
 use lib.ListN.{length, getD}
-use Rattle.words.specs.Regions.{mid-long}
+use Rattle.words.specs.laws.Regions.{mid-long}
 use Rattle.effects.specs.Shape.{tablesOf}
-use Rattle.effects.specs.Cells.{cellsBy, cells-long}
+use Rattle.effects.specs.laws.Cells.{cellsBy, cells-long}
 use Rattle.liveness.specs.Live.{Row}
-use Rattle.liveness.specs.Memory.{codeOf, rowOf, liveOf, leadersOf, blocksOf, flagsAt, flagsOf, row-inside, code-word, same-word, same-code, same-live, same-leaders, same-blocks, still-coded}
-use Rattle.words.specs.Only.{At, Only, only-none, only-both, lent, lent-long, put-only}
-use Rattle.liveness.specs.Sweep.{Grounds, SweepFrom, sections, sweep-begin, sweep-end, code-turn}
+use Rattle.liveness.specs.laws.Memory.{codeOf, rowOf, liveOf, leadersOf, blocksOf, flagsAt, flagsOf, row-inside, code-word, same-word, same-code, same-live, same-leaders, same-blocks, still-coded}
+use Rattle.words.specs.laws.Only.{At, Only, only-none, only-both, lent, lent-long, put-only}
+use Rattle.liveness.specs.laws.Sweep.{Grounds, SweepFrom, sections, sweep-begin, sweep-end, code-turn}
 use borrow.Author.Needs.{needs}
 use Rattle.liveness.proofs.sweep.sweep.Statement.{statement}
 use Rattle.liveness.proofs.sweep.sweep.Tie as tie

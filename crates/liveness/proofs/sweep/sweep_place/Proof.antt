@@ -4,19 +4,20 @@ use Prim.Native.Nat.{_+_, _*_, _-_, _%_, _≤_}
 use native.Mathlib.Omega.{arith}
 use lib.ListN.{length, getD}
 use borrow.Author.Tests.{eq-eqb, ne-eqb, not-false}
-use Rattle.instruction.specs.Class.{classOf, number-below}
+use Rattle.instruction.specs.Class.{classOf}
+use Rattle.instruction.specs.laws.Class.{number-below}
 use Rattle.instruction.specs.Instruction.{ofWord}
 use Rattle.unit.specs.Size.{metadataSize}
 use Rattle.effects.specs.Shape.{Tables, Cell, tablesOf}
-use Rattle.effects.specs.Cells.{cellOf}
-use Rattle.effects.specs.Single.{isSingle}
-use Rattle.effects.specs.Branching.{isBranching}
-use Rattle.use_def.specs.Single.{single-fits, single-absent}
-use Rattle.use_def.specs.Branching.{branch-fits, branch-not-dead}
-use Rattle.use_def.specs.Free.{deadBy}
-use Rattle.liveness.specs.Memory.{rowOf, row-inside}
-use Rattle.words.specs.Only.{only-none, lent-long}
-use Rattle.liveness.specs.Sweeping.{swept-off, lent-gone, lent-on, lent-either}
+use Rattle.effects.specs.laws.Cells.{cellOf}
+use Rattle.effects.specs.laws.Single.{isSingle}
+use Rattle.effects.specs.laws.Branching.{isBranching}
+use Rattle.use_def.specs.laws.Single.{single-fits, single-absent}
+use Rattle.use_def.specs.laws.Branching.{branch-fits, branch-not-dead}
+use Rattle.use_def.specs.laws.Free.{deadBy}
+use Rattle.liveness.specs.laws.Memory.{rowOf, row-inside}
+use Rattle.words.specs.laws.Only.{only-none, lent-long}
+use Rattle.liveness.specs.laws.Sweeping.{swept-off, lent-gone, lent-on, lent-either}
 use borrow.Author.Needs.{needs}
 use Rattle.liveness.proofs.sweep.sweep_place.Statement.{statement}
 use Rattle.liveness.proofs.sweep.sweep_place.Tie as tie

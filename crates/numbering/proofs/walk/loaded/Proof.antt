@@ -1,6 +1,6 @@
 use Rattle.values.specs.Number.{constantAtom}
-use Rattle.numbering.specs.Walk.{atomOf, KindOf}
-use Rattle.values.specs.Memory.{constantOf}
+use Rattle.numbering.specs.laws.Walk.{atomOf, KindOf}
+use Rattle.values.specs.laws.Memory.{constantOf}
 use native.Mathlib.Omega.{arith}
 use borrow.Author.Needs.{needs}
 use Rattle.numbering.proofs.walk.loaded.Statement.{statement}

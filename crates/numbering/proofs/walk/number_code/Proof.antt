@@ -5,7 +5,7 @@ use native.Mathlib.Nat.{zero-add}
 use native.Mathlib.Omega.{arith}
 use lib.ListN.{length, getD}
 use borrow.Rule.Slice.PartMut.{midOf, putMid}
-use Rattle.words.specs.Regions.{mid-long, get-mid}
+use Rattle.words.specs.laws.Regions.{mid-long, get-mid}
 use Rattle.numbering.proofs.Loop.{Numbering, numbering-start, numbering-turn, whole-long, code-before, progress-end, turn-room, no-code}
 use borrow.Author.Needs.{needs}
 use Rattle.numbering.proofs.walk.number_code.Statement.{statement}

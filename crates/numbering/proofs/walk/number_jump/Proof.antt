@@ -1,5 +1,5 @@
 use Rattle.numbering.proofs.Walking.{jump-undecided, jump-decided}
-use Rattle.numbering.specs.Walk.{takes}
+use Rattle.numbering.specs.laws.Walk.{takes}
 use mathlib.Core.Path.{sym, _∙_}
 use borrow.Author.Needs.{needs}
 use Rattle.numbering.proofs.walk.number_jump.Statement.{statement}

@@ -3,8 +3,8 @@ use Rattle.numbering.proofs.Walking.{as-becomes}
 use native.Mathlib.Omega.{arith}
 use mathlib.Core.Path.{sym, _∙_}
 use Rattle.values.specs.Number.{numberBy}
-use Rattle.numbering.specs.Walk.{}
-use Rattle.values.specs.Named.{Named}
+use Rattle.numbering.specs.laws.Walk.{}
+use Rattle.values.specs.laws.Named.{Named}
 use borrow.Author.Needs.{needs}
 use Rattle.numbering.proofs.walk.number_one.Statement.{statement}
 use Rattle.numbering.proofs.walk.number_one.Tie as tie

@@ -2,9 +2,9 @@ use Rattle.numbering.proofs.Classes.{pure-none, operator-named, operato
 use Rattle.numbering.proofs.Walking.{as-becomes, pure-by, forget-becomes}
 use native.Mathlib.Omega.{arith}
 use mathlib.Core.Path.{refl, sym, _∙_}
-use Rattle.values.specs.Memory.{constantOf}
-use Rattle.numbering.specs.Walk.{pureBy}
-use Rattle.values.specs.Named.{Named}
+use Rattle.values.specs.laws.Memory.{constantOf}
+use Rattle.numbering.specs.laws.Walk.{pureBy}
+use Rattle.values.specs.laws.Named.{Named}
 use borrow.Author.Needs.{needs}
 use Rattle.numbering.proofs.walk.number_pure.Statement.{statement}
 use Rattle.numbering.proofs.walk.number_pure.Tie as tie

@@ -4,8 +4,9 @@ use mathlib.Core.List.{List, [], _∷_}
 use Prim.Native.Nat.{ℕ, zero, suc, _/_, _%_, _^_, _<_}
 use denote.Ref.{now}
 use lib.Dec.{eqb, ltb}
-use Rattle.words.specs.Lists.{every, every-at}
-use Rattle.values.specs.Folded.{agree, agree-same}
+use Rattle.words.specs.Lists.{every}
+use Rattle.words.specs.laws.Lists.{every-at}
+use Rattle.values.specs.laws.Folded.{agree, agree-same}
 use lib.ListN.{length, getD, List·getD-eq-default}
 use native.Mathlib.Omega.{arith}
 use borrow.Author.Tests.{ltb-true, ltb-false, ne-eqb}

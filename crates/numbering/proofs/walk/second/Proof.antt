@@ -1,5 +1,5 @@
 use Rattle.numbering.proofs.Walking.{second-chosen, second-none}
-use Rattle.numbering.specs.Walk.{secondNumber}
+use Rattle.numbering.specs.laws.Walk.{secondNumber}
 use borrow.Author.Needs.{needs}
 use Rattle.numbering.proofs.walk.second.Statement.{statement}
 use Rattle.numbering.proofs.walk.second.Tie as tie

@@ -1,4 +1,4 @@
-use Rattle.numbering.specs.Walk.{secondNumber}
+use Rattle.numbering.specs.laws.Walk.{secondNumber}
 use native.Mathlib.Omega.{arith}
 use borrow.Author.Needs.{needs}
 use Rattle.numbering.proofs.walk.second_number.Statement.{statement}

@@ -1,4 +1,4 @@
-use Rattle.numbering.specs.Walk.{takes}
+use Rattle.numbering.specs.laws.Walk.{takes}
 use Rattle.numbering.proofs.walk.taken.Statement.{statement}
 use Rattle.numbering.proofs.walk.taken.Tie as tie
 

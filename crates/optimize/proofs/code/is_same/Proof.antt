@@ -2,7 +2,7 @@ use mathlib.Core.Path.{_≡_, _∙_, sym, ap, refl}
 use Prim.Native.Nat.{_-_}
 use lib.ListN.{length}
 use Rattle.instruction.specs.Instruction.{instructionAt, toWord}
-use Rattle.optimize.specs.Loading.{Loaded, loaded-none, loaded-next, loaded-all, same-yes, same-no}
+use Rattle.optimize.specs.laws.Loading.{Loaded, loaded-none, loaded-next, loaded-all, same-yes, same-no}
 use borrow.Author.Needs.{needs}
 use Rattle.optimize.proofs.code.is_same.Statement.{statement}
 use Rattle.optimize.proofs.code.is_same.Tie as tie

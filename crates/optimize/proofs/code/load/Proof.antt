@@ -3,7 +3,7 @@ use Prim.Native.Nat.{_-_}
 use native.Mathlib.Omega.{arith}
 use lib.ListN.{length, length-set}
 use Rattle.instruction.specs.Instruction.{toWord}
-use Rattle.optimize.specs.Loading.{Loaded, loaded-none, loaded-set, loaded-all}
+use Rattle.optimize.specs.laws.Loading.{Loaded, loaded-none, loaded-set, loaded-all}
 use borrow.Author.Needs.{needs}
 use Rattle.optimize.proofs.code.load.Statement.{statement}
 use Rattle.optimize.proofs.code.load.Tie as tie

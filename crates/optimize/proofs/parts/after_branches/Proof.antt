@@ -3,12 +3,12 @@ use Prim.Native.Nat.{_+_, _-_}
 use native.Mathlib.Omega.{arith}
 use lib.ListN.{length}
 use borrow.Rule.Slice.PartMut.{midOf}
-use Rattle.words.specs.Regions.{mid-long}
+use Rattle.words.specs.laws.Regions.{mid-long}
 use Rattle.answer.specs.Pass.{refused}
-use Rattle.removal.specs.Kept.{sectionsIn}
-use Rattle.optimize.specs.Parts.{answers-refused, answers-same, branches-loops}
-use Rattle.optimize.specs.Chain.{checked-refused, checked-passed, same-room, reached-marks, reached-answer}
-use Rattle.optimize.specs.Steps.{list-lent}
+use Rattle.removal.specs.laws.Kept.{sectionsIn}
+use Rattle.optimize.specs.laws.Parts.{answers-refused, answers-same, branches-loops}
+use Rattle.optimize.specs.laws.Chain.{checked-refused, checked-passed, same-room, reached-marks, reached-answer}
+use Rattle.optimize.specs.laws.Steps.{list-lent}
 use borrow.Author.Needs.{needs}
 use Rattle.optimize.proofs.parts.after_branches.Statement.{statement}
 use Rattle.optimize.proofs.parts.after_branches.Tie as tie

@@ -3,13 +3,13 @@ use Prim.Native.Nat.{_+_, _-_}
 use native.Mathlib.Omega.{arith}
 use lib.ListN.{length}
 use borrow.Rule.Slice.PartMut.{midOf}
-use Rattle.words.specs.Regions.{mid-long}
+use Rattle.words.specs.laws.Regions.{mid-long}
 use Rattle.effects.specs.Shape.{tablesOf}
 use Rattle.answer.specs.Pass.{refused}
-use Rattle.removal.specs.Kept.{sectionsIn}
-use Rattle.optimize.specs.Parts.{cellsIn, Checked, answers-refused, answers-same, operands-branches}
-use Rattle.optimize.specs.Chain.{checked-refused, checked-passed, same-room, loaded-numberable, loaded-branches, loaded-renumbered, numbered-listed}
-use Rattle.optimize.specs.Steps.{list-lent}
+use Rattle.removal.specs.laws.Kept.{sectionsIn}
+use Rattle.optimize.specs.laws.Parts.{cellsIn, Checked, answers-refused, answers-same, operands-branches}
+use Rattle.optimize.specs.laws.Chain.{checked-refused, checked-passed, same-room, loaded-numberable, loaded-branches, loaded-renumbered, numbered-listed}
+use Rattle.optimize.specs.laws.Steps.{list-lent}
 use borrow.Author.Needs.{needs}
 use Rattle.optimize.proofs.parts.after_operands.Statement.{statement}
 use Rattle.optimize.proofs.parts.after_operands.Tie as tie

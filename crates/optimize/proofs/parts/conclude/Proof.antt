@@ -1,9 +1,9 @@
 use lib.ListN.{length}
 use mathlib.Core.Path.{sym, _∙_}
 use native.Mathlib.Omega.{arith}
-use Rattle.pc_map.specs.Boundaries.{mapped-long}
-use Rattle.optimize.specs.Parts.{answers-unchanged, answers-refused}
-use Rattle.optimize.specs.Concluded.{Known, conclude-unchanged, conclude-refused, conclude-answers, conclude-writable}
+use Rattle.pc_map.specs.laws.Boundaries.{mapped-long}
+use Rattle.optimize.specs.laws.Parts.{answers-unchanged, answers-refused}
+use Rattle.optimize.specs.laws.Concluded.{Known, conclude-unchanged, conclude-refused, conclude-answers, conclude-writable}
 use borrow.Author.Needs.{needs}
 use Rattle.optimize.proofs.parts.conclude.Statement.{statement}
 use Rattle.optimize.proofs.parts.conclude.Tie as tie

@@ -1,8 +1,8 @@
 use Prim.Native.Nat.{ℕ, _+_, _*_, _-_, _≤_}
 use native.Mathlib.Omega.{arith}
 use lib.ListN.{getD}
-use Rattle.optimize.specs.Parts.{answers-same}
-use Rattle.optimize.specs.Steps.{finish-few, finish-asks, finish-same}
+use Rattle.optimize.specs.laws.Parts.{answers-same}
+use Rattle.optimize.specs.laws.Steps.{finish-few, finish-asks, finish-same}
 use borrow.Author.Needs.{needs}
 use Rattle.optimize.proofs.parts.finish.Statement.{statement}
 use Rattle.optimize.proofs.parts.finish.Tie as tie

@@ -2,8 +2,8 @@ use mathlib.Core.Path.{_≡_, refl, _∙_}
 use Prim.Native.Nat.{_+_, _-_}
 use native.Mathlib.Omega.{arith}
 use lib.ListN.{length}
-use Rattle.words.specs.Regions.{mid-long, drop-behind}
-use Rattle.optimize.specs.Steps.{leaders-asks, number-asks, number-renumbered}
+use Rattle.words.specs.laws.Regions.{mid-long, drop-behind}
+use Rattle.optimize.specs.laws.Steps.{leaders-asks, number-asks, number-renumbered}
 use borrow.Author.Needs.{needs}
 use Rattle.optimize.proofs.parts.number.Statement.{statement}
 use Rattle.optimize.proofs.parts.number.Tie as tie

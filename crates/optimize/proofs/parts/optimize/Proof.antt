@@ -4,12 +4,12 @@ use Prim.Native.Nat.{ℕ, _-_}
 use native.Mathlib.Omega.{arith}
 use lib.ListN.{length}
 use borrow.Rule.Slice.PartMut.{midOf, postOf}
-use Rattle.flow.specs.Listing.{checkOf, ListedBy}
+use Rattle.flow.specs.laws.Listing.{checkOf, ListedBy}
 use Rattle.answer.specs.Pass.{refused}
-use Rattle.removal.specs.Kept.{sectionsIn}
-use Rattle.optimize.specs.Parts.{wordsIn, answers-refused, answers-same, optimized-operands}
-use Rattle.optimize.specs.Chain.{checked-refused, checked-passed, same-room, load-front, load-long, operands-asks, operands-answer}
-use Rattle.optimize.specs.Steps.{list-made}
+use Rattle.removal.specs.laws.Kept.{sectionsIn}
+use Rattle.optimize.specs.laws.Parts.{wordsIn, answers-refused, answers-same, optimized-operands}
+use Rattle.optimize.specs.laws.Chain.{checked-refused, checked-passed, same-room, load-front, load-long, operands-asks, operands-answer}
+use Rattle.optimize.specs.laws.Steps.{list-made}
 use borrow.Author.Needs.{needs}
 use Rattle.optimize.proofs.parts.optimize.Statement.{statement}
 use Rattle.optimize.proofs.parts.optimize.Tie as tie

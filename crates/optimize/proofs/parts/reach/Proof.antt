@@ -1,4 +1,4 @@
-use Rattle.optimize.specs.Steps.{reach-marks}
+use Rattle.optimize.specs.laws.Steps.{reach-marks}
 use borrow.Author.Needs.{needs}
 use Rattle.optimize.proofs.parts.reach.Statement.{statement}
 use Rattle.optimize.proofs.parts.reach.Tie as tie

@@ -1,11 +1,11 @@
 use mathlib.Core.Path.{refl, sym, ap, _∙_}
 use Rattle.unit.specs.declared.Header.{Header}
-use Rattle.unit.specs.Laws.{layout-unit, layout-refused}
+use Rattle.unit.specs.laws.Laws.{layout-unit, layout-refused}
 use lib.ListN.{length}
 use Rattle.answer.specs.Answer.{lentOf, passAnswer}
 use Rattle.answer.specs.Pass.{refused}
-use Rattle.optimize.specs.Parts.{answers-refused, answers-same}
-use Rattle.optimize.specs.Whole.{answer-refused, pass-laid}
+use Rattle.optimize.specs.laws.Parts.{answers-refused, answers-same}
+use Rattle.optimize.specs.laws.Whole.{answer-refused, pass-laid}
 use borrow.Author.Needs.{needs}
 use Rattle.optimize.proofs.pass.answer.Statement.{statement}
 use Rattle.optimize.proofs.pass.answer.Tie as tie

@@ -5,8 +5,8 @@ use native.Mathlib.Omega.{arith}
 use Rattle.unit.specs.declared.Counts.{Counts}
 use Rattle.unit.specs.Layout.{headerOf}
 use Rattle.answer.specs.Answer.{lentOf, isSkipped, roomFor}
-use Rattle.optimize.specs.Parts.{answers-refused, answers-same}
-use Rattle.optimize.specs.Whole.{room-metadata, room-types, room-good, parts-given, parts-answer}
+use Rattle.optimize.specs.laws.Parts.{answers-refused, answers-same}
+use Rattle.optimize.specs.laws.Whole.{room-metadata, room-types, room-good, parts-given, parts-answer}
 use borrow.Author.Needs.{needs}
 use Rattle.optimize.proofs.pass.counted.Statement.{statement}
 use Rattle.optimize.proofs.pass.counted.Tie as tie

@@ -1,4 +1,4 @@
-use Rattle.optimize.specs.Whole.{room-test}
+use Rattle.optimize.specs.laws.Whole.{room-test}
 use borrow.Author.Needs.{needs}
 use Rattle.optimize.proofs.pass.has_room.Statement.{statement}
 use Rattle.optimize.proofs.pass.has_room.Tie as tie

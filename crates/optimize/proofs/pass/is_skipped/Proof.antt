@@ -1,5 +1,5 @@
 use native.Mathlib.Omega.{arith}
-use Rattle.optimize.specs.Whole.{skipped-small, skipped-large, skipped-else}
+use Rattle.optimize.specs.laws.Whole.{skipped-small, skipped-large, skipped-else}
 use Rattle.optimize.proofs.pass.is_skipped.Statement.{statement}
 use Rattle.optimize.proofs.pass.is_skipped.Tie as tie
 

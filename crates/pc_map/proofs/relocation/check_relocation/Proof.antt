@@ -5,11 +5,11 @@ use native.Mathlib.Omega.{arith}
 use lib.Dec.{eqb}
 use lib.ListN.{length, getD}
 use Rattle.instruction.specs.Instruction.{class, ofWord}
-use Rattle.effects.specs.Cells.{cellOf, cellsBy, cells-long}
-use Rattle.flow.specs.Control.{isControl, control-inside, no-loop-hint}
-use Rattle.flow.specs.Sweep.{Swept, swept-first, swept-none, swept-later, swept-here}
+use Rattle.effects.specs.laws.Cells.{cellOf, cellsBy, cells-long}
+use Rattle.flow.specs.laws.Control.{isControl, control-inside, no-loop-hint}
+use Rattle.flow.specs.laws.Sweep.{Swept, swept-first, swept-none, swept-later, swept-here}
 use Rattle.pc_map.specs.Relocate.{relocationCheck}
-use Rattle.pc_map.specs.Relocated.{relocationTest}
+use Rattle.pc_map.specs.laws.Relocated.{relocationTest}
 use borrow.Author.Needs.{needs}
 use Rattle.pc_map.proofs.relocation.check_relocation.Statement.{statement}
 use Rattle.pc_map.proofs.relocation.check_relocation.Tie as tie

@@ -8,7 +8,7 @@ use Rattle.flow.specs.Block.{endsBlock}
 use Rattle.flow.specs.Branch.{branches}
 use Rattle.flow.proofs.Classes.{by-tags, by-test}
 use Rattle.pc_map.specs.Relocate.{movedJump, movedForLoop, relocateBy}
-use Rattle.pc_map.specs.Relocated.{cell, moved-inside}
+use Rattle.pc_map.specs.laws.Relocated.{cell, moved-inside}
 use Rattle.pc_map.proofs.Relocating.{relocated}
 use borrow.Author.Needs.{needs}
 use Rattle.pc_map.proofs.relocation.relocate.Statement.{statement}

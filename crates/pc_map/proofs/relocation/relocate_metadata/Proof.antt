@@ -1,6 +1,6 @@
 use mathlib.Core.Path.{sym, _∙_}
 use borrow.Author.Tests.{not-true, not-false}
-use Rattle.pc_map.specs.View.{retained-found}
+use Rattle.pc_map.specs.laws.View.{retained-found}
 use Rattle.pc_map.proofs.Relocating.{end-moved, end-none}
 use borrow.Author.Needs.{needs}
 use Rattle.pc_map.proofs.relocation.relocate_metadata.Statement.{statement}

@@ -4,8 +4,8 @@ use Prim.Native.Nat.{ℕ, _≤_, _-_}
 use native.Mathlib.Omega.{arith}
 use lib.ListN.{length}
 use Rattle.unit.specs.Result.{codeBytes}
-use Rattle.pc_map.specs.Listed.{Listed}
-use Rattle.pc_map.specs.Retaining.{code-section}
+use Rattle.pc_map.specs.laws.Listed.{Listed}
+use Rattle.pc_map.specs.laws.Retaining.{code-section}
 use Rattle.pc_map.proofs.Writing.{WrittenTo, section-begin, section-turn, section-end}
 use borrow.Author.Needs.{needs}
 use Rattle.pc_map.proofs.retained.write_code.Statement.{statement}

@@ -4,8 +4,8 @@ use Prim.Native.Nat.{ℕ, _+_, _*_, _-_, _≤_}
 use native.Mathlib.Omega.{arith}
 use lib.ListN.{length, getD}
 use Rattle.unit.specs.Result.{placeBytes}
-use Rattle.pc_map.specs.Listed.{keptList}
-use Rattle.pc_map.specs.Retaining.{place-section}
+use Rattle.pc_map.specs.laws.Listed.{keptList}
+use Rattle.pc_map.specs.laws.Retaining.{place-section}
 use Rattle.pc_map.proofs.Writing.{kept-place, WrittenTo, section-begin, section-turn, section-end}
 use borrow.Author.Needs.{needs}
 use Rattle.pc_map.proofs.retained.write_places.Statement.{statement}

@@ -1,4 +1,4 @@
-use Rattle.effects.specs.Cells.{cellsBy}
+use Rattle.effects.specs.laws.Cells.{cellsBy}
 use Rattle.pc_map.specs.Relocate.{retainFrom}
 use Rattle.pc_map.proofs.Writing.{listed-many, all-written}
 use lib.ListN.{length}

@@ -1,6 +1,6 @@
 use mathlib.Core.Path.{refl}
 use borrow.Author.Tests.{not-true, not-false}
-use Rattle.removal.specs.Jumping.{no-jump, too-far, near-enough}
+use Rattle.removal.specs.laws.Jumping.{no-jump, too-far, near-enough}
 use borrow.Author.Needs.{needs}
 use Rattle.removal.proofs.jump.is_idle.Statement.{statement}
 use Rattle.removal.proofs.jump.is_idle.Tie as tie

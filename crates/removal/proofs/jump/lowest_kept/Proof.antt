@@ -5,7 +5,7 @@ use native.Mathlib.Numerals.{add-one}
 use native.Mathlib.Omega.{arith}
 use lib.ListN.{getD}
 use borrow.Author.Tests.{eq-eqb, ne-eqb}
-use Rattle.removal.specs.Next.{keptFrom, from-kept, from-dropped}
+use Rattle.removal.specs.laws.Next.{keptFrom, from-kept, from-dropped}
 use borrow.Author.Needs.{needs}
 use Rattle.removal.proofs.jump.lowest_kept.Statement.{statement}
 use Rattle.removal.proofs.jump.lowest_kept.Tie as tie

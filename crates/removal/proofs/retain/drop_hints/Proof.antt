@@ -1,7 +1,7 @@
 use Prim.Native.Nat.{_-_}
 use native.Mathlib.Omega.{arith}
 use lib.ListN.{length}
-use Rattle.removal.specs.Retained.{hints-useful}
+use Rattle.removal.specs.laws.Retained.{hints-useful}
 use borrow.Author.Needs.{needs}
 use Rattle.removal.proofs.retain.drop_hints.Statement.{statement}
 use Rattle.removal.proofs.retain.drop_hints.Tie as tie

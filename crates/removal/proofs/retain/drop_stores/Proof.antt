@@ -3,9 +3,9 @@ use Prim.Native.Nat.{_+_, _*_, _-_}
 use native.Mathlib.Omega.{arith}
 use lib.ListN.{length}
 use borrow.Rule.Slice.PartMut.{midOf}
-use Rattle.words.specs.Regions.{mid-long}
+use Rattle.words.specs.laws.Regions.{mid-long}
 use Rattle.effects.specs.Shape.{tablesOf}
-use Rattle.removal.specs.Retained.{blocks-asks, stores-asks, stores-leave}
+use Rattle.removal.specs.laws.Retained.{blocks-asks, stores-asks, stores-leave}
 use borrow.Author.Needs.{needs}
 use Rattle.removal.proofs.retain.drop_stores.Statement.{statement}
 use Rattle.removal.proofs.retain.drop_stores.Tie as tie

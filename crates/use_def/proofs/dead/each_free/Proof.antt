@@ -4,8 +4,8 @@ use Prim.Native.Nat.{ℕ, _+_, _*_, _-_, _≤_, _<_}
 use native.Mathlib.Omega.{arith}
 use lib.ListN.{length}
 use borrow.Author.Tests.{not-true, not-false}
-use Rattle.use_def.specs.Sets.{range, within-end}
-use Rattle.use_def.specs.Free.{freeSlot, not-free, all-free, free-more}
+use Rattle.use_def.specs.laws.Sets.{range, within-end}
+use Rattle.use_def.specs.laws.Free.{freeSlot, not-free, all-free, free-more}
 use borrow.Author.Needs.{needs}
 use Rattle.use_def.proofs.dead.each_free.Statement.{statement}
 use Rattle.use_def.proofs.dead.each_free.Tie as tie

@@ -1,4 +1,4 @@
-use Rattle.flow.specs.Control.{same-default}
+use Rattle.flow.specs.laws.Control.{same-default}
 use borrow.Author.Needs.{needs}
 use Rattle.use_def.proofs.dead.is_free.Statement.{statement}
 use Rattle.use_def.proofs.dead.is_free.Tie as tie

@@ -2,8 +2,8 @@ use mathlib.Core.Path.{sym, _∙_}
 use Prim.Native.Nat.{_*_}
 use native.Mathlib.Omega.{arith}
 use lib.ListN.{length}
-use Rattle.use_def.specs.Sets.{within-end}
-use Rattle.use_def.specs.Free.{one-free}
+use Rattle.use_def.specs.laws.Sets.{within-end}
+use Rattle.use_def.specs.laws.Free.{one-free}
 use borrow.Author.Needs.{needs}
 use Rattle.use_def.proofs.dead.is_range_free.Statement.{statement}
 use Rattle.use_def.proofs.dead.is_range_free.Tie as tie

@@ -2,7 +2,7 @@ use mathlib.Core.Path.{refl}
 use Prim.Native.Nat.{_≤_, _-_}
 use native.Mathlib.Omega.{arith}
 use lib.ListN.{length}
-use Rattle.use_def.specs.Wordwise.{Stored, stored-begin, stored-turn, filled}
+use Rattle.use_def.specs.laws.Wordwise.{Stored, stored-begin, stored-turn, filled}
 use borrow.Author.Needs.{needs}
 use Rattle.use_def.proofs.row.fill.Statement.{statement}
 use Rattle.use_def.proofs.row.fill.Tie as tie

@@ -3,9 +3,9 @@ use Prim.Native.Nat.{_+_, _≤_, _-_}
 use native.Mathlib.Omega.{arith}
 use lib.ListN.{length}
 use borrow.Rule.Slice.PartMut.{midOf}
-use Rattle.words.specs.Regions.{mid-long}
-use Rattle.words.specs.Only.{At, Only, only-none}
-use Rattle.use_def.specs.Wordwise.{joinWords, join-past, joined-sets, Stored, stored-begin, stored-end, part-only, part-other, part-turn}
+use Rattle.words.specs.laws.Regions.{mid-long}
+use Rattle.words.specs.laws.Only.{At, Only, only-none}
+use Rattle.use_def.specs.laws.Wordwise.{joinWords, join-past, joined-sets, Stored, stored-begin, stored-end, part-only, part-other, part-turn}
 use borrow.Author.Needs.{needs}
 use Rattle.use_def.proofs.row.join.Statement.{statement}
 use Rattle.use_def.proofs.row.join.Tie as tie

@@ -3,7 +3,7 @@ use mathlib.Core.Bool.{Bool, true, false}
 use Prim.Native.Nat.{ℕ, _+_, _%_, _^_, _<_}
 use native.Mathlib.Omega.{arith}
 use mir.Val.{boolByte}
-use Rattle.use_def.specs.Wordwise.{allBits}
+use Rattle.use_def.specs.laws.Wordwise.{allBits}
 use borrow.Author.Needs.{needs}
 use Rattle.use_def.proofs.row.mask.Statement.{statement}
 use Rattle.use_def.proofs.row.mask.Tie as tie

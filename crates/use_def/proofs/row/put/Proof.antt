@@ -1,4 +1,4 @@
-use Rattle.use_def.specs.Sets.{put-in, put-out}
+use Rattle.use_def.specs.laws.Sets.{put-in, put-out}
 use borrow.Author.Needs.{needs}
 use Rattle.use_def.proofs.row.put.Statement.{statement}
 use Rattle.use_def.proofs.row.put.Tie as tie

@@ -2,9 +2,9 @@ use mathlib.Core.Path.{_≡_}
 use Prim.Native.Nat.{_*_}
 use native.Mathlib.Omega.{arith}
 use lib.ListN.{length}
-use Rattle.use_def.specs.Sets.{range}
+use Rattle.use_def.specs.laws.Sets.{range}
 use Prim.Native.Nat.{_≤_, _-_}
-use Rattle.use_def.specs.Sets.{Putting, putting-begin, putting-turn, within-end}
+use Rattle.use_def.specs.laws.Sets.{Putting, putting-begin, putting-turn, within-end}
 use borrow.Author.Needs.{needs}
 use Rattle.use_def.proofs.row.put_each.Statement.{statement}
 use Rattle.use_def.proofs.row.put_each.Tie as tie

@@ -1,6 +1,6 @@
 use Prim.Native.Nat.{_/_}
 use native.Mathlib.Omega.{arith}
-use Rattle.use_def.specs.Sets.{if-inside, put-if}
+use Rattle.use_def.specs.laws.Sets.{if-inside, put-if}
 use borrow.Author.Needs.{needs}
 use Rattle.use_def.proofs.row.put_if.Statement.{statement}
 use Rattle.use_def.proofs.row.put_if.Tie as tie

@@ -1,7 +1,7 @@
 use Prim.Native.Nat.{_*_}
 use native.Mathlib.Omega.{arith}
 use lib.ListN.{length}
-use Rattle.use_def.specs.Sets.{within-end, put-one}
+use Rattle.use_def.specs.laws.Sets.{within-end, put-one}
 use borrow.Author.Needs.{needs}
 use Rattle.use_def.proofs.row.put_range.Statement.{statement}
 use Rattle.use_def.proofs.row.put_range.Tie as tie

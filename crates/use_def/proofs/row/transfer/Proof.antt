@@ -4,9 +4,9 @@ use native.Mathlib.Omega.{arith}
 use lib.ListN.{length, getD}
 use lib.Bits.{or-lt, and-lt}
 use borrow.Rule.Slice.PartMut.{midOf}
-use Rattle.words.specs.Regions.{mid-long}
-use Rattle.words.specs.Only.{At, Only, only-none}
-use Rattle.use_def.specs.Wordwise.{transferWords, transfer-past, transferred-sets, stored-end, Storing, storing-begin, moved, part-only, part-other, part-moves}
+use Rattle.words.specs.laws.Regions.{mid-long}
+use Rattle.words.specs.laws.Only.{At, Only, only-none}
+use Rattle.use_def.specs.laws.Wordwise.{transferWords, transfer-past, transferred-sets, stored-end, Storing, storing-begin, moved, part-only, part-other, part-moves}
 use borrow.Author.Needs.{needs}
 use Rattle.use_def.proofs.row.transfer.Statement.{statement}
 use Rattle.use_def.proofs.row.transfer.Tie as tie

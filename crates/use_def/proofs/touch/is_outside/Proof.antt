@@ -4,7 +4,7 @@ use mathlib.Core.List.{[], _∷_}
 use borrow.Author.Tests.{not-true}
 use Rattle.instruction.specs.Class.{namedClass}
 use Rattle.flow.proofs.Classes.{by-test}
-use Rattle.effects.specs.ByClass.{isOutside}
+use Rattle.effects.specs.laws.ByClass.{isOutside}
 use Rattle.use_def.proofs.touch.is_outside.Statement.{statement}
 use Rattle.use_def.proofs.touch.is_outside.Tie as tie
 

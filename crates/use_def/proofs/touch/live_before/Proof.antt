@@ -1,6 +1,6 @@
 use Rattle.unit.specs.Entry.{metadataAt}
 use Rattle.effects.specs.Shape.{Tables, Cell, tablesOf}
-use Rattle.use_def.specs.Touched.{before}
+use Rattle.use_def.specs.laws.Touched.{before}
 use borrow.Author.Needs.{needs}
 use Rattle.use_def.proofs.touch.live_before.Statement.{statement}
 use Rattle.use_def.proofs.touch.live_before.Tie as tie

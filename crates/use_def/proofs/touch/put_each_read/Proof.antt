@@ -3,7 +3,7 @@ use Prim.Native.Nat.{_-_}
 use native.Mathlib.Omega.{arith}
 use Rattle.effects.specs.Shape.{tablesOf}
 use Rattle.effects.specs.Effects.{allReads}
-use Rattle.use_def.specs.Touched.{Ranging, ranging-begin, ranging-next, ranging-fits, ranging-turn, ranging-end}
+use Rattle.use_def.specs.laws.Touched.{Ranging, ranging-begin, ranging-next, ranging-fits, ranging-turn, ranging-end}
 use borrow.Author.Needs.{needs}
 use Rattle.use_def.proofs.touch.put_each_read.Statement.{statement}
 use Rattle.use_def.proofs.touch.put_each_read.Tie as tie

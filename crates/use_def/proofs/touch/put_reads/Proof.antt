@@ -4,8 +4,8 @@ use Prim.Native.Nat.{_*_}
 use lib.ListN.{length}
 use Rattle.unit.specs.Entry.{metadataAt}
 use Rattle.effects.specs.Shape.{Tables, Cell, tablesOf}
-use Rattle.effects.specs.ByClass.{isOutside}
-use Rattle.use_def.specs.Touched.{put-reads, reads-in}
+use Rattle.effects.specs.laws.ByClass.{isOutside}
+use Rattle.use_def.specs.laws.Touched.{put-reads, reads-in}
 use borrow.Author.Needs.{needs}
 use Rattle.use_def.proofs.touch.put_reads.Statement.{statement}
 use Rattle.use_def.proofs.touch.put_reads.Tie as tie

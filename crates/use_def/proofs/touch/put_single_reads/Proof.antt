@@ -1,9 +1,9 @@
 use mathlib.Core.Path.{refl, sym, ap, _∙_}
 use mathlib.Core.Bool.{Bool, _&&_, and-true}
 use borrow.Author.Tests.{not-true, not-false}
-use Rattle.words.specs.Truth.{left-true}
-use Rattle.instruction.specs.Class.{number-below}
-use Rattle.use_def.specs.Single.{put-single-reads, no-single-reads, none-put}
+use Rattle.words.specs.laws.Truth.{left-true}
+use Rattle.instruction.specs.laws.Class.{number-below}
+use Rattle.use_def.specs.laws.Single.{put-single-reads, no-single-reads, none-put}
 use borrow.Author.Needs.{needs}
 use Rattle.use_def.proofs.touch.put_single_reads.Statement.{statement}
 use Rattle.use_def.proofs.touch.put_single_reads.Tie as tie

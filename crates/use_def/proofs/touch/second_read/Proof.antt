@@ -2,10 +2,10 @@ use mathlib.Core.Path.{_≡_, refl, sym, _∙_}
 use mathlib.Core.List.{[], _∷_}
 use lib.ListN.{getD}
 use Rattle.instruction.specs.Class.{namedClass}
-use Rattle.effects.specs.Form.{emptyRange}
+use Rattle.effects.specs.laws.Form.{emptyRange}
 use Rattle.flow.proofs.Classes.{by-tags}
-use Rattle.use_def.specs.Sets.{range}
-use Rattle.effects.specs.ByClass.{readsByClass}
+use Rattle.use_def.specs.laws.Sets.{range}
+use Rattle.effects.specs.laws.ByClass.{readsByClass}
 use borrow.Author.Needs.{needs}
 use Rattle.use_def.proofs.touch.second_read.Statement.{statement}
 use Rattle.use_def.proofs.touch.second_read.Tie as tie

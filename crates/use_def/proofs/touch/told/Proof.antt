@@ -3,9 +3,9 @@ use mathlib.Core.Bool.{Bool, true, false, cond, not}
 use Prim.Native.Nat.{ℕ, _+_, _*_, _≤_}
 use native.Mathlib.Omega.{arith}
 use Rattle.unit.specs.Size.{metadataSize}
-use Rattle.effects.specs.Form.{rowOf}
-use Rattle.effects.specs.Plain.{isPlain}
-use Rattle.use_def.specs.Plain.{told-alike}
+use Rattle.effects.specs.laws.Form.{rowOf}
+use Rattle.effects.specs.laws.Plain.{isPlain}
+use Rattle.use_def.specs.laws.Plain.{told-alike}
 use borrow.Author.Needs.{needs}
 use Rattle.use_def.proofs.touch.told.Statement.{statement}
 use Rattle.use_def.proofs.touch.told.Tie as tie

@@ -1,5 +1,5 @@
 use Prim.Native.Nat.{_-_}
-use Rattle.values.specs.Attaching.{Descent, descent-start, descent-less, descent-on, attach-room, attached}
+use Rattle.values.specs.laws.Attaching.{Descent, descent-start, descent-less, descent-on, attach-room, attached}
 use borrow.Author.Needs.{needs}
 use Rattle.values.proofs.entries.attach.Statement.{statement}
 use Rattle.values.proofs.entries.attach.Tie as tie

@@ -1,5 +1,5 @@
-use Rattle.values.specs.Entries.{bucketOf}
-use Rattle.values.specs.Search.{scaled-low, scaled-fits}
+use Rattle.values.specs.laws.Entries.{bucketOf}
+use Rattle.values.specs.laws.Search.{scaled-low, scaled-fits}
 use native.Mathlib.Omega.{arith}
 use Prim.Native.Nat.{_/_}
 use borrow.Author.Needs.{needs}

@@ -1,4 +1,4 @@
-use Rattle.values.specs.Attaching.{child-shifted}
+use Rattle.values.specs.laws.Attaching.{child-shifted}
 use borrow.Author.Needs.{needs}
 use Rattle.values.proofs.entries.child.Statement.{statement}
 use Rattle.values.proofs.entries.child.Tie as tie

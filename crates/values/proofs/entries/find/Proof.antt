@@ -1,5 +1,5 @@
-use Rattle.values.specs.Entries.{key}
-use Rattle.values.specs.Search.{ahead, Walk, walk-start, walk-hit, walk-less, walk-on, walk-end}
+use Rattle.values.specs.laws.Entries.{key}
+use Rattle.values.specs.laws.Search.{ahead, Walk, walk-start, walk-hit, walk-less, walk-on, walk-end}
 use borrow.Author.Needs.{needs}
 use Rattle.values.proofs.entries.find.Statement.{statement}
 use Rattle.values.proofs.entries.find.Tie as tie

@@ -1,4 +1,4 @@
-use Rattle.values.specs.Entries.{headAt}
+use Rattle.values.specs.laws.Entries.{headAt}
 use borrow.Author.Tests.{ne-eqb, eq-eqb}
 use borrow.Author.Needs.{needs}
 use Rattle.values.proofs.entries.head.Statement.{statement}

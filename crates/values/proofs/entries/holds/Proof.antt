@@ -1,4 +1,4 @@
-use Rattle.values.specs.Entries.{sameKey}
+use Rattle.values.specs.laws.Entries.{sameKey}
 use mathlib.Core.Path.{refl}
 use borrow.Author.Needs.{needs}
 use Rattle.values.proofs.entries.holds.Statement.{statement}

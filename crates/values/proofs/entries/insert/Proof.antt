@@ -1,6 +1,6 @@
 use native.Mathlib.Omega.{arith}
 use lib.ListN.{length-set}
-use Rattle.values.specs.Adding.{first-added, attach-asks, later-added}
+use Rattle.values.specs.laws.Adding.{first-added, attach-asks, later-added}
 use borrow.Author.Needs.{needs}
 use Rattle.values.proofs.entries.insert.Statement.{statement}
 use Rattle.values.proofs.entries.insert.Tie as tie

@@ -1,4 +1,4 @@
-use Rattle.values.specs.Attaching.{link-shifted}
+use Rattle.values.specs.laws.Attaching.{link-shifted}
 use borrow.Author.Needs.{needs}
 use Rattle.values.proofs.entries.link.Statement.{statement}
 use Rattle.values.proofs.entries.link.Tie as tie

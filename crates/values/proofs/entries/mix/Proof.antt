@@ -1,4 +1,4 @@
-use Rattle.values.specs.Entries.{mixed}
+use Rattle.values.specs.laws.Entries.{mixed}
 use borrow.Author.Needs.{needs}
 use Rattle.values.proofs.entries.mix.Statement.{statement}
 use Rattle.values.proofs.entries.mix.Tie as tie

@@ -2,7 +2,7 @@ use borrow.Author.Tests.{ne-eqb}
 use mathlib.Core.Path.{sym}
 use native.Mathlib.Omega.{arith}
 use Rattle.values.specs.Fold.{bitWord}
-use Rattle.values.specs.Bitwise.{and-bits, or-bits, xor-bits}
+use Rattle.values.specs.laws.Bitwise.{and-bits, or-bits, xor-bits}
 use borrow.Author.Needs.{needs}
 use Rattle.values.proofs.fold.bit_word.Statement.{statement}
 use Rattle.values.proofs.fold.bit_word.Tie as tie

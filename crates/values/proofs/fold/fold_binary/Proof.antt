@@ -1,5 +1,5 @@
 use mathlib.Core.Path.{_∙_, sym}
-use Rattle.values.specs.Folded.{answered}
+use Rattle.values.specs.laws.Folded.{answered}
 use Rattle.values.specs.Number.{foldBinary}
 use Rattle.values.proofs.Unfolded.{unfolded-left, unfolded-right}
 use borrow.Author.Needs.{needs}

@@ -1,6 +1,6 @@
 use borrow.Author.Tests.{lt-ltb, le-ltb}
 use native.Mathlib.Omega.{arith}
-use Rattle.values.specs.Folded.{by-runs}
+use Rattle.values.specs.laws.Folded.{by-runs}
 use Rattle.values.proofs.fold.folds_binary.Statement.{statement}
 use Rattle.values.proofs.fold.folds_binary.Tie as tie
 

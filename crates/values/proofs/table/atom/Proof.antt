@@ -1,5 +1,5 @@
 use Rattle.values.proofs.Reading.{integer-none, integer-zero, integer-entry, float-entry}
-use Rattle.values.specs.Folded.{integerOf}
+use Rattle.values.specs.laws.Folded.{integerOf}
 use borrow.Author.Needs.{needs}
 use Rattle.values.proofs.table.atom.Statement.{statement}
 use Rattle.values.proofs.table.atom.Tie as tie

@@ -1,4 +1,4 @@
-use Rattle.values.specs.Memory.{markedAt}
+use Rattle.values.specs.laws.Memory.{markedAt}
 use borrow.Author.Tests.{eq-eqb, ne-eqb}
 use borrow.Author.Needs.{needs}
 use Rattle.values.proofs.table.marked.Statement.{statement}

@@ -1,5 +1,5 @@
 use Rattle.values.proofs.Reading.{number-read}
-use Rattle.values.specs.Memory.{numberAt}
+use Rattle.values.specs.laws.Memory.{numberAt}
 use borrow.Author.Tests.{eq-eqb, ne-eqb}
 use borrow.Author.Needs.{needs}
 use Rattle.values.proofs.table.number.Statement.{statement}

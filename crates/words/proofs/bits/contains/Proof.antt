@@ -1,5 +1,5 @@
 use mathlib.Core.Path.{refl}
-use Rattle.words.specs.Bits.{member}
+use Rattle.words.specs.laws.Bits.{member}
 use borrow.Author.Needs.{needs}
 use Rattle.words.proofs.bits.contains.Statement.{statement}
 use Rattle.words.proofs.bits.contains.Tie as tie

@@ -1,6 +1,6 @@
 use Prim.Native.Nat.{_%_}
 use native.Mathlib.Omega.{arith}
-use Rattle.words.specs.Bits.{inserted, one-shl}
+use Rattle.words.specs.laws.Bits.{inserted, one-shl}
 use borrow.Author.Needs.{needs}
 use Rattle.words.proofs.bits.insert.Statement.{statement}
 use Rattle.words.proofs.bits.insert.Tie as tie

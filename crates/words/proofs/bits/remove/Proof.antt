@@ -1,6 +1,6 @@
 use Prim.Native.Nat.{_%_}
 use native.Mathlib.Omega.{arith}
-use Rattle.words.specs.Bits.{removed, one-shl}
+use Rattle.words.specs.laws.Bits.{removed, one-shl}
 use borrow.Author.Needs.{needs}
 use Rattle.words.proofs.bits.remove.Statement.{statement}
 use Rattle.words.proofs.bits.remove.Tie as tie

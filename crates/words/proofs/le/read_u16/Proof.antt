@@ -1,5 +1,5 @@
 use native.Mathlib.Omega.{arith}
-use Rattle.words.specs.Le.{u16-bytes}
+use Rattle.words.specs.laws.Le.{u16-bytes}
 use borrow.Author.Needs.{needs}
 use Rattle.words.proofs.le.read_u16.Statement.{statement}
 use Rattle.words.proofs.le.read_u16.Tie as tie

@@ -1,5 +1,5 @@
 use native.Mathlib.Omega.{arith}
-use Rattle.words.specs.Le.{u32-halves}
+use Rattle.words.specs.laws.Le.{u32-halves}
 use borrow.Author.Needs.{needs}
 use Rattle.words.proofs.le.read_u32.Statement.{statement}
 use Rattle.words.proofs.le.read_u32.Tie as tie

@@ -1,5 +1,5 @@
 use native.Mathlib.Omega.{arith}
-use Rattle.words.specs.Le.{u64-halves}
+use Rattle.words.specs.laws.Le.{u64-halves}
 use borrow.Author.Needs.{needs}
 use Rattle.words.proofs.le.read_u64.Statement.{statement}
 use Rattle.words.proofs.le.read_u64.Tie as tie

@@ -1,4 +1,4 @@
-use Rattle.words.specs.Le.{put-two}
+use Rattle.words.specs.laws.Le.{put-two}
 use native.Mathlib.Omega.{arith}
 use lib.ListN.{length-set}
 use borrow.Author.Needs.{needs}

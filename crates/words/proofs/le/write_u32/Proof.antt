@@ -1,5 +1,5 @@
 use native.Mathlib.Omega.{arith}
-use Rattle.words.specs.Le.{put-parts}
+use Rattle.words.specs.laws.Le.{put-parts}
 use borrow.Author.Needs.{needs}
 use Rattle.words.proofs.le.write_u32.Statement.{statement}
 use Rattle.words.proofs.le.write_u32.Tie as tie

@@ -1,6 +1,6 @@
 use mathlib.Core.Path.{sym}
 use native.Mathlib.Omega.{arith}
-use Rattle.words.specs.Word.{sign-plus, sign-minus}
+use Rattle.words.specs.laws.Word.{sign-plus, sign-minus}
 use borrow.Author.Needs.{needs}
 use Rattle.words.proofs.word.sign_extend_8.Statement.{statement}
 use Rattle.words.proofs.word.sign_extend_8.Tie as tie

@@ -1,6 +1,6 @@
 use mathlib.Core.Path.{_∙_}
 use native.Mathlib.Omega.{arith}
-use Rattle.words.specs.Word.{halves, mul-wraps}
+use Rattle.words.specs.laws.Word.{halves, mul-wraps}
 use borrow.Author.Needs.{needs}
 use Rattle.words.proofs.word.wrapping_mul.Statement.{statement}
 use Rattle.words.proofs.word.wrapping_mul.Tie as tie

@@ -6,7 +6,7 @@ use contract.Monad.{fact}
 use contract.Running.{givenOf}
 use denote.Enum.Laws.{lawful}
 use denote.Ref.{now}
-use Rattle.pc_map.specs.View.{instructionIn}
+use Rattle.pc_map.specs.laws.View.{instructionIn}
 use Rattle.pc_map.proofs.Viewing.{apart, passes-on}
 use Rattle.pc_map.proofs.view.Moved as moved
 use Rattle.pc_map.proofs.view.Moved.Laws as moved-laws

@@ -1,0 +1,5 @@
+pub mod Placing
+pub mod Ready
+pub mod Later
+pub mod Cleaning
+pub mod First

@@ -1,0 +1,11 @@
+pub mod Cells
+pub mod Laws
+pub mod Form
+pub mod Rows
+pub mod Ranges
+pub mod Operands
+pub mod Plain
+pub mod ByClass
+pub mod Single
+pub mod Branching
+pub mod Sound

@@ -1,0 +1,17 @@
+pub mod BranchLaws
+pub mod Block
+pub mod Checking
+pub mod Marks
+pub mod Flags
+pub mod Marking
+pub mod Leaders
+pub mod Hints
+pub mod Blocks
+pub mod Closure
+pub mod Walking
+pub mod Stack
+pub mod Successors
+pub mod Reached
+pub mod Control
+pub mod Listing
+pub mod Sweep

@@ -1,0 +1,15 @@
+pub mod Through
+pub mod Rows
+pub mod Shown
+pub mod Round
+pub mod Out
+pub mod Visit
+pub mod Memory
+pub mod Rounding
+pub mod Solving
+pub mod Unread
+pub mod Sweeping
+pub mod Sweep
+pub mod Droppable
+pub mod Stores
+pub mod Workable

@@ -1,0 +1,9 @@
+pub mod Bitwise
+pub mod Folded
+pub mod Entries
+pub mod Search
+pub mod Attaching
+pub mod Adding
+pub mod Memory
+pub mod Kept
+pub mod Named

@@ -1,0 +1,12 @@
+pub mod Regions
+pub mod Only
+pub mod Inside
+pub mod Le
+pub mod Bytes
+pub mod Word
+pub mod Bits
+pub mod Lists
+pub mod Every
+pub mod Tabulate
+pub mod Keys
+pub mod Truth
