@@ -18,11 +18,11 @@ pub record Cleaned : Type 0 where
   pub outcome : Outcome
   pub passes : ℕ
 
-abbrev pub cellOf : Retained → Cell
-cellOf r = record { instruction = r .instruction; metadata = r .metadata }
+abbrev pub retainedCell : Retained → Cell
+retainedCell r = record { instruction = r .instruction; metadata = r .metadata }
 
 abbrev pub cellsAfter : List Retained → List Cell
-cellsAfter kept = map cellOf kept
+cellsAfter kept = map retainedCell kept
 
 -- "with old places in the given unit": the place of a later pass is one of the code before it
 unfoldable pub placedBy : List Retained → List Retained → List Retained

@@ -9,8 +9,8 @@ use lib.ListN.{getD}
 use Rattle.instruction.specs.declared.Instruction.{Instruction}
 use Rattle.instruction.specs.Instruction.{staticCallFuncId, callShapeIsClosure, callShapeStaticFuncId}
 use Rattle.unit.specs.declared.Metadata.{Metadata}
-use Rattle.unit.specs.declared.Function.{Function}
-use Rattle.unit.specs.declared.Function.the-variants.{Slots, Missing as NoFunction}
+use Rattle.unit.specs.declared.Callee.{Callee}
+use Rattle.unit.specs.declared.Callee.the-variants.{Slots, Missing as NoFunction}
 use Rattle.unit.specs.declared.Extern.{Extern}
 use Rattle.unit.specs.declared.Extern.the-variants.{Returns, Missing as NoExtern}
 use Rattle.unit.specs.Entry.{functionAt, externAt, kindCallLayout, kindCallIfaceLayout, kindCallExternLayout}
@@ -99,15 +99,15 @@ part base count = record { when = always; base = base; offset = fixed 0; count =
 
 -- ---- what the terms mean for one instruction
 
-unfoldable pub isThere : Function → Bool
+unfoldable pub isThere : Callee → Bool
 isThere (Slots p r) = true
 isThere NoFunction = false
 
-unfoldable pub paramSlots : Function → ℕ
+unfoldable pub paramSlots : Callee → ℕ
 paramSlots (Slots p r) = p
 paramSlots NoFunction = 0
 
-unfoldable pub returnSlots : Function → ℕ
+unfoldable pub returnSlots : Callee → ℕ
 returnSlots (Slots p r) = r
 returnSlots NoFunction = 0
 
@@ -120,10 +120,10 @@ externSlots (Returns r) = r
 externSlots NoExtern = 0
 
 module _ (T : Tables) (x : Cell) where
-  abbrev pub function : Function
+  abbrev pub function : Callee
   function = functionAt (T .functions) (staticCallFuncId (x .instruction))
 
-  abbrev pub shapeFunction : Function
+  abbrev pub shapeFunction : Callee
   shapeFunction = functionAt (T .functions) (callShapeStaticFuncId (x .instruction))
 
   abbrev pub externDef : Extern

@@ -8,23 +8,23 @@ use Rattle.instruction.specs.Opcode as op
 use Rattle.unit.specs.Entry.{kindElemLayout, kindMapGet, kindMapSet, kindMapDelete, kindPtrLayout, kindSlotLayout, kindQueueLayout, kindSelectExecLayout, kindMapIterNext, kindIfaceAssertLayout}
 use Rattle.effects.specs.Shape.{Demand, nothing, kind, callLayout, resultLayout, callee, extern, callShape, fixed, fieldA, fieldB, fieldC, fieldFlags, first, second, both, firstFlag, secondOk, array, params, results, returns, arguments, always, flagsAre, flagBit, closure, Part, part, Shape}
 
-pub record Row : Type 0 where
+pub record Arm : Type 0 where
   pub opcodes : List ℕ
   pub shape : Shape
 
-abbrev pub row : List ℕ → Shape → Row
+abbrev pub row : List ℕ → Shape → Arm
 row opcodes s = record { opcodes = opcodes; shape = s }
 
 abbrev pub shape : Demand → List Part → Shape
 shape demand parts = record { demand = demand; parts = parts }
 
 -- the shape of an opcode's row, or this one where no row names it
-unfoldable pub shapeIn : List Row → Shape → ℕ → Shape
+unfoldable pub shapeIn : List Arm → Shape → ℕ → Shape
 shapeIn [] other o = other
 shapeIn (r ∷ rs) other o = let rest = shapeIn rs other o in cond (isIn o (r .opcodes)) (r .shape) rest
 
 -- `visit_instruction_register_reads`; an opcode that is not named reads nothing
-abbrev pub readRows : List Row
+abbrev pub readRows : List Arm
 readRows =
     row
     (op.Copy ∷ op.PtrNew ∷ op.PtrGet ∷ op.PtrGetN ∷ op.NegI ∷ op.NegF ∷ op.NegF32 ∷ op.Not ∷ op.BoolNot ∷
@@ -173,7 +173,7 @@ unfolding shapeIn
 readShape = shapeIn readRows (shape nothing [])
 
 -- `visit_instruction_register_writes`. "Writes have a default: an opcode not named there writes a, ForLoop included."
-abbrev pub writeRows : List Row
+abbrev pub writeRows : List Arm
 writeRows =
     row
     (op.Hint ∷ op.SlotSet ∷ op.SlotSetN ∷ op.GlobalSet ∷ op.GlobalSetN ∷ op.PtrSet ∷ op.PtrSetN ∷ op.Jump ∷
@@ -248,7 +248,7 @@ unfolding shapeIn
 writeShape = shapeIn writeRows (shape nothing (part fieldA (fixed 1) ∷ []))
 
 -- `instruction_frame_memory_effect`: "for the four Slot opcodes, an array range that counts as read"
-abbrev pub arrayRows : List Row
+abbrev pub arrayRows : List Arm
 arrayRows =
     row (op.SlotGet ∷ op.SlotGetN ∷ []) (shape (kind kindSlotLayout) (part fieldB array ∷ []))
     ∷ row (op.SlotSet ∷ op.SlotSetN ∷ []) (shape (kind kindSlotLayout) (part fieldA array ∷ []))

@@ -1,7 +1,7 @@
 pub mod Cells
-pub mod Laws
+pub mod Unrefused
 pub mod Form
-pub mod Rows
+pub mod TableRows
 pub mod Ranges
 pub mod Operands
 pub mod Plain

@@ -11,8 +11,8 @@ ghost use Rattle.effects.specs.laws.Form.{demandAt};
 use crate::form;
 use crate::table;
 use instruction::Instruction;
+use unit::Callee;
 use unit::Extern;
-use unit::Function;
 use unit::Metadata;
 use unit::entry;
 
@@ -23,12 +23,12 @@ const CALL_IFACE_LAYOUT: u8 = 9;
 
 const CALL_EXTERN_LAYOUT: u8 = 10;
 
-fn is_there(f: Function) -> bool
+fn is_there(f: Callee) -> bool
     ensures { λ r. ⌜ r ≡ isThere f ⌝ }
 {
     match f {
-        Function::Slots(_, _) => true,
-        Function::Missing => false,
+        Callee::Slots(_, _) => true,
+        Callee::Missing => false,
     }
 }
 

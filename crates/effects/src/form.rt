@@ -11,26 +11,26 @@ ghost use Rattle.effects.specs.laws.Form.{formAt, emptyRange};
 ghost use Rattle.effects.specs.laws.Plain.{slotOf};
 use crate::Range;
 use instruction::Instruction;
+use unit::Callee;
 use unit::Extern;
-use unit::Function;
 use unit::Metadata;
 use unit::entry;
 
-pub fn param_slots(f: Function) -> usize
+pub fn param_slots(f: Callee) -> usize
     ensures { λ r. ⌜ (r ≡ paramSlots f) × (r < 65536) ⌝ }
 {
     match f {
-        Function::Slots(params, _) => params as usize,
-        Function::Missing => 0,
+        Callee::Slots(params, _) => params as usize,
+        Callee::Missing => 0,
     }
 }
 
-fn return_slots(f: Function) -> usize
+fn return_slots(f: Callee) -> usize
     ensures { λ r. ⌜ r ≡ returnSlots f ⌝ }
 {
     match f {
-        Function::Slots(_, returns) => returns as usize,
-        Function::Missing => 0,
+        Callee::Slots(_, returns) => returns as usize,
+        Callee::Missing => 0,
     }
 }
 
@@ -44,14 +44,14 @@ fn extern_slots(f: Extern) -> usize
 }
 
 // The function that Call names.
-pub fn callee(i: Instruction, functions: &[u8]) -> Function
+pub fn callee(i: Instruction, functions: &[u8]) -> Callee
     ensures { λ r. ⌜ r ≡ functionAt (now (functions .entry)) (staticCallFuncId i) ⌝ }
 {
     entry::function(functions, i.static_call_func_id() as usize)
 }
 
 // The function that GoStart, DeferPush and ErrDeferPush name where they call no closure.
-pub fn shape_callee(i: Instruction, functions: &[u8]) -> Function
+pub fn shape_callee(i: Instruction, functions: &[u8]) -> Callee
     ensures { λ r. ⌜ r ≡ functionAt (now (functions .entry)) (callShapeStaticFuncId i) ⌝ }
 {
     entry::function(functions, i.call_shape_static_func_id() as usize)

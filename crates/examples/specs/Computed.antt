@@ -20,7 +20,7 @@ use Rattle.flow.specs.Loop as flowLoop
 use Rattle.flow.specs.Reach as flowReach
 use Rattle.values.specs.Fold as valuesFold
 use Rattle.values.specs.Number as valuesNumber
-use Rattle.values.specs.Table as valuesTable
+use Rattle.values.specs.Values as valuesTable
 use Rattle.pc_map.specs.Relocate as pcmapRelocate
 use Rattle.liveness.specs.Dead as livenessDead
 use Rattle.liveness.specs.Live as livenessLive

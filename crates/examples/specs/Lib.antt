@@ -1,4 +1,4 @@
 pub mod Computed
 pub mod Unit
-pub mod Table
+pub mod Starred
 pub mod Runs

@@ -14,4 +14,4 @@ pub mod Successors
 pub mod Reached
 pub mod Control
 pub mod Listing
-pub mod Sweep
+pub mod ControlSweep

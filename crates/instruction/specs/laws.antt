@@ -1,3 +1,3 @@
 pub mod Class
 pub mod Instruction
-pub mod Laws
+pub mod ReadBack

@@ -17,7 +17,7 @@ use Rattle.words.specs.Le.{u32At}
 use Rattle.instruction.specs.declared.Instruction.{Instruction}
 use Rattle.instruction.specs.Instruction.{instructionAt}
 use Rattle.unit.specs.Result.{resultBytes, resultPlacesAt}
-use Rattle.unit.specs.laws.Laws.{result-long}
+use Rattle.unit.specs.laws.UnitLaws.{result-long}
 use Rattle.unit.specs.Size.{resultSize}
 use Rattle.answer.specs.Pass.{Outcome, unchanged, refused, rewritten, outputAfter}
 use Rattle.answer.specs.Answer.{Lent, lentOf, passAnswer}

@@ -4,7 +4,7 @@ pub mod Shown
 pub mod Round
 pub mod Out
 pub mod Visit
-pub mod Memory
+pub mod SetMemory
 pub mod Rounding
 pub mod Solving
 pub mod Unread

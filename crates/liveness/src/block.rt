@@ -8,11 +8,11 @@ ghost use Rattle.effects.specs.Shape.{tablesOf};
 ghost use Rattle.effects.specs.laws.Cells.{cellOf, cellsBy};
 ghost use Rattle.pc_map.specs.Boundary.{isKept};
 ghost use Rattle.use_def.specs.laws.Touched.{Fits};
-ghost use Rattle.liveness.specs.laws.Memory.{Laid, codeOf, usesOf, preservedOf, liveOf};
+ghost use Rattle.liveness.specs.laws.SetMemory.{LayoutFits, codeWords, usesOf, preservedOf, liveOf};
 ghost use Rattle.words.specs.laws.Only.{At, Either, Only};
 ghost use Rattle.liveness.specs.laws.Through.{Placed, Summary};
 ghost use Rattle.liveness.specs.laws.Visit.{Rising, Summed};
-use crate::Layout;
+use crate::SetLayout;
 use effects::branching;
 use effects::single;
 use instruction::Instruction;
@@ -113,7 +113,7 @@ fn summarize_block(
 // The sets of all blocks. What the memory holds beside code and sets, the row among it, is free.
 pub fn summarize(
     memory: &mut [u64],
-    sets: Layout,
+    sets: SetLayout,
     metadata: &[u8],
     keep: &[u32],
     functions: &[u8],
@@ -121,8 +121,8 @@ pub fn summarize(
     cases: &[u8],
     starts: &[u32],
 )
-    requires { ⌜ Laid sets (length (now memory)) × (sets .count < length (now starts)) × Rising (now starts) (sets .count) (sets .code) × (metadataSize * sets .code ≤ length (now metadata)) × (length (now keep) ≡ sets .code) × ((p : ℕ) → p < sets .code → Fits (sets .width) (tablesOf (now functions) (now externs) (now cases)) (cellOf (now metadata) p (getD (now memory) p 0))) × (0 < sets .width) ⌝ }
-    ensures { λ _. ⌜ Summed (tablesOf (now (functions .entry)) (now (externs .entry)) (now (cases .entry))) (now (keep .entry)) (cellsBy (codeOf sets (now (memory .entry))) (now (metadata .entry))) (sets .width) (now (starts .entry)) (usesOf sets (now (memory .exit))) (preservedOf sets (now (memory .exit))) (sets .count) × (codeOf sets (now (memory .exit)) ≡ codeOf sets (now (memory .entry))) × (liveOf sets (now (memory .exit)) ≡ liveOf sets (now (memory .entry))) ⌝ }
+    requires { ⌜ LayoutFits sets (length (now memory)) × (sets .count < length (now starts)) × Rising (now starts) (sets .count) (sets .code) × (metadataSize * sets .code ≤ length (now metadata)) × (length (now keep) ≡ sets .code) × ((p : ℕ) → p < sets .code → Fits (sets .width) (tablesOf (now functions) (now externs) (now cases)) (cellOf (now metadata) p (getD (now memory) p 0))) × (0 < sets .width) ⌝ }
+    ensures { λ _. ⌜ Summed (tablesOf (now (functions .entry)) (now (externs .entry)) (now (cases .entry))) (now (keep .entry)) (cellsBy (codeWords sets (now (memory .entry))) (now (metadata .entry))) (sets .width) (now (starts .entry)) (usesOf sets (now (memory .exit))) (preservedOf sets (now (memory .exit))) (sets .count) × (codeWords sets (now (memory .exit)) ≡ codeWords sets (now (memory .entry))) × (liveOf sets (now (memory .exit)) ≡ liveOf sets (now (memory .entry))) ⌝ }
 {
     let mut b: usize = 0;
     while b < sets.count {

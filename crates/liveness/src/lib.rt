@@ -7,7 +7,7 @@ mod sweep;
 
 // Where sets of slots lie in one buffer of words: behind the code's words one set, and then, for each of the blocks, the set that
 // it uses, the set that it preserves, and the set that is live at its start.
-pub struct Layout {
+pub struct SetLayout {
     pub code: usize,
     pub width: usize,
     pub count: usize,

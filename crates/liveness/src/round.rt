@@ -7,17 +7,23 @@ ghost use Rattle.instruction.specs.Instruction.{ofWord};
 ghost use Rattle.effects.specs.Shape.{Sections};
 ghost use Rattle.effects.specs.laws.Cells.{cellsBy};
 ghost use Rattle.liveness.specs.Live.{Row};
-ghost use Rattle.liveness.specs.laws.Memory.{Ready, InRows, codeOf, usesOf, preservedOf, liveOf};
+ghost use Rattle.liveness.specs.laws.SetMemory.{Ready, InRows, codeWords, usesOf, preservedOf, liveOf};
 ghost use Rattle.words.specs.laws.Only.{Only};
 ghost use Rattle.liveness.specs.laws.Rounding.{Around, Rounded};
 ghost use Rattle.liveness.specs.laws.Solving.{Solved};
 ghost use Rattle.liveness.specs.laws.Visit.{Visited};
-use crate::Layout;
+use crate::SetLayout;
 use crate::out;
 use use_def::row;
 
 // Makes the row of block b anew, of the rows as they are. The answer is whether it is another one now.
-fn visit_block(memory: &mut [u64], sets: Layout, blocks: &[u32], starts: &[u32], b: usize) -> bool
+fn visit_block(
+    memory: &mut [u64],
+    sets: SetLayout,
+    blocks: &[u32],
+    starts: &[u32],
+    b: usize,
+) -> bool
     requires { ⌜ Ready sets (now memory) (now blocks) (now starts) × (b < sets .count) ⌝ }
     ensures { λ r. ⌜ Visited (sets .width) b (getD (now (starts .entry)) (b + 1) 0 - 1) (sets .code) (ofWord (getD (now (memory .entry)) (getD (now (starts .entry)) (b + 1) 0 - 1) 0)) (now (blocks .entry)) (usesOf sets (now (memory .entry))) (preservedOf sets (now (memory .entry))) (liveOf sets (now (memory .entry))) (liveOf sets (now (memory .exit))) r × Only (InRows sets) (now (memory .entry)) (now (memory .exit)) ⌝ }
 {
@@ -36,9 +42,9 @@ fn visit_block(memory: &mut [u64], sets: Layout, blocks: &[u32], starts: &[u32],
 }
 
 // One round. The answer is whether it changed any row.
-fn round(memory: &mut [u64], sets: Layout, blocks: &[u32], starts: &[u32]) -> bool
+fn round(memory: &mut [u64], sets: SetLayout, blocks: &[u32], starts: &[u32]) -> bool
     requires { ⌜ Ready sets (now memory) (now blocks) (now starts) ⌝ }
-    ensures { λ r. ⌜ ((S : Sections) (leaders keep metadata : List ℕ) (rows : List Row) → Around S leaders keep (cellsBy (codeOf sets (now (memory .entry))) metadata) (sets .width) (sets .count) rows (now (blocks .entry)) (now (starts .entry)) (usesOf sets (now (memory .entry))) (preservedOf sets (now (memory .entry))) (liveOf sets (now (memory .entry))) → Rounded S leaders keep (cellsBy (codeOf sets (now (memory .entry))) metadata) (sets .width) rows (liveOf sets (now (memory .exit))) r) × Only (InRows sets) (now (memory .entry)) (now (memory .exit)) ⌝ }
+    ensures { λ r. ⌜ ((S : Sections) (leaders keep metadata : List ℕ) (rows : List Row) → Around S leaders keep (cellsBy (codeWords sets (now (memory .entry))) metadata) (sets .width) (sets .count) rows (now (blocks .entry)) (now (starts .entry)) (usesOf sets (now (memory .entry))) (preservedOf sets (now (memory .entry))) (liveOf sets (now (memory .entry))) → Rounded S leaders keep (cellsBy (codeWords sets (now (memory .entry))) metadata) (sets .width) rows (liveOf sets (now (memory .exit))) r) × Only (InRows sets) (now (memory .entry)) (now (memory .exit)) ⌝ }
 {
     let mut changed = false;
     let mut b = sets.count;
@@ -51,9 +57,15 @@ fn round(memory: &mut [u64], sets: Layout, blocks: &[u32], starts: &[u32]) -> bo
 }
 
 // At most so many rounds, until one changes nothing. The answer is whether one did not; the row is free.
-pub fn solve(memory: &mut [u64], sets: Layout, blocks: &[u32], starts: &[u32], limit: usize) -> bool
+pub fn solve(
+    memory: &mut [u64],
+    sets: SetLayout,
+    blocks: &[u32],
+    starts: &[u32],
+    limit: usize,
+) -> bool
     requires { ⌜ Ready sets (now memory) (now blocks) (now starts) ⌝ }
-    ensures { λ r. ⌜ ((S : Sections) (leaders keep metadata : List ℕ) (rows : List Row) → Around S leaders keep (cellsBy (codeOf sets (now (memory .entry))) metadata) (sets .width) (sets .count) rows (now (blocks .entry)) (now (starts .entry)) (usesOf sets (now (memory .entry))) (preservedOf sets (now (memory .entry))) (liveOf sets (now (memory .entry))) → Solved S leaders keep (cellsBy (codeOf sets (now (memory .entry))) metadata) (sets .width) limit rows (liveOf sets (now (memory .exit))) r) × (codeOf sets (now (memory .exit)) ≡ codeOf sets (now (memory .entry))) × (usesOf sets (now (memory .exit)) ≡ usesOf sets (now (memory .entry))) × (preservedOf sets (now (memory .exit)) ≡ preservedOf sets (now (memory .entry))) ⌝ }
+    ensures { λ r. ⌜ ((S : Sections) (leaders keep metadata : List ℕ) (rows : List Row) → Around S leaders keep (cellsBy (codeWords sets (now (memory .entry))) metadata) (sets .width) (sets .count) rows (now (blocks .entry)) (now (starts .entry)) (usesOf sets (now (memory .entry))) (preservedOf sets (now (memory .entry))) (liveOf sets (now (memory .entry))) → Solved S leaders keep (cellsBy (codeWords sets (now (memory .entry))) metadata) (sets .width) limit rows (liveOf sets (now (memory .exit))) r) × (codeWords sets (now (memory .exit)) ≡ codeWords sets (now (memory .entry))) × (usesOf sets (now (memory .exit)) ≡ usesOf sets (now (memory .entry))) × (preservedOf sets (now (memory .exit)) ≡ preservedOf sets (now (memory .entry))) ⌝ }
 {
     let mut k = limit;
     while k > 0 {

@@ -9,9 +9,9 @@ ghost use Rattle.effects.specs.Shape.{tablesOf};
 ghost use Rattle.effects.specs.laws.Cells.{cellsBy};
 ghost use Rattle.liveness.specs.Dead.{deadStores};
 ghost use Rattle.liveness.specs.laws.Sweep.{sections};
-ghost use Rattle.liveness.specs.laws.Memory.{laidOut, codeOf, leadersOf, flagsAt, flagsOf};
+ghost use Rattle.liveness.specs.laws.SetMemory.{laidOut, codeWords, leadersOf, flagsAt, flagsOf};
 ghost use Rattle.liveness.specs.laws.Workable.{Known, Workable};
-use crate::Layout;
+use crate::SetLayout;
 use crate::block;
 use crate::round;
 use crate::sweep;
@@ -19,14 +19,14 @@ use unit::size;
 use words::fill;
 
 // One set behind the code's n words, and three for each block.
-fn laid_out(n: usize, w: usize, count: usize) -> Layout
+fn laid_out(n: usize, w: usize, count: usize) -> SetLayout
     requires { ⌜ n + w + 3 * (w * count) < 2 ^ 64 ⌝ }
     ensures { λ r. ⌜ r ≡ laidOut n w count ⌝ }
 {
     let size = w * count;
     let uses = n + w;
     let preserved = uses + size;
-    Layout {
+    SetLayout {
         code: n,
         width: w,
         count: count,
@@ -41,7 +41,7 @@ fn laid_out(n: usize, w: usize, count: usize) -> Layout
 fn drop_stores(
     memory: &mut [u64],
     table: &mut [u32],
-    sets: Layout,
+    sets: SetLayout,
     metadata: &[u8],
     types: &[u8],
     functions: &[u8],
@@ -49,7 +49,7 @@ fn drop_stores(
     cases: &[u8],
 )
     requires { ⌜ Workable sets (tablesOf (now functions) (now externs) (now cases)) (now memory) (now metadata) (now types) (now table) ⌝ }
-    ensures { λ _. ⌜ ((constants : List ℕ) → now (table .exit) ≡ putMid (flagsAt (sets .code)) (sets .code) (now (table .entry)) (deadStores (sections (length (now (types .entry))) (now (types .entry)) constants (tablesOf (now (functions .entry)) (now (externs .entry)) (now (cases .entry)))) (leadersOf (sets .code) (now (table .entry))) (flagsOf (sets .code) (now (table .entry))) (cellsBy (codeOf sets (now (memory .entry))) (now (metadata .entry))))) × (codeOf sets (now (memory .exit)) ≡ codeOf sets (now (memory .entry))) ⌝ }
+    ensures { λ _. ⌜ ((constants : List ℕ) → now (table .exit) ≡ putMid (flagsAt (sets .code)) (sets .code) (now (table .entry)) (deadStores (sections (length (now (types .entry))) (now (types .entry)) constants (tablesOf (now (functions .entry)) (now (externs .entry)) (now (cases .entry)))) (leadersOf (sets .code) (now (table .entry))) (flagsOf (sets .code) (now (table .entry))) (cellsBy (codeWords sets (now (memory .entry))) (now (metadata .entry))))) × (codeWords sets (now (memory .exit)) ≡ codeWords sets (now (memory .entry))) ⌝ }
 {
     let n = sets.code;
     let starts = 2 * n;

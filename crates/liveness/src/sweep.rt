@@ -15,11 +15,11 @@ ghost use Rattle.use_def.specs.laws.Touched.{Fits};
 ghost use Rattle.use_def.specs.laws.Free.{Spans, deadBy};
 ghost use Rattle.liveness.specs.Live.{Row, isLast};
 ghost use Rattle.liveness.specs.Dead.{sweepFrom};
-ghost use Rattle.liveness.specs.laws.Memory.{Laid, Coded, Sweepable, codeOf, rowOf, liveOf, leadersOf, blocksOf, flagsAt, flagsOf};
+ghost use Rattle.liveness.specs.laws.SetMemory.{LayoutFits, Coded, Sweepable, codeWords, rowOf, liveOf, leadersOf, blocksOf, flagsAt, flagsOf};
 ghost use Rattle.words.specs.laws.Only.{At, Only};
 ghost use Rattle.liveness.specs.laws.Sweeping.{Entered, Swept};
 ghost use Rattle.liveness.specs.laws.Sweep.{Grounds, sections};
-use crate::Layout;
+use crate::SetLayout;
 use crate::out;
 use effects::branching;
 use effects::single;
@@ -40,7 +40,7 @@ fn is_last(leaders: &[u32], p: usize) -> bool
 }
 
 // What is live after place p, of what is live before the next one.
-fn enter_place(memory: &mut [u64], sets: Layout, blocks: &[u32], leaders: &[u32], p: usize)
+fn enter_place(memory: &mut [u64], sets: SetLayout, blocks: &[u32], leaders: &[u32], p: usize)
     requires { ⌜ Coded sets (now memory) (now blocks) × (p < sets .code) × (length (now leaders) ≡ sets .code) ⌝ }
     ensures { λ _. ⌜ Entered (isLast (length (now (leaders .entry))) (now (leaders .entry)) p) (sets .width) (liveOf sets (now (memory .entry))) (now (blocks .entry)) (sets .code) p (ofWord (getD (now (memory .entry)) p 0)) (rowOf sets (now (memory .entry))) (rowOf sets (now (memory .exit))) × Only (At (sets .row) (sets .width)) (now (memory .entry)) (now (memory .exit)) ⌝ }
 {
@@ -53,7 +53,7 @@ fn enter_place(memory: &mut [u64], sets: Layout, blocks: &[u32], leaders: &[u32]
 fn sweep_place(
     memory: &mut [u64],
     keep: &mut [u32],
-    sets: Layout,
+    sets: SetLayout,
     metadata: &[u8],
     types: &[u8],
     functions: &[u8],
@@ -61,7 +61,7 @@ fn sweep_place(
     cases: &[u8],
     p: usize,
 )
-    requires { ⌜ Laid sets (length (now memory)) × (p < sets .code) × (metadataSize * sets .code ≤ length (now metadata)) × (length (now keep) ≡ sets .code) × Spans (now types) (rowOf sets (now memory)) (getD (writesByClass (class (ofWord (getD (now memory) p 0))) (ofWord (getD (now memory) p 0))) 0 emptyRange) × Fits (sets .width) (tablesOf (now functions) (now externs) (now cases)) (cellOf (now metadata) p (getD (now memory) p 0)) × (0 < sets .width) ⌝ }
+    requires { ⌜ LayoutFits sets (length (now memory)) × (p < sets .code) × (metadataSize * sets .code ≤ length (now metadata)) × (length (now keep) ≡ sets .code) × Spans (now types) (rowOf sets (now memory)) (getD (writesByClass (class (ofWord (getD (now memory) p 0))) (ofWord (getD (now memory) p 0))) 0 emptyRange) × Fits (sets .width) (tablesOf (now functions) (now externs) (now cases)) (cellOf (now metadata) p (getD (now memory) p 0)) × (0 < sets .width) ⌝ }
     ensures { λ _. ⌜ Swept (tablesOf (now (functions .entry)) (now (externs .entry)) (now (cases .entry))) (isKept (now (keep .entry)) p) (deadBy (now (types .entry)) (rowOf sets (now (memory .entry))) (ofWord (getD (now (memory .entry)) p 0))) (cellOf (now (metadata .entry)) p (getD (now (memory .entry)) p 0)) p (now (keep .entry)) (now (keep .exit)) (rowOf sets (now (memory .entry))) (rowOf sets (now (memory .exit))) × Only (At (sets .row) (sets .width)) (now (memory .entry)) (now (memory .exit)) ⌝ }
 {
     if keep[p] != 1 {
@@ -103,7 +103,7 @@ fn sweep_place(
 pub fn sweep(
     memory: &mut [u64],
     table: &mut [u32],
-    sets: Layout,
+    sets: SetLayout,
     metadata: &[u8],
     types: &[u8],
     functions: &[u8],
@@ -111,7 +111,7 @@ pub fn sweep(
     cases: &[u8],
 )
     requires { ⌜ Sweepable sets (tablesOf (now functions) (now externs) (now cases)) (now memory) (now metadata) (now types) (now table) × (0 < sets .width) ⌝ }
-    ensures { λ _. ⌜ ((locals : ℕ) (constants : List ℕ) (rows : List Row) → Grounds (sections locals (now (types .entry)) constants (tablesOf (now (functions .entry)) (now (externs .entry)) (now (cases .entry)))) (leadersOf (sets .code) (now (table .entry))) (flagsOf (sets .code) (now (table .entry))) (cellsBy (codeOf sets (now (memory .entry))) (now (metadata .entry))) rows (sets .width) (blocksOf (sets .code) (now (table .entry))) (liveOf sets (now (memory .entry))) → flagsOf (sets .code) (now (table .exit)) ≡ sweepFrom (sections locals (now (types .entry)) constants (tablesOf (now (functions .entry)) (now (externs .entry)) (now (cases .entry)))) (length (cellsBy (codeOf sets (now (memory .entry))) (now (metadata .entry)))) (leadersOf (sets .code) (now (table .entry))) (flagsOf (sets .code) (now (table .entry))) rows 0 (cellsBy (codeOf sets (now (memory .entry))) (now (metadata .entry))) .keep) × (now (table .exit) ≡ putMid (flagsAt (sets .code)) (sets .code) (now (table .entry)) (flagsOf (sets .code) (now (table .exit)))) × (codeOf sets (now (memory .exit)) ≡ codeOf sets (now (memory .entry))) ⌝ }
+    ensures { λ _. ⌜ ((locals : ℕ) (constants : List ℕ) (rows : List Row) → Grounds (sections locals (now (types .entry)) constants (tablesOf (now (functions .entry)) (now (externs .entry)) (now (cases .entry)))) (leadersOf (sets .code) (now (table .entry))) (flagsOf (sets .code) (now (table .entry))) (cellsBy (codeWords sets (now (memory .entry))) (now (metadata .entry))) rows (sets .width) (blocksOf (sets .code) (now (table .entry))) (liveOf sets (now (memory .entry))) → flagsOf (sets .code) (now (table .exit)) ≡ sweepFrom (sections locals (now (types .entry)) constants (tablesOf (now (functions .entry)) (now (externs .entry)) (now (cases .entry)))) (length (cellsBy (codeWords sets (now (memory .entry))) (now (metadata .entry)))) (leadersOf (sets .code) (now (table .entry))) (flagsOf (sets .code) (now (table .entry))) rows 0 (cellsBy (codeWords sets (now (memory .entry))) (now (metadata .entry))) .keep) × (now (table .exit) ≡ putMid (flagsAt (sets .code)) (sets .code) (now (table .entry)) (flagsOf (sets .code) (now (table .exit)))) × (codeWords sets (now (memory .exit)) ≡ codeWords sets (now (memory .entry))) ⌝ }
 {
     let n = sets.code;
     let flags = 3 * n + 1;

@@ -17,7 +17,7 @@ use Rattle.instruction.proofs.Class.{the-type as class-type}
 use Rattle.instruction.specs.Class.{numberOf, namedClass}
 use Rattle.effects.specs.Shape.{Sections}
 use Rattle.flow.proofs.Classes.{tag, of-tag}
-use Rattle.values.specs.Table.{Values, valueOf}
+use Rattle.values.specs.Values.{Values, valueOf}
 use Rattle.values.specs.Number.{numberUnary, numberBinary, numberJump, cleared as clearedBy, numberBy}
 use Rattle.numbering.specs.laws.Walk.{foldBy, secondOf, binaryClass, operatorClass, onZero, combined, operated, takes, pureBy, otherBy, by-other}
 use Rattle.values.specs.laws.Named.{Named}

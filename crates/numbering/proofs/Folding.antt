@@ -8,9 +8,9 @@ use Prim.Native.Nat.{ℕ, _+_}
 use lib.Dec.{ltb}
 use Rattle.words.specs.Lists.{isIn}
 use Rattle.values.specs.Fold.{foldingUnary, foldingBinary, foldWord}
-use Rattle.values.specs.Table.{Expression}
+use Rattle.values.specs.Values.{Expression}
 use Rattle.values.specs.Number.{foldUnary, foldBinary}
-use Rattle.values.specs.laws.Folded.{integerOf, answered, expressionOf}
+use Rattle.values.specs.laws.Folded.{integerOf, foldedAs, expressionOf}
 use Rattle.values.specs.laws.Memory.{integerAt, atomAt}
 use Rattle.numbering.specs.laws.Walk.{wordOf, foldBy}
 use Rattle.values.specs.declared.Atom.{Atom}
@@ -19,8 +19,8 @@ use Rattle.values.specs.declared.Folded.{Folded}
 use Rattle.values.specs.declared.Folded.the-variants.{Not}
 use Rattle.values.proofs.Atoms.{integer-at}
 
-word-answered : (o : Option ℕ) → wordOf (answered o) ≡ o
-unfolding wordOf answered
+word-answered : (o : Option ℕ) → wordOf (foldedAs o) ≡ o
+unfolding wordOf foldedAs
 word-answered (some v) = refl
 word-answered none = refl
 
@@ -63,7 +63,7 @@ module _ (n S : ℕ) (c : List ℕ) (op flags left right : ℕ) where
       rw (integer-at n S dest c left, integer-at n S dest c right) (sym (fold-two (expressionOf op flags x y) x y))
 
   pub fold-binary-numbers : {b : Bool} (x y : Atom) {r : Folded} → b ≡ true → integerOf x ≡ integerAt n S c left → integerOf y ≡ integerAt n S c right
-      → r ≡ answered (foldBinary (expressionOf op flags x y) x y)
+      → r ≡ foldedAs (foldBinary (expressionOf op flags x y) x y)
       → (dest : ℕ → ℕ) → wordOf r ≡ foldBy b (expressionOf op flags (atomAt n S dest c left) (atomAt n S dest c right))
   fold-binary-numbers x y e p q z dest =
       rw e
@@ -86,7 +86,7 @@ module _ (n S : ℕ) (c : List ℕ) (op flags left right : ℕ) where
       go false l true r d = rw r (none-right op flags (integerAt n S c left))
       go false l false r d = absurd (false≢true d)
 
-  pub fold-unary-number : {b : Bool} (x : Atom) {r : Folded} → b ≡ false → integerOf x ≡ integerAt n S c left → ((y : Atom) → r ≡ answered (foldUnary (expressionOf op flags x y) x))
+  pub fold-unary-number : {b : Bool} (x : Atom) {r : Folded} → b ≡ false → integerOf x ≡ integerAt n S c left → ((y : Atom) → r ≡ foldedAs (foldUnary (expressionOf op flags x y) x))
       → (dest : ℕ → ℕ) → wordOf r ≡ foldBy b (expressionOf op flags (atomAt n S dest c left) (atomAt n S dest c right))
   unfolding foldBy
   fold-unary-number x e p z dest =

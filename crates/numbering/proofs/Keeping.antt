@@ -9,14 +9,14 @@ use lib.ListN.{length, getD}
 use Rattle.instruction.specs.declared.Instruction.{Instruction}
 use Rattle.instruction.specs.Instruction.{plain}
 use Rattle.effects.specs.Shape.{Tables}
-use Rattle.values.specs.Table.{Values, valueOf, expressionIn, recordedSlot}
+use Rattle.values.specs.Values.{Values, valueOf, expressionIn, recordedSlot}
 use Rattle.values.specs.Number.{copyOrStay}
 use Rattle.values.specs.laws.Folded.{expressionOf}
 use Rattle.values.specs.laws.Entries.{Key, value, newest}
 use Rattle.values.specs.laws.Search.{newest-le}
 use Rattle.values.specs.laws.Memory.{memoryOf, numberAt, expressionKey, slotFound, limit, usableAt, expressionIf, expressionAt, Ready, atomIn, atomFound, Holds}
-use Rattle.values.specs.laws.Kept.{Kept, Same}
-use Rattle.numbering.specs.laws.Walk.{sectionsOf, Room}
+use Rattle.values.specs.laws.Promises.{Kept, Same}
+use Rattle.numbering.specs.laws.Walk.{sectionsWith, Room}
 use Rattle.values.specs.declared.Atom.{Atom}
 use Rattle.values.specs.declared.Found.{Found}
 use Rattle.values.specs.declared.Found.the-variants.{At, Nothing}
@@ -81,7 +81,7 @@ module _ {n : ℕ} (types : List ℕ) {t : List ℕ} where
   pub copy-found : {f : Found} {r d : ℕ} (i : Instruction) {j : Instruction} → Ready n (length types) t → d < limit n (length types) (memoryOf n (length types) t)
       → f ≡ usableAt types (memoryOf n (length types) t) d (getD types (i .a) 0) → f ≡ At r → j ≡ plain 3 (i .a) r 0
       → (j .a ≡ i .a) × ((dest : ℕ → ℕ) (z : List ℕ) (l : ℕ) (T : Tables) (v : Values) → Knows n types t dest v
-      → j ≡ copyOrStay (sectionsOf types z l T) i (recordedSlot types v (valueAt n types t dest d) (getD types (i .a) 0)))
+      → j ≡ copyOrStay (sectionsWith types z l T) i (recordedSlot types v (valueAt n types t dest d) (getD types (i .a) 0)))
   unfolding copyOrStay slotFound
   copy-found {f} {r} {d} i {j} g low e q s = (
     rw s,
@@ -94,7 +94,7 @@ module _ {n : ℕ} (types : List ℕ) {t : List ℕ} where
   pub copy-none : {f : Found} {d : ℕ} (i : Instruction) → Ready n (length types) t → d < limit n (length types) (memoryOf n (length types) t)
       → f ≡ usableAt types (memoryOf n (length types) t) d (getD types (i .a) 0) → f ≡ Nothing
       → (dest : ℕ → ℕ) (z : List ℕ) (l : ℕ) (T : Tables) (v : Values) → Knows n types t dest v
-      → i ≡ copyOrStay (sectionsOf types z l T) i (recordedSlot types v (valueAt n types t dest d) (getD types (i .a) 0))
+      → i ≡ copyOrStay (sectionsWith types z l T) i (recordedSlot types v (valueAt n types t dest d) (getD types (i .a) 0))
   unfolding copyOrStay slotFound
   copy-none {f} {d} i g low e q dest z l T v h =
       let known : none ≡ recordedSlot types v (valueAt n types t dest d) (getD types (i .a) 0)

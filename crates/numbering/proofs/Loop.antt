@@ -17,11 +17,11 @@ use Rattle.instruction.specs.declared.Instruction.{Instruction}
 use Rattle.instruction.specs.Instruction.{ofWord, toWord}
 use Rattle.effects.specs.Shape.{Tables, Cell}
 use Rattle.effects.specs.laws.Cells.{cellsBy}
-use Rattle.values.specs.Table.{Values, empty}
+use Rattle.values.specs.Values.{Values, empty}
 use Rattle.values.specs.Number.{number, numberCode}
 use Rattle.values.specs.laws.Memory.{memoryOf, Ready, Holds}
-use Rattle.values.specs.laws.Kept.{Kept, Clears}
-use Rattle.numbering.specs.laws.Walk.{sectionsOf, Stands, Room, Becomes, numberWords, code-words, Begins, Enters, Turns}
+use Rattle.values.specs.laws.Promises.{Kept, Clears}
+use Rattle.numbering.specs.laws.Walk.{sectionsWith, Stands, Room, Becomes, numberWords, code-words, Begins, Enters, Turns}
 use Rattle.values.proofs.Recording.{unchanged}
 use Rattle.numbering.proofs.Keeping.{kept-then}
 
@@ -71,7 +71,7 @@ pub record Progress (code₀ leaders types constants : List ℕ) (n : ℕ) (code
   pub epochs-few : memoryOf n (length types) memory .epoch ≤ 2 * p + 1
   pub later : (q : ℕ) → p ≤ q → getD code q 0 ≡ getD code₀ q 0
   pub walk : (locals : ℕ) (tables : Tables) → (v : Values) × Holds n (length types) (destOf code₀) v (memoryOf n (length types) memory)
-      × (take p code ++ numberWords (sectionsOf types constants locals tables) leaders p v (drop p code₀) ≡ numberWords (sectionsOf types constants locals tables) leaders 0 empty code₀)
+      × (take p code ++ numberWords (sectionsWith types constants locals tables) leaders p v (drop p code₀) ≡ numberWords (sectionsWith types constants locals tables) leaders 0 empty code₀)
 
 module _ {code₀ leaders types constants : List ℕ} {n : ℕ} where
   pub progress-start : {memory : List ℕ} → length code₀ ≡ n → (memory₀ : List ℕ) → Begins n (length types) memory₀ memory
@@ -120,16 +120,16 @@ module _ {code₀ leaders types constants : List ℕ} {n : ℕ} where
               let k = g .walk locals tables in
               let s : Stands n p (ofWord w) (destOf code₀) = rw same (stands code₀ n p l) in
               let y = b .holds (destOf code₀) locals tables (k .0) s (k .1) in (
-                number (sectionsOf types constants locals tables) p (ofWord w) (cond (eqb leader 1) empty (k .0)) .table,
+                number (sectionsWith types constants locals tables) p (ofWord w) (cond (eqb leader 1) empty (k .0)) .table,
                 y .1,
                 rw (add-one p, take-suc-set code p x inside)
                     (append-assoc (take p code) (x ∷ []) _
-                    ∙ rw (y .0, q, same) (ap (λ (z : List ℕ). take p code ++ numberWords (sectionsOf types constants locals tables) leaders p (k .0) z) (sym (drop-cons code₀ p 0 inside₀)) ∙ k .2)),
+                    ∙ rw (y .0, q, same) (ap (λ (z : List ℕ). take p code ++ numberWords (sectionsWith types constants locals tables) leaders p (k .0) z) (sym (drop-cons code₀ p 0 inside₀)) ∙ k .2)),
               );
         }
 
   pub progress-end : {code memory : List ℕ} {p : ℕ} → Progress code₀ leaders types constants n code memory p → n ≤ p → (metadata : List ℕ) (locals : ℕ) (tables : Tables)
-      → code ≡ map (λ (x : Cell). toWord (x .instruction)) (numberCode (sectionsOf types constants locals tables) leaders (cellsBy code₀ metadata))
+      → code ≡ map (λ (x : Cell). toWord (x .instruction)) (numberCode (sectionsWith types constants locals tables) leaders (cellsBy code₀ metadata))
   unfolding numberWords
   progress-end {code} {memory} {p} g h metadata locals tables =
       let k = g .walk locals tables in
@@ -137,8 +137,8 @@ module _ {code₀ leaders types constants : List ℕ} {n : ℕ} where
       let all : take p code ≡ code = take-all p code (omega (arith, g .size)) in
       let none : drop p code₀ ≡ [] = ap (λ (i : ℕ). drop i code₀) (at ∙ sym (g .size₀)) ∙ drop-length code₀ in
       let whole = k .2 in
-      let done : code ++ numberWords (sectionsOf types constants locals tables) leaders p (k .0) [] ≡ numberWords (sectionsOf types constants locals tables) leaders 0 empty code₀ = rw (all, none) at whole in
-      sym (append-nil code) ∙ done ∙ sym (code-words (sectionsOf types constants locals tables) leaders code₀ metadata)
+      let done : code ++ numberWords (sectionsWith types constants locals tables) leaders p (k .0) [] ≡ numberWords (sectionsWith types constants locals tables) leaders 0 empty code₀ = rw (all, none) at whole in
+      sym (append-nil code) ∙ done ∙ sym (code-words (sectionsWith types constants locals tables) leaders code₀ metadata)
 
 -- ---- the code and, after it, the table in one memory
 
@@ -190,7 +190,7 @@ module _ {leaders types constants : List ℕ} where
 
 -- no code
 pub no-code : (code leaders types constants : List ℕ) → length code ≡ 0 → (metadata : List ℕ) (locals : ℕ) (tables : Tables)
-    → code ≡ map (λ (x : Cell). toWord (x .instruction)) (numberCode (sectionsOf types constants locals tables) leaders (cellsBy code metadata))
+    → code ≡ map (λ (x : Cell). toWord (x .instruction)) (numberCode (sectionsWith types constants locals tables) leaders (cellsBy code metadata))
 unfolding numberWords
-no-code [] leaders types constants e metadata locals tables = sym (code-words (sectionsOf types constants locals tables) leaders [] metadata)
+no-code [] leaders types constants e metadata locals tables = sym (code-words (sectionsWith types constants locals tables) leaders [] metadata)
 no-code (w ∷ ws) leaders types constants e metadata locals tables = absurd (omega arith)

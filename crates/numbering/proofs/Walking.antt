@@ -17,13 +17,13 @@ use Rattle.instruction.specs.declared.Class.the-variants.{Return}
 use Rattle.instruction.specs.Instruction.{plain, withImm32}
 use Rattle.values.specs.Fold.{fitsImm32}
 use Rattle.effects.specs.Shape.{Sections, Tables}
-use Rattle.values.specs.Table.{Values, Expression, valueOf, expressionIn, recordedSlot, representative, learn}
+use Rattle.values.specs.Values.{Values, Expression, valueOf, expressionIn, recordedSlot, representative, learn}
 use Rattle.values.specs.Number.{Numbered, setA, setB, setBC, loadOrStay, stored as storedBy, copyOrStay, byExpression, byValue, numberCopy, numberConstant, numberRead, decided, numberJump, cleared as clearedBy, numberBy}
 use Rattle.values.specs.laws.Folded.{integerOf, expressionOf}
 use Rattle.values.specs.laws.Entries.{Key}
-use Rattle.values.specs.laws.Memory.{memoryOf, numberAt, constantOf, constantKey, expressionKey, limit, integerAt, expressionAt, Ready, atomIn, atomFound, Holds}
-use Rattle.values.specs.laws.Kept.{Kept, Clears, Represents, Stores, Interns, Learns}
-use Rattle.numbering.specs.laws.Walk.{sectionsOf, wordOf, Stands, Becomes, Second, secondNumber, foldBy, secondOf, atomOf, KindOf, combined, operated, scalarIn, undecidedBy, pureBy, otherBy}
+use Rattle.values.specs.laws.Memory.{memoryOf, numberAt, keyAtom, constantKey, expressionKey, limit, integerAt, expressionAt, Ready, atomIn, atomFound, Holds}
+use Rattle.values.specs.laws.Promises.{Kept, Clears, Represents, Stores, Interns, Learns}
+use Rattle.numbering.specs.laws.Walk.{sectionsWith, wordOf, Stands, Becomes, Second, secondNumber, foldBy, secondOf, atomOf, KindOf, combined, operated, scalarIn, undecidedBy, pureBy, otherBy}
 use Rattle.values.specs.declared.Atom.{Atom}
 use Rattle.values.specs.declared.Atom.the-variants.{Integer, Float, Definition}
 use Rattle.values.specs.declared.Found.{Found}
@@ -45,7 +45,7 @@ module _ {n : ℕ} {types : List ℕ} {t : List ℕ} where
       → Kept n (length types) k c e t t₁
       → ((dest : ℕ → ℕ) (v : Values) → Knows n types t dest v → Knows n types t₁ dest (ρ dest v))
       → ((dest : ℕ → ℕ) (z : List ℕ) (l : ℕ) (T : Tables) (v : Values) → Good′ dest z → Knows n types t dest v
-      → Good dest z × (f dest (sectionsOf types z l T) (ρ dest v) ≡ f′ dest (sectionsOf types z l T) v))
+      → Good dest z × (f dest (sectionsWith types z l T) (ρ dest v) ≡ f′ dest (sectionsWith types z l T) v))
       → Becomes n types k′ c′ e′ t₁ x t′ Good f → Becomes n types (k + k′) (c + c′) (e + e′) t x t′ Good′ f′
   after ρ d w g b =
       record {
@@ -58,7 +58,7 @@ module _ {n : ℕ} {types : List ℕ} {t : List ℕ} where
   -- the same step, told of another definition that agrees
   pub as-becomes : {k c e k′ c′ e′ : ℕ} {t′ : List ℕ} {x : Instruction} {Good Good′ : (ℕ → ℕ) → List ℕ → Type 0} {f f′ : (ℕ → ℕ) → Sections → Values → Numbered} → k ≤ k′ → c ≤ c′ → e ≤ e′
       → ((dest : ℕ → ℕ) (z : List ℕ) (l : ℕ) (T : Tables) (v : Values) → Good′ dest z → Knows n types t dest v
-      → Good dest z × (f dest (sectionsOf types z l T) v ≡ f′ dest (sectionsOf types z l T) v))
+      → Good dest z × (f dest (sectionsWith types z l T) v ≡ f′ dest (sectionsWith types z l T) v))
       → Becomes n types k c e t x t′ Good f → Becomes n types k′ c′ e′ t x t′ Good′ f′
   as-becomes a b d g w =
       record {
@@ -77,12 +77,12 @@ module _ {n : ℕ} {types : List ℕ} {t : List ℕ} where
   -- a store of a constant
   pub store-interned : (i : Instruction) {x : Instruction} {kind bits d : ℕ} {t₁ t′ : List ℕ} → Interns n (length types) t kind bits d t₁
       → Becomes n types 0 0 0 t₁ x t′ (λ dest z. Unit {0}) (λ dest S v. storedBy S i v (valueAt n types t₁ dest d))
-      → Becomes n types 0 1 0 t x t′ (λ dest z. Unit {0}) (λ dest S v. storedBy S i v (constantOf (constantKey kind bits)))
+      → Becomes n types 0 1 0 t x t′ (λ dest z. Unit {0}) (λ dest S v. storedBy S i v (keyAtom (constantKey kind bits)))
   store-interned i d b = after (λ dest v. v) (d .kept) (d .holds) (λ dest z l T v y h. (tt, rw (d .is dest))) b
 
   -- all values are forgotten
   pub forget-becomes : {i x : Instruction} {t′ : List ℕ} {c e : ℕ} {Good : (ℕ → ℕ) → List ℕ → Type 0} {f : (ℕ → ℕ) → Sections → Values → Numbered} → (x ≡ i) × Clears n (length types) t t′
-      → ((dest : ℕ → ℕ) (z : List ℕ) (l : ℕ) (T : Tables) (v : Values) → f dest (sectionsOf types z l T) v ≡ clearedBy (sectionsOf types z l T) i) → Becomes n types 1 c e t x t′ Good f
+      → ((dest : ℕ → ℕ) (z : List ℕ) (l : ℕ) (T : Tables) (v : Values) → f dest (sectionsWith types z l T) v ≡ clearedBy (sectionsWith types z l T) i) → Becomes n types 1 c e t x t′ Good f
   forget-becomes p e =
       record {
         kept = widen (omega arith) (omega arith) (omega arith) (p .1 .kept);
@@ -92,18 +92,18 @@ module _ {n : ℕ} {types : List ℕ} {t : List ℕ} where
   -- nothing changes but the instruction
   pub stay-becomes : {x : Instruction} {k c e : ℕ} {Good : (ℕ → ℕ) → List ℕ → Type 0} {f : (ℕ → ℕ) → Sections → Values → Numbered} → Ready n (length types) t
       → ((dest : ℕ → ℕ) (z : List ℕ) (l : ℕ) (T : Tables) (v : Values) → Knows n types t dest v
-      → f dest (sectionsOf types z l T) v ≡ record { instruction = x; table = v }) → Becomes n types k c e t x t Good f
+      → f dest (sectionsWith types z l T) v ≡ record { instruction = x; table = v }) → Becomes n types k c e t x t Good f
   stay-becomes g e = record { kept = unchanged g; holds = λ dest z l T v y h. rw (e dest z l T v h) (refl, h) }
 
   pub copied-becomes : (d : ℕ) (i : Instruction) {j x : Instruction} {t′ : List ℕ}
       → ((dest : ℕ → ℕ) (z : List ℕ) (l : ℕ) (T : Tables) (v : Values) → Knows n types t dest v
-      → j ≡ copyOrStay (sectionsOf types z l T) i (recordedSlot types v (valueAt n types t dest d) (getD types (i .a) 0)))
+      → j ≡ copyOrStay (sectionsWith types z l T) i (recordedSlot types v (valueAt n types t dest d) (getD types (i .a) 0)))
       → Becomes n types 0 0 0 t x t′ (λ dest z. Unit {0}) (λ dest S v. storedBy S j v (valueAt n types t dest d))
       → Becomes n types 0 0 0 t x t′ (λ dest z. Unit {0})
       (λ dest S v. storedBy S (copyOrStay S i (recordedSlot (S .types) v (valueAt n types t dest d) (getD (S .types) (i .a) 0))) v (valueAt n types t dest d))
   copied-becomes d i g b =
       as-becomes (omega arith) (omega arith) (omega arith)
-      (λ dest z l T v y h. (y, ap (λ (j : Instruction). storedBy (sectionsOf types z l T) j v (valueAt n types t dest d)) (g dest z l T v h))) b
+      (λ dest z l T v y h. (y, ap (λ (j : Instruction). storedBy (sectionsWith types z l T) j v (valueAt n types t dest d)) (g dest z l T v h))) b
 
   -- a new expression, whose value is what place p defines
   pub defines : {i x : Instruction} {p op flags left right : ℕ} {t₁ t′ : List ℕ} → Learns n (length types) t op flags left right (length types + p) t₁
@@ -158,9 +158,9 @@ module _ {n : ℕ} {types : List ℕ} {t : List ℕ} where
 
   -- folded, or looked up
   pub folded-word : (i : Instruction) (p : ℕ) (g : (ℕ → ℕ) → Expression) {f : Folded} {j : Instruction} {w : ℕ} {x : Instruction} {t′ : List ℕ} → f ≡ Word w → j ≡ loadOrStay i w
-      → Becomes n types 0 1 0 t x t′ (λ dest z. Unit {0}) (λ dest S v. storedBy S j v (constantOf (constantKey 0 w)))
+      → Becomes n types 0 1 0 t x t′ (λ dest z. Unit {0}) (λ dest S v. storedBy S j v (keyAtom (constantKey 0 w)))
       → Becomes n types 0 1 1 t x t′ (λ dest z. Stands n p i dest) (λ dest S v. byValue S p i v (g dest) (wordOf f))
-  unfolding byValue wordOf constantOf
+  unfolding byValue wordOf keyAtom
   folded-word i p g q s b = as-becomes (omega arith) (omega arith) (omega arith) (λ dest z l T v y h. (tt, rw (q, s))) b
 
   pub folded-not : (i : Instruction) (p : ℕ) (g : (ℕ → ℕ) → Expression) {f : Folded} {x : Instruction} {t′ : List ℕ} → f ≡ Not
@@ -208,13 +208,13 @@ known-integer n types t dest v h s d w low e q =
     ap integerOf (sym (h .slots s low) ∙ ap (valueAt n types t dest) (sym e)) ∙ sym (integer-at n (length types) dest (memoryOf n (length types) t .constantTable) d) ∙ sym q
 
 pub return-other : (types : List ℕ) (i : Instruction) (z : List ℕ) (l : ℕ) (T : Tables) (v : Values) → (eqb (i .b) 1 && scalarIn types (i .a)) ≡ false
-    → numberBy (sectionsOf types z l T) Return 0 i v ≡ clearedBy (sectionsOf types z l T) i
+    → numberBy (sectionsWith types z l T) Return 0 i v ≡ clearedBy (sectionsWith types z l T) i
 unfolding numberBy
 return-other types i z l T v e = rw e
 
 -- no store to a scalar
 pub other-cleared : (types : List ℕ) (i : Instruction) (p : ℕ) (k : Class) {s : Bool} → s ≡ scalarIn types (i .a) → s ≡ false → (z : List ℕ) (l : ℕ) (T : Tables) (v : Values)
-    → otherBy (sectionsOf types z l T) k p i v ≡ clearedBy (sectionsOf types z l T) i
+    → otherBy (sectionsWith types z l T) k p i v ≡ clearedBy (sectionsWith types z l T) i
 unfolding otherBy
 other-cleared types i p k e q z l T v =
     let known : scalarIn types (i .a) ≡ false = sym e ∙ q in
@@ -222,7 +222,7 @@ other-cleared types i p k e q z l T v =
 
 -- no constant is known
 pub constant-unknown : (types : List ℕ) (i : Instruction) {f : Loaded} {o : Option Atom} → atomOf f ≡ o → f ≡ Unknown → (z : List ℕ) (l : ℕ) (T : Tables) (v : Values)
-    → numberConstant (sectionsOf types z l T) i v o ≡ clearedBy (sectionsOf types z l T) i
+    → numberConstant (sectionsWith types z l T) i v o ≡ clearedBy (sectionsWith types z l T) i
 unfolding numberConstant atomOf
 constant-unknown types i {f} {o} e q z l T v =
     let known : o ≡ none = sym e ∙ ap atomOf q in
@@ -292,11 +292,11 @@ module _ {n : ℕ} {types : List ℕ} {t : List ℕ} where
       b
 
   pub constant-becomes : (i : Instruction) {f : Loaded} {o : Option Atom} {kind bits : ℕ} {x : Instruction} {t′ : List ℕ} → atomOf f ≡ o → f ≡ Value kind bits
-      → Becomes n types 0 1 0 t x t′ (λ dest z. Unit {0}) (λ dest S v. storedBy S i v (constantOf (constantKey kind bits)))
+      → Becomes n types 0 1 0 t x t′ (λ dest z. Unit {0}) (λ dest S v. storedBy S i v (keyAtom (constantKey kind bits)))
       → Becomes n types 1 1 0 t x t′ (λ dest z. Unit {0}) (λ dest S v. numberConstant S i v o)
   unfolding numberConstant atomOf
   constant-becomes i {f} {o} {kind} {bits} e q b =
-      let known : o ≡ some (constantOf (constantKey kind bits)) = sym e ∙ ap atomOf q in
+      let known : o ≡ some (keyAtom (constantKey kind bits)) = sym e ∙ ap atomOf q in
       as-becomes (omega arith) (omega arith) (omega arith) (λ dest z l T v y h. (tt, rw known)) b
 
   pub read-becomes : (i : Instruction) {d slot : ℕ} {t₁ : List ℕ} {x : Instruction} → Represents n (length types) types t (i .a) d slot t₁
@@ -331,7 +331,7 @@ module _ {n : ℕ} {types : List ℕ} {t : List ℕ} where
         → Becomes n types 0 0 0 t x t′ (λ dest z. Unit {0}) (λ dest S v. numberJump S f i v (valueOf v (i .a)))
     jump-undecided k b =
         as-becomes (omega arith) (omega arith) (omega arith)
-        (λ dest z l T v y h. (y, not-integer (sectionsOf types z l T) f i v (valueOf v (i .a)) (known-integer n types t dest v h (i .a) d w low e q ∙ no-integer w k)))
+        (λ dest z l T v y h. (y, not-integer (sectionsWith types z l T) f i v (valueOf v (i .a)) (known-integer n types t dest v h (i .a) d w low e q ∙ no-integer w k)))
         b
 
     pub jump-decided : {a : ℕ} {b : Bool} {x : Instruction} → Ready n (length types) t → w ≡ Integer a → f a ≡ b → x ≡ cond b (plain 57 0 (i .b) (i .c)) (plain 0 0 0 0)
@@ -361,6 +361,6 @@ module _ {n : ℕ} {types : List ℕ} {t : List ℕ} where
 
   -- by class
   pub pure-by : (i : Instruction) (p : ℕ) {k j : Class} {x : Instruction} {t′ : List ℕ} {Good Good′ : (ℕ → ℕ) → List ℕ → Type 0} (f : (ℕ → ℕ) → Sections → Values → Numbered) → k ≡ j
-      → ((dest : ℕ → ℕ) (z : List ℕ) (l : ℕ) (T : Tables) (v : Values) → Good′ dest z → Good dest z × (f dest (sectionsOf types z l T) v ≡ pureBy (sectionsOf types z l T) j p i v))
+      → ((dest : ℕ → ℕ) (z : List ℕ) (l : ℕ) (T : Tables) (v : Values) → Good′ dest z → Good dest z × (f dest (sectionsWith types z l T) v ≡ pureBy (sectionsWith types z l T) j p i v))
       → {a b d : ℕ} → a ≤ 1 → b ≤ 1 → d ≤ 1 → Becomes n types a b d t x t′ Good f → Becomes n types 1 1 1 t x t′ Good′ (λ dest S v. pureBy S k p i v)
   pure-by i p f e g u w z b = as-becomes u w z (λ dest c l T v y h. let q = g dest c l T v y in (q .0, rw e (q .1))) b

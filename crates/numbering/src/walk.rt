@@ -8,13 +8,13 @@ ghost use borrow.Rule.Slice.PartMut.{midOf};
 ghost use Rattle.instruction.specs.Instruction.{class, ofWord, toWord};
 ghost use Rattle.effects.specs.Shape.{Cell, Tables};
 ghost use Rattle.effects.specs.laws.Cells.{cellsBy};
-ghost use Rattle.values.specs.Table.{valueOf, expressionIn, recordedSlot, learn};
+ghost use Rattle.values.specs.Values.{valueOf, expressionIn, recordedSlot, learn};
 ghost use Rattle.values.specs.Number.{loadOrStay, copyOrStay, constantAtom, stored as storedBy, byExpression, byValue, numberCopy, numberConstant, numberRead, numberJump, numberBy, number, numberCode};
 ghost use Rattle.values.specs.laws.Folded.{expressionOf};
-ghost use Rattle.values.specs.laws.Memory.{memoryOf, constantOf, constantKey, expressionKey, limit, expressionAt, atomIn, endAt, Ready};
+ghost use Rattle.values.specs.laws.Memory.{memoryOf, keyAtom, constantKey, expressionKey, limit, expressionAt, atomIn, endAt, Ready};
 ghost use Rattle.values.specs.laws.Entries.{key, bucketOf, headAt};
-ghost use Rattle.values.specs.laws.Kept.{Clears};
-ghost use Rattle.numbering.specs.laws.Walk.{wordOf, Stands, Becomes, Room, Coded, Second, secondNumber, foldBy, binaryClass, operatorClass, onZero, atomOf, KindOf, operated, scalarIn, pureBy, undecidedBy, takes, otherBy, sectionsOf, Begins, Enters, Turns, Numberable};
+ghost use Rattle.values.specs.laws.Promises.{Clears};
+ghost use Rattle.numbering.specs.laws.Walk.{wordOf, Stands, Becomes, Room, Coded, Second, secondNumber, foldBy, binaryClass, operatorClass, onZero, atomOf, KindOf, operated, scalarIn, pureBy, undecidedBy, takes, otherBy, sectionsWith, Begins, Enters, Turns, Numberable};
 ghost use Rattle.values.specs.laws.Named.{Named};
 ghost use Rattle.instruction.specs.declared.Class.the-variants.{Return};
 ghost use Rattle.values.specs.declared.Atom.the-variants.{Definition};
@@ -61,7 +61,7 @@ fn store_constant(
     bits: u64,
 ) -> Instruction
     requires { ⌜ Room n (length (now types)) (now t) × (i .a < length (now types)) × (kind ≤ 1) ⌝ }
-    ensures { λ r. ⌜ Becomes n (now (types .entry)) 0 1 0 (now (t .entry)) r (now (t .exit)) (λ dest constants. Unit {0}) (λ dest S x. storedBy S i x (constantOf (constantKey kind bits))) ⌝ }
+    ensures { λ r. ⌜ Becomes n (now (types .entry)) 0 1 0 (now (t .entry)) r (now (t .exit)) (λ dest constants. Unit {0}) (λ dest S x. storedBy S i x (keyAtom (constantKey kind bits))) ⌝ }
 {
     let d = table::constant(t, n, types.len(), kind, bits);
     store(t, types, n, i, d)
@@ -497,7 +497,7 @@ fn turn(t: &mut [u64], types: &[u8], constants: &[u8], n: usize, leader: u32, w:
 // more; what they hold, before and after, is free.
 pub fn number_code(memory: &mut [u64], leaders: &[u32], types: &[u8], constants: &[u8])
     requires { ⌜ Numberable (midOf 0 (length (now leaders)) (now memory)) (now leaders) (now types) (now memory) ⌝ }
-    ensures { λ _. ⌜ ((metadata : List ℕ) (locals : ℕ) (tables : Tables) → midOf 0 (length (now (leaders .entry))) (now (memory .exit)) ≡ map (λ (x : Cell). toWord (x .instruction)) (numberCode (sectionsOf (now (types .entry)) (now (constants .entry)) locals tables) (now (leaders .entry)) (cellsBy (midOf 0 (length (now (leaders .entry))) (now (memory .entry))) metadata))) ⌝ }
+    ensures { λ _. ⌜ ((metadata : List ℕ) (locals : ℕ) (tables : Tables) → midOf 0 (length (now (leaders .entry))) (now (memory .exit)) ≡ map (λ (x : Cell). toWord (x .instruction)) (numberCode (sectionsWith (now (types .entry)) (now (constants .entry)) locals tables) (now (leaders .entry)) (cellsBy (midOf 0 (length (now (leaders .entry))) (now (memory .entry))) metadata))) ⌝ }
 {
     let n = leaders.len();
     if n == 0 {

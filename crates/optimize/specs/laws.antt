@@ -1,8 +1,8 @@
 pub mod Parts
 pub mod Whole
 pub mod Steps
-pub mod Listing
-pub mod Numbered
+pub mod KeptListing
+pub mod NumberedWords
 pub mod Chain
 pub mod Concluded
 pub mod Loading

@@ -12,10 +12,10 @@ ghost use Rattle.flow.specs.laws.BranchLaws.{BranchesInside};
 ghost use Rattle.flow.specs.laws.Control.{Controls};
 ghost use Rattle.pc_map.specs.laws.Listed.{Listed};
 ghost use Rattle.answer.specs.Pass.{removal};
-ghost use Rattle.removal.specs.laws.Kept.{sectionsIn, keepAt};
+ghost use Rattle.removal.specs.laws.KeptWork.{sectionsIn, keepAt};
 ghost use Rattle.optimize.specs.laws.Parts.{Given, Room, cellsIn, parts, answerOfParts, answerAfterOperands, answerAfterBranches, answerAfterLoops};
 ghost use Rattle.optimize.specs.PassAnswer.{Answers};
-ghost use Rattle.numbering.specs.laws.Walk.{sectionsOf};
+ghost use Rattle.numbering.specs.laws.Walk.{sectionsWith};
 ghost use Rattle.optimize.specs.laws.Steps.{Finished, ListedControls, LoadedWork, MarkedWork, NumberedWork, Reached, Renumbered, Numberable};
 use crate::Answer;
 use crate::code;
@@ -187,7 +187,7 @@ fn number(
     count: usize,
 )
     requires { ⌜ Numberable n (length (now types)) (length (now work32)) (now work64) × ListedControls n (length (now types)) at count (now work64) ⌝ }
-    ensures { λ _. ⌜ ((metadata : List ℕ) (locals : ℕ) (tables : Tables) → Renumbered (sectionsOf (now (types .entry)) (now (constants .entry)) locals tables) (cellsBy (midOf 0 n (now (work64 .entry))) metadata) n (now (work32 .exit)) (now (work64 .exit))) × (drop at (now (work64 .exit)) ≡ drop at (now (work64 .entry))) ⌝ }
+    ensures { λ _. ⌜ ((metadata : List ℕ) (locals : ℕ) (tables : Tables) → Renumbered (sectionsWith (now (types .entry)) (now (constants .entry)) locals tables) (cellsBy (midOf 0 n (now (work64 .entry))) metadata) n (now (work32 .exit)) (now (work64 .exit))) × (drop at (now (work64 .exit)) ≡ drop at (now (work64 .entry))) ⌝ }
 {
     block::mark_leaders(&work64[0..n], &work64[at..at + count], &mut work32[0..n]);
     walk::number_code(&mut work64[0..at], &work32[0..n], types, constants);

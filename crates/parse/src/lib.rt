@@ -8,7 +8,7 @@ ghost use Rattle.words.specs.Lists.{every};
 ghost use Rattle.unit.specs.Size.{headerSize, metadataSize, constantSize, caseSize};
 ghost use Rattle.unit.specs.Entry.{metadataAt, goodMetadata, typeAt, goodType, goodConstant, caseAt, goodCase};
 ghost use Rattle.unit.specs.Layout.{headerOf, sectionsFollow, goodCounts, goodEntries, isUnit, layoutOf};
-ghost use Rattle.unit.specs.laws.Laws.{Sections};
+ghost use Rattle.unit.specs.laws.UnitLaws.{Sections};
 use unit::Counts;
 use unit::Header;
 use unit::Layout;

@@ -15,7 +15,7 @@ use Rattle.instruction.specs.Instruction.{toWord, ofWord, imm32Unsigned, class}
 use Rattle.unit.specs.declared.Metadata.{Metadata}
 use Rattle.unit.specs.Entry.{metadataAt, metadataBytes}
 use Rattle.unit.specs.Result.{Retained, resultMetadataAt, resultPlacesAt, resultHeader, codeBytes, metadataBytesAll, placeBytes, resultBytes}
-use Rattle.unit.specs.laws.Laws.{result-header-long, code-bytes-long, metadata-bytes-all-long}
+use Rattle.unit.specs.laws.UnitLaws.{result-header-long, code-bytes-long, metadata-bytes-all-long}
 use Rattle.unit.specs.Size.{resultHeaderSize, resultSize}
 use Rattle.effects.specs.Shape.{Cell, cellAt}
 use Rattle.effects.specs.laws.Cells.{cellOf, cellsBy, cells-long, cell-at}

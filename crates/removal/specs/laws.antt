@@ -1,8 +1,8 @@
 pub mod Jumping
-pub mod Kept
+pub mod KeptWork
 pub mod Retained
-pub mod Retaining
+pub mod RetainedWork
 pub mod Cleared
 pub mod Next
-pub mod Plain
-pub mod Rounding
+pub mod PlainHints
+pub mod JumpRounds

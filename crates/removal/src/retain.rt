@@ -10,7 +10,7 @@ ghost use borrow.Rule.Slice.PartMut.{midOf};
 ghost use Rattle.unit.specs.Size.{metadataSize, maxInstructions};
 ghost use Rattle.effects.specs.Shape.{tablesOf};
 ghost use Rattle.flow.specs.laws.Control.{Controls};
-ghost use Rattle.removal.specs.laws.Kept.{Retainable, Retains, Useful, Stored, keepAt};
+ghost use Rattle.removal.specs.laws.KeptWork.{Retainable, Retains, Useful, Stored, keepAt};
 use crate::jump;
 use crate::plain;
 use flow::block;

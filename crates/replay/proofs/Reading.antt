@@ -7,7 +7,7 @@ use native.Mathlib.Numerals.{add-one}
 use lib.ListN.{length, getD, drop, length-drop}
 use lib.Seq.{drop-cons}
 use borrow.Author.Tests.{lt-ltb, le-ltb, le-leb, lt-leb, ne-eqb}
-use Rattle.replay.specs.Text.{space, further, byteAt, wordLength, skipped, kindAt, numberFrom}
+use Rattle.replay.specs.Recorded.{space, further, byteAt, wordLength, skipped, kindAt, numberFrom}
 
 -- ---- a byte
 

@@ -2,7 +2,7 @@
 ghost use mathlib.Core.Path.{_≡_};
 ghost use Prim.Native.Nat.{_<_};
 ghost use Rattle.io.specs.Counts.{Counts};
-ghost use Rattle.replay.specs.Text.{byteAt, skipped, kindAt, numberAt};
+ghost use Rattle.replay.specs.Recorded.{byteAt, skipped, kindAt, numberAt};
 use std::num;
 
 pub fn byte(text: &[u8], at: usize) -> u8

@@ -7,7 +7,7 @@ use lib.ListN.{length, replicate}
 use Rattle.answer.specs.Pass.{Outcome, outputAfter}
 use Rattle.answer.specs.Answer.{Lent, lentOf, passAnswer}
 use Rattle.answer.specs.Clean.{Cleaned, cleanAnswer}
-use Rattle.run.specs.Returned.{RunsAlike}
+use Rattle.run.specs.Returned.{PreservesRuns}
 
 -- what the lent buffers hold
 pub record Buffers : Type 0 where
@@ -34,7 +34,7 @@ pub record PassContract {A : Type 0} (form : Outcome → A) (u : List ℕ) (befo
   pub work32 : Zeroed (before .work32) (after .work32)
   pub work64 : Zeroed (before .work64) (after .work64)
   -- demand 3: what is returned runs as what was given
-  pub runs : RunsAlike u (passAnswer u (lengths before)) (after .out)
+  pub runs : PreservesRuns u (passAnswer u (lengths before)) (after .out)
 
 -- The cleaning is lent two spare buffers too.
 pub record Spare : Type 0 where
@@ -54,4 +54,4 @@ pub record CleanContract {A : Type 0} (form : Cleaned → A) (u : List ℕ) (bef
   pub work64 : Zeroed (before .work64) (after .work64)
   pub first : Zeroed (spare .first) (spare′ .first)
   pub second : Zeroed (spare .second) (spare′ .second)
-  pub runs : RunsAlike u (cleaning u before spare .outcome) (after .out)
+  pub runs : PreservesRuns u (cleaning u before spare .outcome) (after .out)

@@ -18,7 +18,7 @@ use Rattle.unit.specs.declared.Constant.{Constant}
 use Rattle.unit.specs.declared.Constant.the-variants.{Nil, Bool as BoolConstant, Int, Float as FloatConstant, String, Missing}
 use Rattle.unit.specs.Entry.{metadataAt, constantOf, constantAt, constantKind, constantValue}
 use Rattle.unit.specs.Layout.{headerOf, codeOf, metadataOf, constantsOf, isUnit}
-use Rattle.unit.specs.laws.Laws.{MetadataFields, unit-laid}
+use Rattle.unit.specs.laws.UnitLaws.{MetadataFields, unit-laid}
 use Rattle.unit.specs.Result.{Retained, resultBytes, readResult}
 use Rattle.unit.specs.Size.{instructionSize, metadataSize, constantSize, resultSize, maxInstructions}
 use Rattle.unit.specs.Refusal.{notUnit, shortBuffer, metadataCount, typeCount}
@@ -28,13 +28,13 @@ use Rattle.values.specs.declared.Atom.the-variants.{Integer, Float}
 use Rattle.values.specs.Number.{constantAtom}
 use Rattle.answer.specs.Pass.{Outcome, unchanged, refused, rewritten, outputAfter, isWorkedOn, optimized, pass}
 use Rattle.answer.specs.Answer.{Lent, cellsOf, sectionsOf, roomFor, isSkipped, afterRoom, afterSkipped, afterLayout, answerWith, passAnswer}
-use Rattle.answer.specs.Clean.{cellOf, cellsAfter, placedBy, afterPass, cleanFrom, cleanedFirst, spareFor, cleanAnswer}
+use Rattle.answer.specs.Clean.{retainedCell, cellsAfter, placedBy, afterPass, cleanFrom, cleanedFirst, spareFor, cleanAnswer}
 use Rattle.run.specs.Machine.{SameRuns}
 use Rattle.run.specs.laws.Machine.{same-runs-refl, same-runs-trans}
 use Rattle.run.specs.Program.{Function, programOf}
-use Rattle.run.specs.Returned.{givenFunction, resultFunction, outputFunction, RunsAlike}
+use Rattle.run.specs.Returned.{givenFunction, resultFunction, outputFunction, PreservesRuns}
 use Rattle.run.specs.laws.Valuation.{Below, integer, float}
-use Rattle.run.specs.laws.Relocated.{pick}
+use Rattle.run.specs.laws.RelocatedRun.{pick}
 use Rattle.run.specs.laws.Checked.{Well}
 use Rattle.run.specs.laws.Passed.{Good, worked-size, optimized-runs, pass-worked, pass-runs}
 use Rattle.run.specs.laws.Reading.{AllFit, noRetained, result-back}
@@ -182,11 +182,11 @@ returned-runs u cases kept out r =
     rw e (r .good .runs)
 
 -- Demand 3 for one pass: of the bytes in the output after it.
-pub pass-alike : (u : List ℕ) (l : Lent) (out : List ℕ) → Bytes u → RunsAlike u (passAnswer u l) (outputAfter (passAnswer u l) out)
-unfolding passAnswer RunsAlike
-pass-alike u l out b = go (passAnswer u l) refl
+pub pass-preserves : (u : List ℕ) (l : Lent) (out : List ℕ) → Bytes u → PreservesRuns u (passAnswer u l) (outputAfter (passAnswer u l) out)
+unfolding passAnswer PreservesRuns
+pass-preserves u l out b = go (passAnswer u l) refl
   where
-    go : (o : Outcome) → answerWith (roomFor (headerOf u .counts) l) u ≡ o → RunsAlike u o (outputAfter o out)
+    go : (o : Outcome) → answerWith (roomFor (headerOf u .counts) l) u ≡ o → PreservesRuns u o (outputAfter o out)
     go unchanged e = same-runs-refl (programOf (givenFunction u))
     go (refused k p) e = tt
     go (rewritten kept) e = returned-runs u _ kept out (answer-returnable u b (roomFor (headerOf u .counts) l) kept e)
@@ -197,7 +197,7 @@ pass-alike u l out b = go (passAnswer u l) refl
 placed-cells : (before kept : List Retained) → cellsAfter (placedBy before kept) ≡ cellsAfter kept
 unfolding placedBy
 placed-cells before [] = refl
-placed-cells before (r ∷ rs) = ap (λ (l : List Cell). cellOf r ∷ l) (placed-cells before rs)
+placed-cells before (r ∷ rs) = ap (λ (l : List Cell). retainedCell r ∷ l) (placed-cells before rs)
 
 placed-function : (S : Sections) (before kept : List Retained) → resultFunction S (placedBy before kept) ≡ resultFunction S kept
 unfolding resultFunction
@@ -220,9 +220,9 @@ module _ (F : Function) (cases : ℕ) where
       let G = resultFunction (F .sections) before in
       let worked = pass-worked (F .sections) (cellsAfter before) kept e in
       let sound : AllSound cases (cellsAfter before) = λ p h.
-      let l : p < length before = rw (length-map before cellOf) at h in
-      rw (List·getD-map cellOf before p noRetained) (r .fits p l .metadata) in
-      let again : Again cases (length before) kept = rw (length-map before cellOf) at (optimized-again G (r .good .well) cases sound (worked .0) kept (worked .1)) in
+      let l : p < length before = rw (length-map before retainedCell) at h in
+      rw (List·getD-map retainedCell before p noRetained) (r .fits p l .metadata) in
+      let again : Again cases (length before) kept = rw (length-map before retainedCell) at (optimized-again G (r .good .well) cases sound (worked .0) kept (worked .1)) in
       let fewer = again .few in
       let few = r .few in
       record {
@@ -245,20 +245,20 @@ module _ (F : Function) (cases : ℕ) where
       go (rewritten next) q e ih = ih (placedBy before next) (placed-returnable before next r q) e
 
 -- Demand 3 for cleaning: of the bytes in the output after it.
-pub clean-alike : (u : List ℕ) (l : Lent) (first second : ℕ) (out : List ℕ) → Bytes u
-    → RunsAlike u (cleanAnswer u l first second .outcome) (outputAfter (cleanAnswer u l first second .outcome) out)
-unfolding cleanAnswer cleanedFirst RunsAlike givenFunction
-clean-alike u l first second out b = go (answerWith room u) refl
+pub clean-preserves : (u : List ℕ) (l : Lent) (first second : ℕ) (out : List ℕ) → Bytes u
+    → PreservesRuns u (cleanAnswer u l first second .outcome) (outputAfter (cleanAnswer u l first second .outcome) out)
+unfolding cleanAnswer cleanedFirst PreservesRuns givenFunction
+clean-preserves u l first second out b = go (answerWith room u) refl
   where
     room : Bool
     room = roomFor (headerOf u .counts) l && spareFor (headerOf u .counts) first second
 
-    later : (o : Outcome) (kept : List Retained) → Returnable (givenFunction u) (headerOf u .counts .cases) kept → cleanFrom (sectionsOf u) 2 1 kept .outcome ≡ o → RunsAlike u o (outputAfter o out)
+    later : (o : Outcome) (kept : List Retained) → Returnable (givenFunction u) (headerOf u .counts .cases) kept → cleanFrom (sectionsOf u) 2 1 kept .outcome ≡ o → PreservesRuns u o (outputAfter o out)
     later unchanged kept r e = same-runs-refl (programOf (givenFunction u))
     later (refused k p) kept r e = tt
     later (rewritten last) kept r e = returned-runs u _ last out (clean-returnable (givenFunction u) _ 2 1 kept last r e)
 
-    go : (o : Outcome) → answerWith room u ≡ o → RunsAlike u (cleanedFirst (sectionsOf u) o .outcome) (outputAfter (cleanedFirst (sectionsOf u) o .outcome) out)
+    go : (o : Outcome) → answerWith room u ≡ o → PreservesRuns u (cleanedFirst (sectionsOf u) o .outcome) (outputAfter (cleanedFirst (sectionsOf u) o .outcome) out)
     go unchanged e = same-runs-refl (programOf (givenFunction u))
     go (refused k p) e = tt
     go (rewritten kept) e = later (cleanFrom (sectionsOf u) 2 1 kept .outcome) kept (answer-returnable u b room kept e) refl

@@ -26,7 +26,7 @@ outputFunction u out = resultFunction (sectionsOf u) (readResult out)
 
 -- Demand 3, of a unit, an answer and the output after it. "Unchanged returns the function given"; rewritten returns the function in
 -- the output; of a refusal nothing is claimed.
-unfoldable pub RunsAlike : List ℕ → Outcome → List ℕ → Type 0
-RunsAlike u unchanged out = SameRuns (programOf (givenFunction u)) (programOf (givenFunction u))
-RunsAlike u (refused k p) out = Unit {0}
-RunsAlike u (rewritten kept) out = SameRuns (programOf (givenFunction u)) (programOf (outputFunction u out))
+unfoldable pub PreservesRuns : List ℕ → Outcome → List ℕ → Type 0
+PreservesRuns u unchanged out = SameRuns (programOf (givenFunction u)) (programOf (givenFunction u))
+PreservesRuns u (refused k p) out = Unit {0}
+PreservesRuns u (rewritten kept) out = SameRuns (programOf (givenFunction u)) (programOf (outputFunction u out))

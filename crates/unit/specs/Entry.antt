@@ -10,8 +10,8 @@ use Rattle.unit.specs.Size.{metadataSize, constantSize, functionSize, ex
 use Rattle.unit.specs.declared.Metadata.{Metadata}
 use Rattle.unit.specs.declared.Constant.{Constant}
 use Rattle.unit.specs.declared.Constant.the-variants.{Nil, Bool as BoolConstant, Int, Float, String, Missing as MissingConstant}
-use Rattle.unit.specs.declared.Function.{Function}
-use Rattle.unit.specs.declared.Function.the-variants.{Slots, Missing as MissingFunction}
+use Rattle.unit.specs.declared.Callee.{Callee}
+use Rattle.unit.specs.declared.Callee.the-variants.{Slots, Missing as MissingFunction}
 use Rattle.unit.specs.declared.Extern.{Extern}
 use Rattle.unit.specs.declared.Extern.the-variants.{Returns, Missing as MissingExtern}
 use Rattle.unit.specs.declared.SelectCase.{SelectCase}
@@ -122,8 +122,8 @@ unfoldable pub goodConstant : List ℕ → ℕ → Bool
 goodConstant l k =
     cond (leb (constantKind l k) 4) (cond (eqb (constantKind l k) 1) (leb (constantValue l k) 1) true) false
 
--- "Function: parameter and return slots, 16 bits each"
-unfoldable pub functionAt : List ℕ → ℕ → Function
+-- "Callee: parameter and return slots, 16 bits each"
+unfoldable pub functionAt : List ℕ → ℕ → Callee
 functionAt l k =
     let found = Slots (u16At l (functionSize * k)) (u16At l (functionSize * k + 2)) in
     cond (ltb k (length l / functionSize)) found MissingFunction

@@ -5,9 +5,9 @@ ghost use lib.ListN.{length};
 ghost use borrow.Rule.Slice.PartMut.{putMid};
 ghost use Rattle.unit.specs.Size.{metadataSize, caseSize};
 ghost use Rattle.unit.specs.Entry.{metadataAt, metadataBytes, typeAt, constantOf, constantAt, functionAt, externAt, caseAt};
+use crate::Callee;
 use crate::Constant;
 use crate::Extern;
-use crate::Function;
 use crate::Metadata;
 use crate::SelectCase;
 use words::le;
@@ -62,14 +62,14 @@ pub fn constant(section: &[u8], k: usize) -> Constant
     }
 }
 
-pub fn function(section: &[u8], k: usize) -> Function
+pub fn function(section: &[u8], k: usize) -> Callee
     ensures { λ r. ⌜ r ≡ functionAt (now (section .entry)) k ⌝ }
 {
     if k < section.len() / 4 {
         let at = 4 * k;
-        Function::Slots(le::read_u16(section, at), le::read_u16(section, at + 2))
+        Callee::Slots(le::read_u16(section, at), le::read_u16(section, at + 2))
     } else {
-        Function::Missing
+        Callee::Missing
     }
 }
 

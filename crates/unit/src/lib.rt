@@ -59,7 +59,7 @@ pub enum Constant {
 }
 
 // A function's parameter and return slots.
-pub enum Function {
+pub enum Callee {
     Slots(u16, u16),
     Missing,
 }

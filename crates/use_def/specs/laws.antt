@@ -2,6 +2,6 @@ pub mod Sets
 pub mod Touched
 pub mod Wordwise
 pub mod Free
-pub mod Single
-pub mod Branching
-pub mod Plain
+pub mod SingleSets
+pub mod BranchSets
+pub mod PlainSets

@@ -18,9 +18,9 @@ ghost use Rattle.effects.specs.laws.Ranges.{CasesInside};
 ghost use Rattle.effects.specs.laws.ByClass.{isOutside, readsByClass, writesByClass};
 ghost use Rattle.use_def.specs.laws.Sets.{Put, Same};
 ghost use Rattle.use_def.specs.laws.Touched.{cell, Within, reading, writing, Fits, Before};
-ghost use Rattle.use_def.specs.laws.Single.{SingleFits};
-ghost use Rattle.use_def.specs.laws.Branching.{BranchFits};
-ghost use Rattle.use_def.specs.laws.Plain.{Alike};
+ghost use Rattle.use_def.specs.laws.SingleSets.{SingleFits};
+ghost use Rattle.use_def.specs.laws.BranchSets.{BranchFits};
+ghost use Rattle.use_def.specs.laws.PlainSets.{SameRanges};
 use crate::row;
 use effects::Range;
 use effects::branching;
@@ -137,9 +137,9 @@ fn put_each_write(
 
 // Metadata with which the instruction has the ranges that it has with that of place p. Those of a plain opcode are the same with any:
 // the first entry does, which is in a cache, while that of a place far from the one before seldom is.
-fn told(i: Instruction, metadata: &[u8], p: usize) -> Metadata
+fn ranges_metadata(i: Instruction, metadata: &[u8], p: usize) -> Metadata
     requires { ⌜ metadataSize * p + metadataSize ≤ length (now metadata) ⌝ }
-    ensures { λ m. ⌜ Alike i m (metadataAt (now (metadata .entry)) p) ⌝ }
+    ensures { λ m. ⌜ SameRanges i m (metadataAt (now (metadata .entry)) p) ⌝ }
 {
     let op = i.op;
     let at = row::index_if(p, !plain::is_plain(op, table::row(op)));
@@ -161,7 +161,7 @@ pub fn put_reads(
 {
     let c = i.class();
     if is_outside(c) {
-        let m = told(i, metadata, p);
+        let m = ranges_metadata(i, metadata, p);
         put_each_read(row, i, m, functions, externs, cases);
         return;
     }
@@ -184,7 +184,7 @@ pub fn put_writes(
 {
     let c = i.class();
     if is_outside(c) {
-        let m = told(i, metadata, p);
+        let m = ranges_metadata(i, metadata, p);
         put_each_write(row, on, i, m, functions, externs, cases);
         return;
     }

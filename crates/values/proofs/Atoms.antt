@@ -9,10 +9,10 @@ use native.Mathlib.Omega.{arith}
 use lib.Dec.{eqb, ltb}
 use borrow.Author.Tests.{eqb-true, eqb-false, eq-eqb, ne-eqb, lt-ltb, le-ltb, ltb-true, ltb-false}
 use Rattle.words.specs.laws.Truth.{both, same-bool}
-use Rattle.values.specs.Table.{atStart, sameAtom}
+use Rattle.values.specs.Values.{atStart, sameAtom}
 use Rattle.values.specs.laws.Folded.{integerOf}
 use Rattle.values.specs.laws.Entries.{Key, key, keyAt, newest}
-use Rattle.values.specs.laws.Memory.{Memory, constantOf, constantKey, limit, atomAt, integerAt, Ordered, atomIn}
+use Rattle.values.specs.laws.Memory.{Memory, keyAtom, constantKey, limit, atomAt, integerAt, Ordered, atomIn}
 use Rattle.values.specs.declared.Atom.{Atom}
 use Rattle.values.specs.declared.Atom.the-variants.{Integer, Float, Definition}
 
@@ -61,7 +61,7 @@ module _ (n S : ℕ) where
         let here : S + n ≤ S + n = omega arith in
         rw (le-ltb (S + n) S far, le-ltb (S + n) (S + n) here, eq-eqb (S + n) (S + n) refl)
 
-    pub atom-constant : (j : ℕ) → atomAt n S dest c (S + n + 1 + j) ≡ constantOf (keyAt c n j)
+    pub atom-constant : (j : ℕ) → atomAt n S dest c (S + n + 1 + j) ≡ keyAtom (keyAt c n j)
     unfolding atomAt
     atom-constant j =
         let far : S ≤ S + n + 1 + j = omega arith in
@@ -72,7 +72,7 @@ module _ (n S : ℕ) where
 
     -- the known integer of a number is that of its value
     pub integer-at : (d : ℕ) → integerAt n S c d ≡ integerOf (atomAt n S dest c d)
-    unfolding integerAt atomAt integerOf constantOf
+    unfolding integerAt atomAt integerOf keyAtom
     integer-at d = go (ltb d S) refl (ltb d (S + n)) refl (eqb d (S + n)) (eqb (keyAt c n (d - (S + n + 1)) .right) 0)
       where
         go : (a : Bool) → ltb d S ≡ a → (b : Bool) → ltb d (S + n) ≡ b → (e f : Bool)
@@ -96,8 +96,8 @@ module _ (n S : ℕ) where
 
   module _ (few : n ≤ 65536) (dest : ℕ → ℕ) {m : Memory} (o : Ordered n S m) where
     -- a constant with its entry
-    constant-found : (k : Key) (j : ℕ) → k .right ≤ 1 → (k ≡ constantKey 0 0 → ⊥) → newest (m .constantTable) n (m .constants) k ≡ j → numberOf m (constantOf k) ≡ S + n + j
-    unfolding numberOf constantOf
+    constant-found : (k : Key) (j : ℕ) → k .right ≤ 1 → (k ≡ constantKey 0 0 → ⊥) → newest (m .constantTable) n (m .constants) k ≡ j → numberOf m (keyAtom k) ≡ S + n + j
+    unfolding numberOf keyAtom
     constant-found k j kind other e = go (eqb (k .right) 0) refl
       where
         zero : (t : Bool) → eqb (k .left) 0 ≡ t → k .right ≡ 0 → cond t (S + n) (S + n + newest (m .constantTable) n (m .constants) (constantKey 0 (k .left))) ≡ S + n + j
@@ -147,12 +147,12 @@ module _ (n S : ℕ) where
         (λ q. rw (eqb-true d e q) (atom-same (atomIn n S dest m e)))
 
     -- a constant without an entry has no number
-    pub no-number : (k : Key) → k .right ≤ 1 → (k ≡ constantKey 0 0 → ⊥) → newest (m .constantTable) n (m .constants) k ≡ 0 → (d : ℕ) → d < limit n S m → atomIn n S dest m d ≡ constantOf k → ⊥
-    unfolding constantOf
+    pub no-number : (k : Key) → k .right ≤ 1 → (k ≡ constantKey 0 0 → ⊥) → newest (m .constantTable) n (m .constants) k ≡ 0 → (d : ℕ) → d < limit n S m → atomIn n S dest m d ≡ keyAtom k → ⊥
+    unfolding keyAtom
     no-number k kind other e d h q =
         let at : d ≡ S + n + 0 = sym (number-again d h) ∙ ap (numberOf m) q ∙ constant-found k 0 kind other e in
         let here : d ≡ S + n = omega arith in
-        let zero : Integer 0 ≡ constantOf k = sym (atom-zero dest (m .constantTable)) ∙ ap (atomIn n S dest m) (sym here) ∙ q in
+        let zero : Integer 0 ≡ keyAtom k = sym (atom-zero dest (m .constantTable)) ∙ ap (atomIn n S dest m) (sym here) ∙ q in
         go (eqb (k .right) 0) refl zero
       where
         go : (t : Bool) → eqb (k .right) 0 ≡ t → Integer 0 ≡ cond t (Integer (k .left)) (Float (k .left)) → ⊥

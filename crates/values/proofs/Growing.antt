@@ -14,8 +14,8 @@ use Rattle.words.specs.laws.Regions.{mid-long, mid-set-before, get-before}
 use Rattle.words.specs.laws.Truth.{both}
 use Rattle.values.specs.laws.Entries.{Key, newest, Added}
 use Rattle.values.specs.laws.Search.{newest-le, newest-key}
-use Rattle.values.specs.laws.Memory.{part, marksAt, constantsAt, expressionsAt, endAt, Memory, memoryOf, constantOf, constantKey, expressionKey, limit, expressionIf, expressionAt, Ready}
-use Rattle.values.specs.laws.Kept.{Interns, Learns}
+use Rattle.values.specs.laws.Memory.{part, marksAt, constantsAt, expressionsAt, endAt, Memory, memoryOf, keyAtom, constantKey, expressionKey, limit, expressionIf, expressionAt, Ready}
+use Rattle.values.specs.laws.Promises.{Interns, Learns}
 use Rattle.values.specs.declared.Found.the-variants.{Nothing}
 use Rattle.values.proofs.Atoms.{atom-zero, atom-constant}
 use Rattle.values.proofs.Parts.{put-length, part-put, part-before, part-after}
@@ -73,7 +73,7 @@ module _ {n S : ℕ} {t : List ℕ} (g : Ready n S t) where
 
   -- Integer 0 has its number
   pub interns-zero : (kind bits : ℕ) → eqb kind 0 && eqb bits 0 ≡ true → Interns n S t kind bits (S + n) t
-  unfolding constantOf
+  unfolding keyAtom
   interns-zero kind bits q =
       let z = both (eqb kind 0) (eqb bits 0) q in
       record {
@@ -95,7 +95,7 @@ module _ {n S : ℕ} {t : List ℕ} (g : Ready n S t) where
       record {
         kept = unchanged g;
         low = let x = found .0 in omega arith;
-        is = λ dest. rw at (atom-constant n S dest (m .constantTable) j ∙ ap constantOf (found .1));
+        is = λ dest. rw at (atom-constant n S dest (m .constantTable) j ∙ ap keyAtom (found .1));
         holds = λ dest v h. h;
       }
 

@@ -9,7 +9,7 @@ use native.Mathlib.Omega.{arith}
 use lib.Dec.{eqb}
 use lib.ListN.{getD}
 use borrow.Author.Tests.{eqb-true, eqb-false, eq-eqb, ne-eqb}
-use Rattle.values.specs.Table.{Values, SlotEntry, empty, valueIn, slotIn, expressionIn, sameAtom, usable, recordedSlot}
+use Rattle.values.specs.Values.{Values, SlotEntry, empty, valueIn, slotIn, expressionIn, sameAtom, usable, recordedSlot}
 use Rattle.values.specs.laws.Entries.{value, newest, Linked}
 use Rattle.values.specs.laws.Memory.{Memory, numberAt, markedAt, expressionKey, slotFound, limit, usableIn, usableAt, expressionIf, expressionAt, Ordered, atomIn, atomFound, HasNumber, Holds}
 use Rattle.values.specs.declared.Atom.{Atom}

@@ -9,10 +9,10 @@ use native.Mathlib.Omega.{arith}
 use lib.Dec.{eqb, ltb}
 use borrow.Author.Tests.{eqb-true, eqb-false, eq-eqb, ne-eqb, ltb-true, ltb-false}
 use Rattle.words.specs.laws.Truth.{both, same-bool}
-use Rattle.values.specs.Table.{Values, Expression, slotIn, expressionIn, sameAtom, sameExpression, learn}
+use Rattle.values.specs.Values.{Values, Expression, slotIn, expressionIn, sameAtom, sameExpression, learn}
 use Rattle.values.specs.laws.Entries.{Key, keyAt, value, newest, sameKey, Added}
 use Rattle.values.specs.laws.Search.{same-key, key-same, newest-le, newest-key}
-use Rattle.values.specs.laws.Memory.{Memory, numberAt, markedAt, constantOf, constantKey, expressionKey, slotFound, limit, expressionIf, expressionAt, Ordered, atomIn, atomFound, HasNumber, Holds}
+use Rattle.values.specs.laws.Memory.{Memory, numberAt, markedAt, keyAtom, constantKey, expressionKey, slotFound, limit, expressionIf, expressionAt, Ordered, atomIn, atomFound, HasNumber, Holds}
 use Rattle.values.specs.declared.Atom.{Atom}
 use Rattle.values.specs.declared.Found.{Found}
 use Rattle.values.specs.declared.Found.the-variants.{At, Nothing}
@@ -77,8 +77,8 @@ module _ (n S : ℕ) (few : n ≤ 65536) where
 
     module _ (dest : ℕ → ℕ) where
       -- the new number has the constant, the others what they had
-      pub atom-next : atomIn n S dest more (S + n + 1 + m .constants) ≡ constantOf k
-      atom-next = atom-constant n S dest u (m .constants) ∙ ap constantOf (g .is-key)
+      pub atom-next : atomIn n S dest more (S + n + 1 + m .constants) ≡ keyAtom k
+      atom-next = atom-constant n S dest u (m .constants) ∙ ap keyAtom (g .is-key)
 
       pub atom-kept : (d : ℕ) → d < limit n S m → atomIn n S dest more d ≡ atomIn n S dest m d
       atom-kept d l = start (ltb d S) refl
@@ -86,7 +86,7 @@ module _ (n S : ℕ) (few : n ≤ 65536) where
           constant : (j : ℕ) → d ≡ S + n + 1 + j → atomIn n S dest more d ≡ atomIn n S dest m d
           constant j e =
               let y : j < m .constants = omega arith in
-              rw e (atom-constant n S dest u j ∙ ap constantOf (g .keys j y) ∙ sym (atom-constant n S dest (m .constantTable) j))
+              rw e (atom-constant n S dest u j ∙ ap keyAtom (g .keys j y) ∙ sym (atom-constant n S dest (m .constantTable) j))
 
           zeroed : (t : Bool) → eqb d (S + n) ≡ t → S + n ≤ d → atomIn n S dest more d ≡ atomIn n S dest m d
           zeroed true e f = rw (eqb-true d (S + n) e) (atom-zero n S dest u ∙ sym (atom-zero n S dest (m .constantTable)))
@@ -108,7 +108,7 @@ module _ (n S : ℕ) (few : n ≤ 65536) where
       renumbered : {w : Atom} → HasNumber n S dest m w → HasNumber n S dest more w
       renumbered z = record { number = z .number; low = omega (arith, z .low); is = atom-kept (z .number) (z .low) ∙ z .is }
 
-      unnumbered : {w : Atom} → w ≡ constantOf k → HasNumber n S dest m w → ⊥
+      unnumbered : {w : Atom} → w ≡ keyAtom k → HasNumber n S dest m w → ⊥
       unnumbered e z = no-number n S few dest o k kind other new (z .number) (z .low) (z .is ∙ e)
 
       not-some : {A : Type 0} (x : Option A) → ((y : A) → x ≡ some y → ⊥) → x ≡ none
@@ -132,7 +132,7 @@ module _ (n S : ℕ) (few : n ≤ 65536) where
         unfolding slotFound
         recorded-more =
             numbers (λ d. slotFound (markedAt more d) ≡ slotIn (v .recorded) (atomIn n S dest more d))
-            (rw (kept-mark next (omega arith), no-mark, atom-next) (sym (not-some (slotIn (v .recorded) (constantOf k)) (λ r q. unnumbered refl (h .recorded-numbered (constantOf k) r q)))))
+            (rw (kept-mark next (omega arith), no-mark, atom-next) (sym (not-some (slotIn (v .recorded) (keyAtom k)) (λ r q. unnumbered refl (h .recorded-numbered (keyAtom k) r q)))))
             (λ d l. let f : d < S + 2 * n + 1 = omega arith in rw (kept-mark d f, atom-kept d l) (h .recorded d l))
 
         -- an expression of the new number is not known

@@ -12,11 +12,11 @@ use lib.Seq.{getD-set-same, getD-set-other, set-getD}
 use borrow.Rule.Slice.PartMut.{midOf}
 use borrow.Author.Tests.{eqb-true, eqb-false, eq-eqb}
 use Rattle.words.specs.laws.Regions.{mid-set-before}
-use Rattle.values.specs.Table.{Values, valueOf, recordedSlot, representative, orItself, store}
+use Rattle.values.specs.Values.{Values, valueOf, recordedSlot, representative, orItself, store}
 use Rattle.values.specs.laws.Entries.{Linked}
 use Rattle.values.specs.laws.Adding.{next-epoch}
 use Rattle.values.specs.laws.Memory.{marksAt, constantsAt, expressionsAt, endAt, Memory, memoryOf, numberAt, markedAt, slotOr, usableIn, usableAt, slotFound, limit, Ordered, Ready, atomIn, Holds}
-use Rattle.values.specs.laws.Kept.{Kept, Same, Clears, Represents, Stores}
+use Rattle.values.specs.laws.Promises.{Kept, Same, Clears, Represents, Stores}
 use Rattle.values.specs.declared.Found.{Found}
 use Rattle.values.specs.declared.Found.the-variants.{At, Nothing}
 use Rattle.values.proofs.Holding.{turned, number-same, mark-same, marked-word, marked-low, mark-ordered, mark-holds, put-ordered, put-number, put-holds, nothing-ordered, nothing-holds, usable-holds, usable-marked}

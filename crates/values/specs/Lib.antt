@@ -1,4 +1,4 @@
 pub mod Fold
-pub mod Table
+pub mod Values
 pub mod Number
 pub mod laws

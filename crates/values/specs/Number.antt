@@ -19,7 +19,7 @@ use Rattle.effects.specs.Shape.{Sections, Cell}
 use Rattle.values.specs.declared.Atom.{Atom}
 use Rattle.values.specs.declared.Atom.the-variants.{Integer, Float, Definition}
 use Rattle.values.specs.Fold.{foldingUnary, foldingBinary, foldWord, fitsImm32}
-use Rattle.values.specs.Table.{Values, Expression, empty, valueOf, recordedSlot, representative, store, learn, expressionIn}
+use Rattle.values.specs.Values.{Values, Expression, empty, valueOf, recordedSlot, representative, store, learn, expressionIn}
 
 -- an instruction as it becomes, and the table after it
 pub record Numbered : Type 0 where

@@ -5,5 +5,5 @@ pub mod Search
 pub mod Attaching
 pub mod Adding
 pub mod Memory
-pub mod Kept
+pub mod Promises
 pub mod Named

@@ -4,7 +4,7 @@ ghost use Prim.Native.Nat.{_%_, _^_};
 ghost use Rattle.words.specs.Lists.{isIn};
 ghost use Rattle.values.specs.Fold.{bool, lowBits, trunc, bitWord, foldingUnary, foldingBinary, foldWord, fitsImm32};
 ghost use Rattle.values.specs.Number.{foldUnary, foldBinary};
-ghost use Rattle.values.specs.laws.Folded.{answered, expressionOf};
+ghost use Rattle.values.specs.laws.Folded.{foldedAs, expressionOf};
 ghost use Rattle.values.specs.declared.Atom.{Atom};
 use crate::Atom;
 use crate::Folded;
@@ -143,7 +143,7 @@ fn folds_binary(op: u8) -> bool
 
 // "A slot either holds a known integer or the rule goes no further."
 pub fn fold_unary(op: u8, flags: u8, left: Atom) -> Folded
-    ensures { λ r. ⌜ ((right : Atom) → r ≡ answered (foldUnary (expressionOf op flags left right) left)) ⌝ }
+    ensures { λ r. ⌜ ((right : Atom) → r ≡ foldedAs (foldUnary (expressionOf op flags left right) left)) ⌝ }
 {
     let Atom::Integer(x) = left else {
         return Folded::Not;
@@ -155,7 +155,7 @@ pub fn fold_unary(op: u8, flags: u8, left: Atom) -> Folded
 }
 
 pub fn fold_binary(op: u8, flags: u8, left: Atom, right: Atom) -> Folded
-    ensures { λ r. ⌜ r ≡ answered (foldBinary (expressionOf op flags left right) left right) ⌝ }
+    ensures { λ r. ⌜ r ≡ foldedAs (foldBinary (expressionOf op flags left right) left right) ⌝ }
 {
     let Atom::Integer(x) = left else {
         return Folded::Not;

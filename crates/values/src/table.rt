@@ -8,7 +8,7 @@ ghost use lib.ListN.{length, getD};
 ghost use Rattle.values.specs.laws.Entries.{key, bucketOf, headAt};
 ghost use Rattle.values.specs.laws.Folded.{integerOf};
 ghost use Rattle.values.specs.laws.Memory.{memoryOf, numberAt, markedAt, markedOr, slotOr, usableAt, expressionAt, expressionKey, integerAt, limit, Ready};
-ghost use Rattle.values.specs.laws.Kept.{Clears, Represents, Stores, Interns, Learns};
+ghost use Rattle.values.specs.laws.Promises.{Clears, Represents, Stores, Interns, Learns};
 ghost use Rattle.values.specs.declared.Found.the-variants.{Nothing};
 use crate::Atom;
 use crate::Found;

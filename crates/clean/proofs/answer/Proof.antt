@@ -1,6 +1,6 @@
 use mathlib.Core.Path.{sym, ap, _∙_}
 use Rattle.unit.specs.declared.Header.{Header}
-use Rattle.unit.specs.laws.Laws.{layout-unit, layout-refused}
+use Rattle.unit.specs.laws.UnitLaws.{layout-unit, layout-refused}
 use Rattle.clean.specs.laws.Cleaning.{answers-cleaned, stop-answers, stopped}
 use Rattle.clean.specs.laws.First.{clean-refused}
 use borrow.Author.Needs.{needs}

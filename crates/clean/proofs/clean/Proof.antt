@@ -1,6 +1,6 @@
 use mathlib.Core.Path.{_∙_}
 use native.Mathlib.Omega.{arith}
-use Rattle.run.specs.Given.{clean-alike}
+use Rattle.run.specs.Given.{clean-preserves}
 use borrow.Author.Needs.{needs}
 use Rattle.clean.proofs.clean.Statement.{statement}
 use Rattle.clean.proofs.clean.Tie as tie
@@ -18,7 +18,7 @@ returns c =
       work64 = c .before .before .before .before .before .before .before .before .before .before .zero-u64 .ensures ∙ rw (k .1 .0);
       first = c .before .before .before .before .before .before .zero-u8 .ensures ∙ rw (k .1 .1 .0);
       second = c .before .before .zero-u82 .ensures ∙ rw (k .1 .1 .1 .0);
-      runs = rw (r .answer .ensures .1) (clean-alike (s .args .unit .now) _ _ _ (s .args .out .now) (λ i. omega (arith, bytes .given i)));
+      runs = rw (r .answer .ensures .1) (clean-preserves (s .args .unit .now) _ _ _ (s .args .out .now) (λ i. omega (arith, bytes .given i)));
     }
 
 pub clean-spec : {M : Type 1} → statement M

@@ -3,7 +3,7 @@ use mathlib.Core.Path.{_≡_, sym, ap, _∙_}
 use mathlib.Core.Bool.{Bool, true, false, _&&_}
 use lib.ListN.{length}
 use Rattle.unit.specs.Layout.{headerOf}
-use Rattle.unit.specs.laws.Laws.{unit-laid}
+use Rattle.unit.specs.laws.UnitLaws.{unit-laid}
 use Rattle.answer.specs.Answer.{Lent, lentOf, isSkipped, roomFor}
 use Rattle.answer.specs.Clean.{spareFor}
 use Rattle.optimize.specs.laws.Whole.{worked-on}

@@ -18,19 +18,19 @@ use Rattle.words.specs.laws.Lists.{length-tabulate, getD-tabulate}
 use Rattle.words.specs.laws.Regions.{mid-long}
 use Rattle.instruction.specs.Instruction.{instructionAt}
 use Rattle.unit.specs.Entry.{metadataAt, goodMetadata}
-use Rattle.unit.specs.laws.Laws.{unit-laid, result-long, result-header-long, code-bytes-long, metadata-bytes-all-long, place-bytes-long}
+use Rattle.unit.specs.laws.UnitLaws.{unit-laid, result-long, result-header-long, code-bytes-long, metadata-bytes-all-long, place-bytes-long}
 use Rattle.unit.specs.Layout.{headerOf, typesOf, constantsOf, functionsOf, externsOf, casesOf, isUnit}
 use Rattle.unit.specs.Result.{Retained, retainedFrom, resultHeader, codeBytes, metadataBytesAll, placeBytes, resultBytes, resultMetadataAt, resultPlacesAt}
 use Rattle.unit.specs.Size.{placeSize, instructionSize, metadataSize, constantSize, caseSize, resultHeaderSize, resultSize, setWords, maxSetWords, maxInstructions}
 use Rattle.effects.specs.Shape.{Sections, cellAt, noCell}
 use Rattle.answer.specs.Answer.{sectionsOf}
-use Rattle.answer.specs.Clean.{cellOf, cellsAfter, placedBy}
+use Rattle.answer.specs.Clean.{retainedCell, cellsAfter, placedBy}
 use Rattle.answer.specs.Pass.{Outcome, unchanged, refused, rewritten, isWorkedOn, optimized, pass}
 use Rattle.run.specs.laws.Checked.{Well}
 use Rattle.run.specs.Given.{instruction-fields, constants-below, metadata-fields}
 use Rattle.run.specs.Program.{Function}
 use Rattle.run.specs.Returned.{resultFunction}
-use Rattle.removal.specs.laws.Kept.{sectionsIn}
+use Rattle.removal.specs.laws.KeptWork.{sectionsIn}
 use Rattle.optimize.specs.laws.Parts.{Given, Room, cellsIn, cells-in}
 use Rattle.run.specs.laws.Reading.{AllFit, codeIn, metadataIn, placesIn, retainedIn, retainedAt, noRetained, metadata-in, places-in, metadata-back, retained-back}
 use Rattle.run.specs.laws.Fitting.{AllSound, Again, optimized-again, placed-long, placed-fits}
@@ -82,10 +82,10 @@ before-at k from p h = getD-tabulate k _ p noRetained h
 
 cell-before : (k : ℕ) (from : List ℕ) (p : ℕ) → p < k
     → cellAt (cellsAfter (retainedIn k from)) p ≡ record { instruction = instructionAt (codeIn k from) p; metadata = metadataAt (metadataIn k from) p }
-cell-before k from p h = List·getD-map cellOf (retainedIn k from) p noRetained ∙ ap cellOf (before-at k from p h)
+cell-before k from p h = List·getD-map retainedCell (retainedIn k from) p noRetained ∙ ap retainedCell (before-at k from p h)
 
 cells-before-long : (k : ℕ) (from : List ℕ) → length (cellsAfter (retainedIn k from)) ≡ k
-cells-before-long k from = length-map (retainedIn k from) cellOf ∙ before-long k from
+cells-before-long k from = length-map (retainedIn k from) retainedCell ∙ before-long k from
 
 cells-before : (k : ℕ) (from : List ℕ) → Bytes from → cellsIn k (codeIn k from) (metadataIn k from) ≡ cellsAfter (retainedIn k from)
 cells-before k from b =
@@ -119,7 +119,7 @@ module _ {u from : List ℕ} {k to work32 work64 : ℕ} (r : Ready u from k to w
   ready-well =
       record {
         locals = unit-laid u (r .laid) .locals;
-        described = rw (length-map before cellOf) (omega arith);
+        described = rw (length-map before retainedCell) (omega arith);
         fields = λ p h.
             let l : p < k = rw (cells-before-long k from) at h in
             rw (cell-before k from p l) (instruction-fields (codeIn k from) p (bytes-mid 16 (instructionSize * k) from bf));

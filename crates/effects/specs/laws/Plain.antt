@@ -20,7 +20,7 @@ use Rattle.effects.specs.Shape.{Tables, Cell, applies, value, rangeOf, m
 use Rattle.effects.specs.Effects.{allReads, writes, demandsMet, allOf}
 use Rattle.effects.specs.Check.{operandRefusal}
 use Rattle.effects.specs.laws.Form.{forms, formAt, unpack, rowOf, demandRowOf, demandAt, readsOf, writesOf, readParts, writeParts}
-use Rattle.effects.specs.laws.Rows.{rows-read, rows-write}
+use Rattle.effects.specs.laws.TableRows.{rows-read, rows-write}
 use Rattle.effects.specs.laws.Ranges.{reads-other, writes-other, demands-row}
 use Rattle.words.specs.laws.Truth.{left-true, right-true}
 use Rattle.effects.specs.laws.Operands.{slots, rangeHolds, holds-one, all-append, not-refused, refused-within}

@@ -17,7 +17,7 @@ use Rattle.effects.specs.Shape.{Tables, Cell, Part, met, rangeOf}
 use Rattle.effects.specs.Table.{writeShape, arrayShape}
 use Rattle.effects.specs.Effects.{caseReads, caseWrites, reads, arrays, writes, allReads, demandsMet}
 use Rattle.effects.specs.laws.Form.{formAt, unpack, rowOf, readsOf, writesOf, demandRowOf, readParts, writeParts, emptyRange, noPart, demandAt, demands, demandsOf}
-use Rattle.effects.specs.laws.Rows.{unpack-long, unpack-at, rows-read, rows-write, rows-demand}
+use Rattle.effects.specs.laws.TableRows.{unpack-long, unpack-at, rows-read, rows-write, rows-demand}
 
 -- SelectExec's cases are inside their section
 abbrev pub CasesInside : List ℕ → Cell → Type 0

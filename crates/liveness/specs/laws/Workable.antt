@@ -14,11 +14,11 @@ use Rattle.unit.specs.Size.{setWords, maxSetWords, setsRoom, metadataSize}
 use Rattle.effects.specs.Shape.{Tables, Sections, Cell}
 use Rattle.effects.specs.laws.Cells.{cellOf, cellsBy}
 use Rattle.use_def.specs.laws.Touched.{Fits}
-use Rattle.liveness.specs.declared.Layout.{Layout}
+use Rattle.liveness.specs.declared.SetLayout.{SetLayout}
 use Rattle.liveness.specs.Live.{Row, noRow, maxLivenessWork}
 use Rattle.liveness.specs.Dead.{sweepFrom, deadStores}
 use Rattle.liveness.specs.laws.Visit.{Rising, Summed}
-use Rattle.liveness.specs.laws.Memory.{Laid, laidOut, laid-out, codeOf, usesOf, preservedOf, liveOf, leadersOf, blocksOf, flagsAt, flagsOf, Coded, Ready, Sweepable}
+use Rattle.liveness.specs.laws.SetMemory.{LayoutFits, laidOut, laid-out, codeWords, usesOf, preservedOf, liveOf, leadersOf, blocksOf, flagsAt, flagsOf, Coded, Ready, Sweepable}
 use Rattle.liveness.specs.laws.Rounding.{Around}
 use Rattle.liveness.specs.laws.Solving.{Solved}
 use Rattle.liveness.specs.laws.Sweep.{Grounds, sections}
@@ -33,16 +33,16 @@ abbrev pub Known : Tables → ℕ → ℕ → List ℕ → List ℕ → List ℕ
 Known T n count memory metadata types table = Droppable T n count (midOf 0 n memory) metadata types (leadersOf n table) (blocksOf n table) (startsOf n table) (flagsOf n table)
 
 -- dead stores are not skipped, and there is room
-pub record Workable (s : Layout) (T : Tables) (memory metadata types table : List ℕ) : Type 0 where
+pub record Workable (s : SetLayout) (T : Tables) (memory metadata types table : List ℕ) : Type 0 where
   pub known : Known T (s .code) (s .count) memory metadata types table
   pub width : s .width ≡ setWords (length types)
   pub some : 0 < s .width
   pub few : s .width * s .count ≤ maxSetWords
-  pub laid : Laid s (length memory)
+  pub laid : LayoutFits s (length memory)
   pub long-table : flagsAt (s .code) + s .code ≤ length table
 
 pub workable : {T : Tables} {n count : ℕ} {memory metadata types table : List ℕ} (d : Known T n count memory metadata types table) {w : ℕ} (ew : w ≡ setWords (length types))
-    (s : Layout) → s ≡ laidOut n w count → 0 < w → w * count ≤ maxSetWords → setsRoom n (length types) ≤ length memory → 4 * n + 1 ≤ length table → Workable s T memory metadata types table
+    (s : SetLayout) → s ≡ laidOut n w count → 0 < w → w * count ≤ maxSetWords → setsRoom n (length types) ≤ length memory → 4 * n + 1 ≤ length table → Workable s T memory metadata types table
 workable {n = n} {count = count} {memory = memory} d {w} ew s e some few room long =
     rw e
     (record {
@@ -58,7 +58,7 @@ workable {n = n} {count = count} {memory = memory} d {w} ew s e some few room lo
 pub put-itself : (a k : ℕ) (table ys : List ℕ) → midOf a k table ≡ ys → table ≡ putMid a k table ys
 put-itself a k table ys e = sym (put-same a k table) ∙ ap (putMid a k table) e
 
-module _ {s : Layout} {T : Tables} {memory metadata types table : List ℕ} (g : Workable s T memory metadata types table) where
+module _ {s : SetLayout} {T : Tables} {memory metadata types table : List ℕ} (g : Workable s T memory metadata types table) where
   abbrev n : ℕ
   n = s .code
 
@@ -78,7 +78,7 @@ module _ {s : Layout} {T : Tables} {memory metadata types table : List ℕ} (g :
   keep = flagsOf n table
 
   abbrev code : List ℕ
-  code = codeOf s memory
+  code = codeWords s memory
 
   abbrev cells : List Cell
   cells = cellsBy code metadata
@@ -99,7 +99,7 @@ module _ {s : Layout} {T : Tables} {memory metadata types table : List ℕ} (g :
 
   -- ---- what the walks ask of memory that still holds the code
 
-  module _ (m : List ℕ) (long : length m ≡ length memory) (same : codeOf s m ≡ codeOf s memory) where
+  module _ (m : List ℕ) (long : length m ≡ length memory) (same : codeWords s m ≡ codeWords s memory) where
     word-at : (p : ℕ) → p < n → getD m p 0 ≡ getD code p 0
     word-at p h = sym (get-mid m 0 n p 0 h ∙ rw zero-add) ∙ ap (λ (l : List ℕ). getD l p 0) same
 
@@ -119,7 +119,7 @@ module _ {s : Layout} {T : Tables} {memory metadata types table : List ℕ} (g :
     few-starts = rw (g .known .long-starts) (omega (arith, few-blocks (g .known) (g .width)))
 
     pub summarizable : (keep′ starts′ : List ℕ) → keep′ ≡ keep → starts′ ≡ starts
-        → Laid s (length m) × (s .count < length starts′) × Rising starts′ (s .count) n × (metadataSize * n ≤ length metadata) × (length keep′ ≡ n)
+        → LayoutFits s (length m) × (s .count < length starts′) × Rising starts′ (s .count) n × (metadataSize * n ≤ length metadata) × (length keep′ ≡ n)
         × ((p : ℕ) → p < n → Fits (s .width) T (cellOf metadata p (getD m p 0))) × (0 < s .width)
     summarizable keep′ starts′ a b = rw (a, b) (rw long (g .laid), few-starts, starts-rise (g .known) (g .width), g .known .entries, g .known .long-keep, fits-in, g .some)
 
@@ -140,7 +140,7 @@ module _ {s : Layout} {T : Tables} {memory metadata types table : List ℕ} (g :
   -- what the rounds start from
   pub record Begun (m : List ℕ) : Type 0 where
     pub long : length m ≡ length memory
-    pub same : codeOf s m ≡ codeOf s memory
+    pub same : codeWords s m ≡ codeWords s memory
     pub empty : liveOf s m ≡ replicate size 0
     pub summed : Summed T keep cells (s .width) starts (usesOf s m) (preservedOf s m) (s .count)
 
@@ -161,7 +161,7 @@ module _ {s : Layout} {T : Tables} {memory metadata types table : List ℕ} (g :
     pub zero-long : length m ≡ length memory
     zero-long = rw put-zeros (put-long memory (s .live) size (replicate size 0) (length-replicate {A = ℕ} size 0) room)
 
-    pub zero-code : codeOf s m ≡ codeOf s memory
+    pub zero-code : codeWords s m ≡ codeWords s memory
     zero-code =
         let l = g .laid in
         let before : n ≤ s .live = omega (arith, l .row, l .uses, l .preserved, l .live) in
@@ -176,7 +176,7 @@ module _ {s : Layout} {T : Tables} {memory metadata types table : List ℕ} (g :
 
     -- and the other sets are made
     pub begun : (m′ keep′ starts′ : List ℕ) → keep′ ≡ keep → starts′ ≡ starts → length m′ ≡ length m
-        → Summed T keep′ (cellsBy (codeOf s m) metadata) (s .width) starts′ (usesOf s m′) (preservedOf s m′) (s .count) × (codeOf s m′ ≡ codeOf s m) × (liveOf s m′ ≡ liveOf s m) → Begun m′
+        → Summed T keep′ (cellsBy (codeWords s m) metadata) (s .width) starts′ (usesOf s m′) (preservedOf s m′) (s .count) × (codeWords s m′ ≡ codeWords s m) × (liveOf s m′ ≡ liveOf s m) → Begun m′
     begun m′ keep′ starts′ a b long f =
         let made = rw (a, b, zero-code) at (f .0) in
         record { long = long ∙ zero-long; same = f .1 ∙ zero-code; empty = f .2 ∙ zero-live; summed = made }
@@ -192,12 +192,12 @@ module _ {s : Layout} {T : Tables} {memory metadata types table : List ℕ} (g :
   -- what `solve` tells of memory before and after it, and `sweep` of the table after it
   abbrev Rounds : List ℕ → List ℕ → List ℕ → List ℕ → Bool → Type 0
   Rounds m m′ blocks′ starts′ r = (S : Sections) (leaders keep metadata : List ℕ) (rows : List Row)
-      → Around S leaders keep (cellsBy (codeOf s m) metadata) (s .width) (s .count) rows blocks′ starts′ (usesOf s m) (preservedOf s m) (liveOf s m)
-      → Solved S leaders keep (cellsBy (codeOf s m) metadata) (s .width) (maxLivenessWork / size) rows (liveOf s m′) r
+      → Around S leaders keep (cellsBy (codeWords s m) metadata) (s .width) (s .count) rows blocks′ starts′ (usesOf s m) (preservedOf s m) (liveOf s m)
+      → Solved S leaders keep (cellsBy (codeWords s m) metadata) (s .width) (maxLivenessWork / size) rows (liveOf s m′) r
 
   abbrev Sweeps : List ℕ → List ℕ → Type 0
-  Sweeps m table′ = (locals : ℕ) (constants : List ℕ) (rows : List Row) → Grounds (sections locals types constants T) leaders keep (cellsBy (codeOf s m) metadata) rows (s .width) blocks (liveOf s m)
-      → flagsOf n table′ ≡ sweepFrom (sections locals types constants T) (length (cellsBy (codeOf s m) metadata)) leaders keep rows 0 (cellsBy (codeOf s m) metadata) .keep
+  Sweeps m table′ = (locals : ℕ) (constants : List ℕ) (rows : List Row) → Grounds (sections locals types constants T) leaders keep (cellsBy (codeWords s m) metadata) rows (s .width) blocks (liveOf s m)
+      → flagsOf n table′ ≡ sweepFrom (sections locals types constants T) (length (cellsBy (codeWords s m) metadata)) leaders keep rows 0 (cellsBy (codeWords s m) metadata) .keep
 
   module _ (m m′ blocks′ starts′ : List ℕ) (b : Begun m) (eb : blocks′ ≡ blocks) (es : starts′ ≡ starts) (r : Bool) (rounds : Rounds m m′ blocks′ starts′ r) (constants : List ℕ) where
     solved : Solved (all constants) leaders keep cells (s .width) (maxLivenessWork / size) (replicate (s .count) (noRow (all constants) (length cells) leaders keep)) (liveOf s m′) r
@@ -212,9 +212,9 @@ module _ {s : Layout} {T : Tables} {memory metadata types table : List ℕ} (g :
         put-itself (flagsAt n) n table (stores constants) kept
 
     -- the dead stores by those that were found
-    pub stores-swept : r ≡ true → (table′ : List ℕ) → codeOf s m′ ≡ codeOf s m → Sweeps m′ table′ → table′ ≡ putMid (flagsAt n) n table (flagsOf n table′) → table′ ≡ putMid (flagsAt n) n table (stores constants)
+    pub stores-swept : r ≡ true → (table′ : List ℕ) → codeWords s m′ ≡ codeWords s m → Sweeps m′ table′ → table′ ≡ putMid (flagsAt n) n table (flagsOf n table′) → table′ ≡ putMid (flagsAt n) n table (stores constants)
     stores-swept e table′ code sweeps put =
-        let same : codeOf s m′ ≡ codeOf s memory = code ∙ b .same in
+        let same : codeWords s m′ ≡ codeWords s memory = code ∙ b .same in
         let kept : flagsOf n table′ ≡ stores constants =
         dropped (g .known) (g .width) constants (g .some) (g .few) r (liveOf s m′) (flagsOf n table′) solved (λ f. absurd (false≢true (sym f ∙ e))) (λ f rows. (rw same at sweeps) (length types) constants rows) in
         put ∙ ap (putMid (flagsAt n) n table) kept

@@ -16,12 +16,12 @@ use Rattle.instruction.specs.Instruction.{class, imm32, ofWord, toWord}
 use Rattle.unit.specs.Entry.{constantAt, typeValue, typeFloat}
 use Rattle.effects.specs.Shape.{Sections, Tables, Cell}
 use Rattle.effects.specs.laws.Cells.{cellOf, cellsBy}
-use Rattle.values.specs.Table.{Values, Expression, Represented, empty, valueOf, representative}
+use Rattle.values.specs.Values.{Values, Expression, Represented, empty, valueOf, representative}
 use Rattle.values.specs.laws.Folded.{expressionOf}
 use Rattle.values.specs.Number.{Numbered, isScalar, cleared, constantAtom, setBC, foldUnary, foldBinary, stored, byValue, numberUnary, numberBinary, numberCopy, numberConstant, numberRead, numberBy, number, numberFrom, numberCode}
 use Rattle.values.specs.laws.Entries.{key}
-use Rattle.values.specs.laws.Memory.{Memory, memoryOf, numberAt, constantOf, constantKey, expressionKey, limit, Ready, Holds}
-use Rattle.values.specs.laws.Kept.{Kept, Same}
+use Rattle.values.specs.laws.Memory.{Memory, memoryOf, numberAt, keyAtom, constantKey, expressionKey, limit, Ready, Holds}
+use Rattle.values.specs.laws.Promises.{Kept, Same}
 use Rattle.values.specs.laws.Named.{Named}
 use Rattle.values.specs.declared.Atom.{Atom}
 use Rattle.values.specs.declared.Atom.the-variants.{Integer}
@@ -31,8 +31,8 @@ use Rattle.values.specs.declared.Folded.{Folded}
 use Rattle.values.specs.declared.Folded.the-variants.{Word, Not}
 
 -- numbering looks at the types and the constants of a unit alone
-abbrev pub sectionsOf : List ℕ → List ℕ → ℕ → Tables → Sections
-sectionsOf types constants locals tables = record { locals = locals; types = types; constants = constants; tables = tables }
+abbrev pub sectionsWith : List ℕ → List ℕ → ℕ → Tables → Sections
+sectionsWith types constants locals tables = record { locals = locals; types = types; constants = constants; tables = tables }
 
 unfoldable pub wordOf : Folded → Option ℕ
 wordOf (Word v) = some v
@@ -51,8 +51,8 @@ pub record Becomes (n : ℕ) (types : List ℕ) (k c e : ℕ) (t : List ℕ) (x 
     : Type 0 where
   pub kept : Kept n (length types) k c e t t′
   pub holds : (dest : ℕ → ℕ) (constants : List ℕ) (locals : ℕ) (tables : Tables) (v : Values) → Good dest constants → Holds n (length types) dest v (memoryOf n (length types) t)
-      → (x ≡ f dest (sectionsOf types constants locals tables) v .instruction)
-      × Holds n (length types) dest (f dest (sectionsOf types constants locals tables) v .table) (memoryOf n (length types) t′)
+      → (x ≡ f dest (sectionsWith types constants locals tables) v .instruction)
+      × Holds n (length types) dest (f dest (sectionsWith types constants locals tables) v .table) (memoryOf n (length types) t′)
 
 -- the known integer that an expression of two operands or of one folds to
 unfoldable pub foldBy : Bool → Expression → Option ℕ
@@ -76,7 +76,7 @@ onZero k = eqb (numberOf k) 9
 
 -- the value of what LoadConst gives
 unfoldable pub atomOf : Loaded → Option Atom
-atomOf (Value kind bits) = some (constantOf (constantKey kind bits))
+atomOf (Value kind bits) = some (keyAtom (constantKey kind bits))
 atomOf Unknown = none
 
 unfoldable pub KindOf : Loaded → Type 0
@@ -226,8 +226,8 @@ pub record Enters (n S leader : ℕ) (t t′ : List ℕ) : Type 0 where
 pub record Turns (n : ℕ) (types constants : List ℕ) (leader w p : ℕ) (t : List ℕ) (x : ℕ) (t′ : List ℕ) : Type 0 where
   pub kept : Kept n (length types) 2 1 1 t t′
   pub holds : (dest : ℕ → ℕ) (locals : ℕ) (tables : Tables) (v : Values) → Stands n p (ofWord w) dest → Holds n (length types) dest v (memoryOf n (length types) t)
-      → (x ≡ toWord (number (sectionsOf types constants locals tables) p (ofWord w) (cond (eqb leader 1) empty v) .instruction))
-      × Holds n (length types) dest (number (sectionsOf types constants locals tables) p (ofWord w) (cond (eqb leader 1) empty v) .table) (memoryOf n (length types) t′)
+      → (x ≡ toWord (number (sectionsWith types constants locals tables) p (ofWord w) (cond (eqb leader 1) empty v) .instruction))
+      × Holds n (length types) dest (number (sectionsWith types constants locals tables) p (ofWord w) (cond (eqb leader 1) empty v) .table) (memoryOf n (length types) t′)
 
 -- what numbering takes of the 64-bit work: the code, and the table of values behind it
 abbrev pub valuesRoom : ℕ → ℕ → ℕ

@@ -28,10 +28,10 @@ use Rattle.pc_map.specs.Boundary.{boundary}
 use Rattle.pc_map.specs.laws.Listed.{keptList}
 use Rattle.answer.specs.Pass.{Outcome, refused, checked, removal}
 use Rattle.values.specs.laws.Named.{Named}
-use Rattle.run.specs.laws.Operands.{named-of}
+use Rattle.run.specs.laws.Slots.{named-of}
 use Rattle.optimize.specs.laws.Parts.{Given, Room, Checked, wordsIn, words-long, wordsOf, cellsIn, numberedCode, reachedMarks, retainedPlaces, fromLoops, loops-removal}
-use Rattle.removal.specs.laws.Kept.{sectionsIn, keepAt, listAt, Retainable, Retains}
-use Rattle.optimize.specs.laws.Numbered.{given-long, numbered-size, cells-back, numbered-operands, numbered-none, numbered-inside}
+use Rattle.removal.specs.laws.KeptWork.{sectionsIn, keepAt, listAt, Retainable, Retains}
+use Rattle.optimize.specs.laws.NumberedWords.{given-long, numbered-size, cells-back, numbered-operands, numbered-none, numbered-inside}
 use Rattle.optimize.specs.laws.Steps.{ListedControls, list-kept, Renumbered, Marks, Reached, Numberable, Finished}
 
 -- a check and what follows it

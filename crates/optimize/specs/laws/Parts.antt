@@ -23,7 +23,7 @@ use Rattle.flow.specs.Block.{leaders}
 use Rattle.flow.specs.Loop.{reachedPlaces, loopCheck}
 use Rattle.values.specs.Number.{numberCode}
 use Rattle.answer.specs.Pass.{Outcome, unchanged, refused, outputAfter, checked, removal, keptPlaces, afterLoops, afterBranches, afterOperands, optimized}
-use Rattle.removal.specs.laws.Kept.{sectionsIn}
+use Rattle.removal.specs.laws.KeptWork.{sectionsIn}
 use Rattle.run.specs.Given.{instruction-fields}
 use Rattle.optimize.specs.declared.Answer.{Answer}
 use Rattle.optimize.specs.declared.Answer.the-variants.{Unchanged, Refused}

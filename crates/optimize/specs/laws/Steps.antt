@@ -35,7 +35,7 @@ use Rattle.pc_map.specs.laws.Listed.{keptList, Listed}
 use Rattle.optimize.specs.laws.Parts.{Parts, sectionsFor, cellsFor, Given, Room, Checked, wordsIn, numberedCode, reachedMarks, wordsOf}
 use Rattle.answer.specs.Pass.{removal}
 use Rattle.optimize.specs.laws.Parts.{cellsIn}
-use Rattle.removal.specs.laws.Kept.{keepAt, listAt}
+use Rattle.removal.specs.laws.KeptWork.{keepAt, listAt}
 
 -- the list of the control places stands in the 64-bit work, behind what numbering and liveness take: `count` of them from `at` on
 pub record ListedControls (n s at count : ℕ) (work64 : List ℕ) : Type 0 where

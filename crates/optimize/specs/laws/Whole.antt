@@ -12,13 +12,13 @@ use Rattle.words.specs.Bytes.{Bytes}
 use Rattle.words.specs.laws.Bytes.{bytes-mid}
 use Rattle.unit.specs.declared.Counts.{Counts}
 use Rattle.unit.specs.declared.Header.{Header}
-use Rattle.unit.specs.laws.Laws.{unit-laid}
+use Rattle.unit.specs.laws.UnitLaws.{unit-laid}
 use Rattle.unit.specs.Size.{instructionSize, constantSize, caseSize, outputRoom, work32Room, work64Room, maxInstructions}
 use Rattle.effects.specs.Shape.{Sections}
 use Rattle.answer.specs.Pass.{isWorkedOn}
 use Rattle.words.specs.laws.Truth.{left-true, right-true}
 use Rattle.run.specs.laws.Passed.{worked-size}
-use Rattle.removal.specs.laws.Kept.{sectionsIn}
+use Rattle.removal.specs.laws.KeptWork.{sectionsIn}
 use Rattle.optimize.specs.laws.Parts.{Given, Room, cellsIn, cells-in}
 use Rattle.unit.specs.Layout.{headerOf, codeOf, metadataOf, typesOf, constantsOf, functionsOf, externsOf, casesOf, isUnit}
 use Rattle.unit.specs.Refusal.{notUnit, shortBuffer, metadataCount, typeCount}

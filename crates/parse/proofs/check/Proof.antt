@@ -1,7 +1,7 @@
 use mathlib.Core.Path.{_≡_, sym, _∙_}
 use mathlib.Core.Bool.{true}
 use Rattle.unit.specs.Layout.{isUnit}
-use Rattle.unit.specs.laws.Laws.{unit-laid, laid-out, not-laid-out}
+use Rattle.unit.specs.laws.UnitLaws.{unit-laid, laid-out, not-laid-out}
 use borrow.Author.Needs.{needs}
 use Rattle.parse.proofs.check.Statement.{statement}
 use Rattle.parse.proofs.check.Tie as tie

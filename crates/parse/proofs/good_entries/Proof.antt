@@ -9,7 +9,7 @@ use Rattle.words.specs.Lists.{every}
 use Rattle.unit.specs.Size.{metadataSize, constantSize, caseSize}
 use Rattle.unit.specs.Entry.{goodMetadata, metadataAt, goodType, typeAt, goodConstant, goodCase, caseAt}
 use Rattle.unit.specs.Layout.{headerOf, metadataOf, typesOf, constantsOf, casesOf, goodEntries}
-use Rattle.unit.specs.laws.Laws.{Lengths, lengths, within}
+use Rattle.unit.specs.laws.UnitLaws.{Lengths, lengths, within}
 use borrow.Author.Needs.{needs}
 use Rattle.parse.proofs.good_entries.Statement.{statement}
 use Rattle.parse.proofs.good_entries.Tie as tie

@@ -5,7 +5,7 @@ use lib.ListN.{length}
 use borrow.Author.Tests.{le-leb, lt-leb, not-true, not-false}
 use Rattle.unit.specs.Size.{headerSize}
 use Rattle.unit.specs.Layout.{headerOf, sectionsFollow, goodCounts, isUnit}
-use Rattle.unit.specs.laws.Laws.{sections-follow}
+use Rattle.unit.specs.laws.UnitLaws.{sections-follow}
 use borrow.Author.Needs.{needs}
 use Rattle.parse.proofs.is_unit.Statement.{statement}
 use Rattle.parse.proofs.is_unit.Tie as tie

@@ -11,7 +11,7 @@ use Rattle.instruction.specs.declared.Instruction.{Instruction}
 use Rattle.instruction.specs.declared.Class.{Class}
 use Rattle.instruction.specs.declared.Class.the-variants.{Hint, LoadInt, LoadConst, Copy, CopyN, Unary, Binary, Jump, JumpIf, JumpIfNot, ForLoop, Return, Panic, Outside, Invalid}
 use Rattle.instruction.specs.Instruction.{imm32Unsigned, withImm32, class}
-use Rattle.instruction.specs.laws.Laws.{hint-class}
+use Rattle.instruction.specs.laws.ReadBack.{hint-class}
 use Rattle.unit.specs.Refusal.{lostLoop}
 use Rattle.unit.specs.declared.Metadata.{Metadata}
 use Rattle.effects.specs.Shape.{Cell}

@@ -16,7 +16,7 @@ use Rattle.words.specs.laws.Regions.{put-put}
 use Rattle.instruction.specs.Instruction.{toWord}
 use Rattle.unit.specs.Entry.{metadataBytes}
 use Rattle.unit.specs.Result.{Retained, codeBytes, metadataBytesAll, placeBytes}
-use Rattle.unit.specs.laws.Laws.{code-bytes-long, metadata-bytes-all-long, place-bytes-long}
+use Rattle.unit.specs.laws.UnitLaws.{code-bytes-long, metadata-bytes-all-long, place-bytes-long}
 use Rattle.effects.specs.Shape.{Cell, cellAt, noCell}
 use Rattle.flow.specs.laws.Flags.{Flags}
 use Rattle.pc_map.specs.Boundary.{isKept, boundary}

@@ -22,7 +22,7 @@ use Rattle.liveness.specs.laws.Droppable.{Droppable}
 use Rattle.liveness.specs.laws.Sweep.{dead-long}
 use Rattle.run.specs.laws.Optimized.{useful-long}
 use Rattle.answer.specs.Pass.{usefulPlaces}
-use Rattle.removal.specs.laws.Kept.{sectionsIn, keepAt, endsAt, Useful, Stored, Retainable}
+use Rattle.removal.specs.laws.KeptWork.{sectionsIn, keepAt, endsAt, Useful, Stored, Retainable}
 
 mark-long : (l qs : List ℕ) → length (markAll l qs) ≡ length l
 unfolding markAll

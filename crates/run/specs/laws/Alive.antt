@@ -27,7 +27,7 @@ use Rattle.liveness.specs.laws.Sweep.{before-at, keep-at}
 use Rattle.run.specs.laws.Step.{Succ, next, branch}
 use Rattle.run.specs.laws.Frame.{In, here, in-left, in-right}
 use Rattle.run.specs.laws.Solved.{whole-at, row-at}
-use Rattle.run.specs.laws.Rows.{joined-bit}
+use Rattle.run.specs.laws.RowBits.{joined-bit}
 
 -- a slot is live before an instruction, by whether it is after it
 unfoldable pub flow : Bool → Bool → Bool → Bool → Bool

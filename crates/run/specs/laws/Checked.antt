@@ -34,12 +34,12 @@ use Rattle.flow.specs.laws.Marks.{Marked}
 use Rattle.flow.specs.laws.Leaders.{leaders-long, leaders-at, leaders-first, leaders-flags}
 use Rattle.values.specs.declared.Atom.{Atom}
 use Rattle.values.specs.Number.{constantAtom}
-use Rattle.values.specs.Table.{Values}
+use Rattle.values.specs.Values.{Values}
 use Rattle.pc_map.specs.Boundary.{isKept}
 use Rattle.pc_map.specs.Relocate.{movedJump, movedForLoop, movedHint, relocate, relocateBy, retainFrom}
 use Rattle.answer.specs.Clean.{cellsAfter}
 use Rattle.run.specs.Program.{Function}
-use Rattle.run.specs.laws.Relocated.{pick}
+use Rattle.run.specs.laws.RelocatedRun.{pick}
 use Rattle.run.specs.laws.Valuation.{Below}
 use Rattle.run.specs.laws.Justified.{Justified, stays, operand, operands, tested, returned, loaded, copied, takenIf, takenIfNot, passedIf, passedIfNot}
 use Rattle.run.specs.laws.Numbered.{Numberable, numberedFunction, numbered-at, numbered-long, numbered-justified, numbered-operands}

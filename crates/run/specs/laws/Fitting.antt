@@ -22,7 +22,7 @@ use Rattle.pc_map.specs.Boundary.{isKept}
 use Rattle.pc_map.specs.laws.Boundaries.{boundary-most}
 use Rattle.pc_map.specs.Relocate.{relocate, retainFrom}
 use Rattle.pc_map.specs.laws.Relocated.{moved-metadata}
-use Rattle.answer.specs.Clean.{cellOf, cellsAfter, placedBy}
+use Rattle.answer.specs.Clean.{retainedCell, cellsAfter, placedBy}
 use Rattle.answer.specs.Pass.{rewritten, isWorkedOn, optimized, keptPlaces}
 use Rattle.run.specs.laws.Checked.{Well, numberable}
 use Rattle.run.specs.laws.Jumps.{rounds-flags}
@@ -30,7 +30,7 @@ use Rattle.run.specs.laws.Numbered.{numberedFunction, Numberable, number
 use Rattle.run.specs.laws.Optimized.{useful-flags}
 use Rattle.run.specs.laws.Passed.{some-code, few, optimized-kept, optimized-runs}
 use Rattle.run.specs.Program.{Function}
-use Rattle.run.specs.laws.Relocated.{pick}
+use Rattle.run.specs.laws.RelocatedRun.{pick}
 use Rattle.run.specs.Returned.{resultFunction}
 use Rattle.run.specs.laws.Reading.{Sound, AllFit, retainedAt, noRetained}
 
@@ -102,8 +102,8 @@ pub record Again (cases n : ℕ) (kept : List Retained) : Type 0 where
 -- the fields of a result's cells
 cell-fields : (kept : List Retained) → ((p : ℕ) → p < length (cellsAfter kept) → Fields (cellAt (cellsAfter kept) p .instruction)) → (p : ℕ) → p < length kept → Fields (retainedAt kept p .instruction)
 cell-fields kept f p h =
-    let e : cellAt (cellsAfter kept) p ≡ cellOf (retainedAt kept p) = List·getD-map cellOf kept p noRetained in
-    let g : Fields (cellAt (cellsAfter kept) p .instruction) = f p (rw (length-map kept cellOf) h) in
+    let e : cellAt (cellsAfter kept) p ≡ retainedCell (retainedAt kept p) = List·getD-map retainedCell kept p noRetained in
+    let g : Fields (cellAt (cellsAfter kept) p .instruction) = f p (rw (length-map kept retainedCell) h) in
     rw e at g
 
 module _ (F : Function) (w : Well F) (cases : ℕ) (sound : AllSound cases (F .cells)) (worked : isWorkedOn (length (F .cells)) ≡ true) (kept : List Retained)

@@ -30,14 +30,14 @@ use Rattle.flow.specs.Branch.{targetBy}
 use Rattle.values.specs.declared.Atom.{Atom}
 use Rattle.values.specs.declared.Atom.the-variants.{Integer, Float}
 use Rattle.values.specs.Fold.{foldWord, foldingUnary, foldingBinary, fitsImm32}
-use Rattle.values.specs.Table.{Values, Expression, valueOf, expressionIn}
+use Rattle.values.specs.Values.{Values, Expression, valueOf, expressionIn}
 use Rattle.values.specs.Number.{setA, setB, setBC, constantAtom}
 use Rattle.values.specs.laws.Named.{Named}
 use Rattle.effects.specs.laws.Single.{isSingle}
 use Rattle.run.specs.Machine.{Words, Event, World, State, at, put, goto, perform, stop, byReturn}
 use Rattle.run.specs.Program.{Function, hasMeaning, classIn, nodeBy, actBy, givenRanges, event, constantWord, unaryWord, binaryWord, slotsOf, slotsFrom}
 use Rattle.run.specs.laws.Gives.{given-by-class}
-use Rattle.run.specs.laws.Operands.{named-of, named-refusal, oneByOne}
+use Rattle.run.specs.laws.Slots.{named-of, named-refusal, oneByOne}
 use Rattle.run.specs.laws.Valuation.{Valuation, wordOf, expressionWord, wordOfExpression, Valid}
 
 isReturn : Class → Bool

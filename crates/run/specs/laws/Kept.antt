@@ -45,7 +45,7 @@ use Rattle.run.specs.laws.Frame.{In, slots-any, slots-within, any-left}
 use Rattle.run.specs.laws.Jumps.{rounds-fewer}
 use Rattle.run.specs.laws.Removed.{passes, passing-falls, Dropped, store, Removable, removed}
 use Rattle.run.specs.laws.Solved.{solved, solve-long}
-use Rattle.run.specs.laws.Rows.{solve-wide}
+use Rattle.run.specs.laws.RowBits.{solve-wide}
 use Rattle.run.specs.laws.Alive.{flow-gone, flow-kept, flow-reads, before, after, dead, stays, Analysed, before-flow, out, stays-at}
 use Rattle.run.specs.laws.Optimized.{Removing, not-useful, plain-class, hint-gives, inner, skipped, removable, plain-removable}
 

@@ -17,7 +17,7 @@ use Rattle.effects.specs.Shape.{Sections, Cell, cellAt}
 use Rattle.effects.specs.Check.{operandRefusal}
 use Rattle.flow.specs.Branch.{falls, branches, target}
 use Rattle.values.specs.declared.Atom.{Atom}
-use Rattle.values.specs.Table.{Values, empty}
+use Rattle.values.specs.Values.{Values, empty}
 use Rattle.values.specs.Number.{Numbered, constantAtom, number, numberFrom, numberCode}
 use Rattle.run.specs.Machine.{Words, Event, World, Reply, words, finish, at, put, Act, silent, ask, stop, fail, Node, goto, answered, perform, step, SameRuns}
 use Rattle.run.specs.laws.LockStep.{Holds, held, past, Lock, lock-step}

@@ -23,7 +23,7 @@ use Rattle.flow.specs.Branch.{branches, falls}
 use Rattle.values.specs.declared.Atom.{Atom}
 use Rattle.values.specs.declared.Atom.the-variants.{Integer, Float, Definition}
 use Rattle.values.specs.Fold.{foldWord, foldingUnary, foldingBinary, fitsImm32}
-use Rattle.values.specs.Table.{sameAtom, Values, Expression, Represented, empty, atStart, valueIn, valueOf, slotIn, expressionIn, usable, recordedSlot, orItself, representative, store}
+use Rattle.values.specs.Values.{sameAtom, Values, Expression, Represented, empty, atStart, valueIn, valueOf, slotIn, expressionIn, usable, recordedSlot, orItself, representative, store}
 use Rattle.values.specs.Number.{Numbered, setA, setB, setBC, constantAtom, foldUnary, foldBinary, loadOrStay, isScalar, stored, copyOrStay, byExpression, byValue, numberUnary, numberBinary, numberCopy, numberConstant, numberRead, decided, numberJump, numberBy, cleared}
 use Rattle.values.specs.laws.Named.{Named}
 use Rattle.instruction.specs.Class.{numberOf}

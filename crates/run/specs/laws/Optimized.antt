@@ -16,7 +16,7 @@ use Rattle.instruction.specs.declared.Class.{Class}
 use Rattle.instruction.specs.declared.Class.the-variants.{Hint, LoadInt, LoadConst, Copy, CopyN, Unary, Binary, Jump, JumpIf, JumpIfNot, ForLoop, Return, Panic, Outside, Invalid}
 use Rattle.instruction.specs.Class.{classOf}
 use Rattle.instruction.specs.Instruction.{class}
-use Rattle.instruction.specs.laws.Laws.{hint-class, jump-class}
+use Rattle.instruction.specs.laws.ReadBack.{hint-class, jump-class}
 use Rattle.unit.specs.Size.{maxInstructions}
 use Rattle.effects.specs.Shape.{Tables, Sections, Cell, cellAt, noCell}
 use Rattle.effects.specs.Effects.{allReads, rangeHas, anyOf}
@@ -39,7 +39,7 @@ use Rattle.run.specs.laws.Frame.{In}
 use Rattle.run.specs.laws.Gives.{given-by-class}
 use Rattle.words.specs.laws.Truth.{left-true}
 use Rattle.run.specs.laws.Step.{Succ, next, branch}
-use Rattle.run.specs.laws.Relocated.{relocated-op}
+use Rattle.run.specs.laws.RelocatedRun.{relocated-op}
 use Rattle.run.specs.laws.Jumps.{Skips, rounds-long, rounds-flags, rounds-why}
 use Rattle.run.specs.laws.Removed.{passes, Dropped, store, skip, Removable}
 

@@ -20,7 +20,7 @@ use Rattle.flow.specs.Loop.{reachedPlaces, loopCheck}
 use Rattle.values.specs.Number.{numberCode}
 use Rattle.pc_map.specs.Relocate.{relocationCheck, retainFrom}
 use Rattle.answer.specs.Pass.{Outcome, unchanged, rewritten, checked, sameCode, allKept, keptPlaces, removal, afterLoops, afterBranches, afterOperands, optimized, isWorkedOn, pass}
-use Rattle.answer.specs.Clean.{cellOf}
+use Rattle.answer.specs.Clean.{retainedCell}
 use Rattle.run.specs.Machine.{SameRuns}
 use Rattle.run.specs.laws.Machine.{same-runs-trans}
 use Rattle.run.specs.Program.{Function, programOf}
@@ -78,7 +78,7 @@ module _ (F : Function) (w : Well F) (worked : isWorkedOn (length (F .cells)) �
         runs = same-runs-trans (numbering F (leaders cells) (numberable F w some-code few o b)) (kept-runs _ (leaders cells) (removing F w some-code few o b));
         well = record {
           locals = w .locals;
-          described = rw (length-map (retainFrom keep 0 code) cellOf) (omega arith);
+          described = rw (length-map (retainFrom keep 0 code) retainedCell) (omega arith);
           fields = retained-fields keep code 0 (numbered-fields F w some-code few o b);
           constants = w .constants;
         };

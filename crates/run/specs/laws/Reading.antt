@@ -14,9 +14,9 @@ use Rattle.words.specs.Lists.{tabulate}
 use Rattle.words.specs.laws.Lists.{length-tabulate, getD-tabulate}
 use Rattle.instruction.specs.Instruction.{instructionAt}
 use Rattle.instruction.specs.laws.Instruction.{Fields}
-use Rattle.instruction.specs.laws.Laws.{read-back}
+use Rattle.instruction.specs.laws.ReadBack.{read-back}
 use Rattle.unit.specs.Entry.{metadataAt, metadataBytes, goodMetadata}
-use Rattle.unit.specs.laws.Laws.{MetadataFields, metadata-read-back, code-bytes-long, metadata-bytes-all-long, place-bytes-long, result-header-long}
+use Rattle.unit.specs.laws.UnitLaws.{MetadataFields, metadata-read-back, code-bytes-long, metadata-bytes-all-long, place-bytes-long, result-header-long}
 use Rattle.unit.specs.Result.{Retained, retainedFrom, readResult, resultHeader, codeBytes, metadataBytesAll, placeBytes, resultBytes, resultMetadataAt, resultPlacesAt}
 use Rattle.unit.specs.Size.{resultHeaderSize, instructionSize, metadataSize, placeSize, maxInstructions}
 use Rattle.unit.specs.declared.Metadata.{Metadata}

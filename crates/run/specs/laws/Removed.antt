@@ -20,7 +20,7 @@ use Rattle.flow.specs.laws.Flags.{Flags}
 use Rattle.pc_map.specs.Boundary.{isKept, boundary}
 use Rattle.pc_map.specs.laws.Boundaries.{boundary-zero, boundary-kept, boundary-dropped}
 use Rattle.pc_map.specs.Relocate.{relocate, retainFrom}
-use Rattle.answer.specs.Clean.{cellOf, cellsAfter}
+use Rattle.answer.specs.Clean.{retainedCell, cellsAfter}
 use Rattle.run.specs.Machine.{Words, World, silent, goto, SameRuns}
 use Rattle.run.specs.laws.Removal.{Kept, Gone, Removal, removal}
 use Rattle.run.specs.Program.{Function, hasMeaning, classIn, nodeBy, actBy, givenRanges, slotsOf, programOf}
@@ -28,8 +28,8 @@ use Rattle.run.specs.Returned.{resultFunction}
 use Rattle.run.specs.laws.Gives.{jump-gives}
 use Rattle.run.specs.laws.Step.{Succ, next, branch, goes-succ}
 use Rattle.run.specs.laws.Frame.{In, frame}
-use Rattle.run.specs.laws.Retained.{kept-at, kept-long, kept-inside}
-use Rattle.run.specs.laws.Relocated.{relocated-op, relocated-refusal, relocated-writes, relocated-act}
+use Rattle.run.specs.laws.RetainedCells.{kept-at, kept-long, kept-inside}
+use Rattle.run.specs.laws.RelocatedRun.{relocated-op, relocated-refusal, relocated-writes, relocated-act}
 
 -- a silent class that does not branch
 unfoldable pub passes : Class → Bool
@@ -130,7 +130,7 @@ module _ (F : Function) (keep : List ℕ) (reach : ℕ → Type 0) (live : ℕ �
         rw (lt-ltb (boundary keep p) (length (retainFrom keep 0 (F .cells))) l, eq-eqb (operandRefusal (F .sections .locals) T (relocate keep p (cell p))) 0 z, relocated-op keep p (cell p) (classAt p))
       where
         kept-count : length (cellsAfter (retainFrom keep 0 (F .cells))) ≡ length (retainFrom keep 0 (F .cells))
-        kept-count = length-map (retainFrom keep 0 (F .cells)) cellOf
+        kept-count = length-map (retainFrom keep 0 (F .cells)) retainedCell
 
     module _ (W : World) where
       goto-moved : (p : ℕ) → p < length (F .cells) → isKept keep p ≡ true → (j : Bool)

@@ -14,7 +14,7 @@ use Rattle.instruction.specs.declared.Class.the-variants.{Hint, LoadInt, LoadCo
 use Rattle.instruction.specs.Class.{classOf}
 use Rattle.values.specs.declared.Atom.{Atom}
 use Rattle.values.specs.declared.Atom.the-variants.{Integer, Float, Definition}
-use Rattle.values.specs.Table.{sameAtom, Expression, sameExpression, Values, empty, atStart, valueIn, slotIn, expressionIn, valueOf, learn}
+use Rattle.values.specs.Values.{sameAtom, Expression, sameExpression, Values, empty, atStart, valueIn, slotIn, expressionIn, valueOf, learn}
 use Rattle.run.specs.Machine.{Words, World, put}
 use Rattle.run.specs.Program.{unaryWord, binaryWord}
 use Rattle.words.specs.laws.Truth.{left-true, right-true}

@@ -8,7 +8,7 @@ use lib.Dec.{ltb, leb}
 use Rattle.words.specs.Lists.{isIn, every}
 use Rattle.words.specs.laws.Lists.{every-at}
 use Rattle.values.specs.Fold.{foldingBinary}
-use Rattle.values.specs.Table.{Expression}
+use Rattle.values.specs.Values.{Expression}
 use Rattle.values.specs.declared.Atom.{Atom}
 use Rattle.values.specs.declared.Atom.the-variants.{Integer, Float, Definition}
 use Rattle.values.specs.declared.Folded.{Folded}
@@ -20,9 +20,9 @@ integerOf (Integer x) = some x
 integerOf (Float x) = none
 integerOf (Definition p s) = none
 
-unfoldable pub answered : Option ℕ → Folded
-answered (some v) = Word v
-answered none = Not
+unfoldable pub foldedAs : Option ℕ → Folded
+foldedAs (some v) = Word v
+foldedAs none = Not
 
 abbrev pub expressionOf : ℕ → ℕ → Atom → Atom → Expression
 expressionOf o flags left right = record { opcode = o; flags = flags; left = left; right = right }

@@ -9,7 +9,7 @@ use Prim.Native.Nat.{ℕ, zero, suc, _+_, _*_, _-_, _/_, _%_, _≤_, _<_}
 use lib.Dec.{eqb, ltb}
 use lib.ListN.{length, getD}
 use borrow.Rule.Slice.PartMut.{midOf}
-use Rattle.values.specs.Table.{Values, Expression, atStart, valueIn, slotIn, expressionIn}
+use Rattle.values.specs.Values.{Values, Expression, atStart, valueIn, slotIn, expressionIn}
 use Rattle.values.specs.laws.Entries.{Key, key, keyAt, value, newest, Linked}
 use Rattle.values.specs.declared.Atom.{Atom}
 use Rattle.values.specs.declared.Atom.the-variants.{Integer, Float, Definition}
@@ -71,8 +71,8 @@ unfoldable pub markedAt : Memory → ℕ → Found
 markedAt m d = cond (eqb (m .mark d / 65536) (m .epoch)) (At (m .mark d % 65536)) Nothing
 
 -- a constant by its kind and its bits
-unfoldable pub constantOf : Key → Atom
-constantOf k = cond (eqb (k .right) 0) (Integer (k .left)) (Float (k .left))
+unfoldable pub keyAtom : Key → Atom
+keyAtom k = cond (eqb (k .right) 0) (Integer (k .left)) (Float (k .left))
 
 abbrev pub constantKey : ℕ → ℕ → Key
 constantKey kind bits = key bits kind
@@ -112,7 +112,7 @@ module _ (n S : ℕ) where
   atomAt dest c d =
       cond (ltb d S) (Definition atStart d)
       (cond (ltb d (S + n)) (Definition (d - S) (dest (d - S)))
-      (cond (eqb d (S + n)) (Integer 0) (constantOf (keyAt c n (d - (S + n + 1))))))
+      (cond (eqb d (S + n)) (Integer 0) (keyAtom (keyAt c n (d - (S + n + 1))))))
 
   -- the known integer with a number
   unfoldable pub integerAt : List ℕ → ℕ → Option ℕ

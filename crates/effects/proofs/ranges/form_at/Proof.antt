@@ -1,4 +1,4 @@
-use Rattle.effects.specs.laws.Rows.{pow-bytes}
+use Rattle.effects.specs.laws.TableRows.{pow-bytes}
 use borrow.Author.Needs.{needs}
 use Rattle.effects.proofs.ranges.form_at.Statement.{statement}
 use Rattle.effects.proofs.ranges.form_at.Tie as tie

@@ -4,7 +4,7 @@ use native.Mathlib.Omega.{arith}
 use lib.ListN.{length}
 use Rattle.effects.specs.Shape.{Cell, Tables, tablesOf}
 use Rattle.effects.specs.Effects.{allReads}
-use Rattle.effects.specs.laws.Rows.{reads-few}
+use Rattle.effects.specs.laws.TableRows.{reads-few}
 use Rattle.effects.specs.laws.Ranges.{reads-select, case-reads-long, read-count-row, read-at-row}
 use borrow.Author.Needs.{needs}
 use Rattle.effects.proofs.ranges.read_range.Statement.{statement}

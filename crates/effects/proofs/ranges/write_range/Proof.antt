@@ -5,7 +5,7 @@ use lib.ListN.{length}
 use Rattle.effects.specs.Shape.{Cell, Tables, tablesOf}
 use Rattle.effects.specs.Effects.{writes, caseWrites}
 use Rattle.effects.specs.laws.Form.{emptyRange}
-use Rattle.effects.specs.laws.Rows.{writes-few}
+use Rattle.effects.specs.laws.TableRows.{writes-few}
 use Rattle.effects.specs.laws.Ranges.{writes-select, case-writes-long, write-count-row, write-at-row, after-first}
 use borrow.Author.Needs.{needs}
 use Rattle.effects.proofs.ranges.write_range.Statement.{statement}

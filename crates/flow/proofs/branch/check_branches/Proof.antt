@@ -12,7 +12,7 @@ use Rattle.flow.specs.laws.Block.{no-branch}
 use Rattle.flow.specs.Branch.{branchInside, branchCheck}
 use Rattle.flow.specs.laws.BranchLaws.{inside-none}
 use Rattle.flow.specs.laws.Control.{isControl, ends-none, control-inside}
-use Rattle.flow.specs.laws.Sweep.{Swept, swept-first, swept-none, swept-later, swept-here}
+use Rattle.flow.specs.laws.ControlSweep.{Swept, swept-first, swept-none, swept-later, swept-here}
 use borrow.Author.Needs.{needs}
 use Rattle.flow.proofs.branch.check_branches.Statement.{statement}
 use Rattle.flow.proofs.branch.check_branches.Tie as tie

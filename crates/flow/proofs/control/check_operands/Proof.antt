@@ -8,7 +8,7 @@ use Rattle.instruction.specs.Instruction.{class, ofWord}
 use Rattle.effects.specs.Shape.{tablesOf}
 use Rattle.effects.specs.Check.{operandRefusal, operandCheck}
 use Rattle.effects.specs.laws.Cells.{cellOf}
-use Rattle.effects.specs.laws.Laws.{Unrefused, refused-first, refused-none, refused-later, refused-here}
+use Rattle.effects.specs.laws.Unrefused.{Unrefused, refused-first, refused-none, refused-later, refused-here}
 use Rattle.flow.specs.laws.Control.{isControl}
 use Rattle.flow.specs.laws.Listing.{checkOf, ListedBy}
 use Rattle.flow.specs.laws.BranchLaws.{byte-below}

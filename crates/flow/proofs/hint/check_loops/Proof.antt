@@ -9,7 +9,7 @@ use Rattle.effects.specs.laws.Cells.{cellOf, cellsBy, cells-long}
 use Rattle.flow.specs.laws.Control.{isControl, control-inside, no-loop-hint}
 use Rattle.flow.specs.laws.Hints.{loopTest}
 use Rattle.flow.specs.Loop.{loopCheck}
-use Rattle.flow.specs.laws.Sweep.{Swept, swept-first, swept-none, swept-later, swept-here}
+use Rattle.flow.specs.laws.ControlSweep.{Swept, swept-first, swept-none, swept-later, swept-here}
 use borrow.Author.Needs.{needs}
 use Rattle.flow.proofs.hint.check_loops.Statement.{statement}
 use Rattle.flow.proofs.hint.check_loops.Tie as tie

@@ -5,7 +5,7 @@ use native.Mathlib.Omega.{arith}
 use lib.ListN.{length}
 use Rattle.effects.specs.Shape.{Tables, tablesOf}
 use Rattle.effects.specs.laws.Cells.{cellsBy}
-use Rattle.liveness.specs.laws.Memory.{codeOf, usesOf, preservedOf, InSums, past-sums, in-sums, sums-turn, same-word, same-code}
+use Rattle.liveness.specs.laws.SetMemory.{codeWords, usesOf, preservedOf, InSums, past-sums, in-sums, sums-turn, same-word, same-code}
 use Rattle.words.specs.laws.Only.{Only, only-none, only-both, same-mid}
 use Rattle.liveness.specs.laws.Shown.{row-before}
 use Rattle.liveness.specs.laws.Visit.{Summed, summed-begin}
@@ -16,7 +16,7 @@ use Rattle.liveness.proofs.block.summarize.Tie as tie
 abbrev Inv-loop : tie.InvT-loop
 Inv-loop memory₀ sets metadata keep functions externs cases starts b₀ memory b =
     (b ≤ sets .count) × (length memory ≡ length memory₀) × Only (InSums sets) memory₀ memory
-    × Summed (tablesOf functions externs cases) keep (cellsBy (codeOf sets memory₀) metadata) (sets .width) starts (usesOf sets memory) (preservedOf sets memory) b
+    × Summed (tablesOf functions externs cases) keep (cellsBy (codeWords sets memory₀) metadata) (sets .width) starts (usesOf sets memory) (preservedOf sets memory) b
 
 abbrev μ-loop : tie.MeasureT-loop
 μ-loop memory₀ sets metadata keep functions externs cases starts b₀ memory b = sets .count - b

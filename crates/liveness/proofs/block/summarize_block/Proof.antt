@@ -7,7 +7,7 @@ use borrow.Rule.Slice.PartMut.{midOf, putMid}
 use Rattle.words.specs.laws.Regions.{mid-long}
 use Rattle.effects.specs.Shape.{Tables, tablesOf}
 use Rattle.effects.specs.laws.Cells.{cellOf, cellsBy}
-use Rattle.liveness.specs.laws.Memory.{cell-in}
+use Rattle.liveness.specs.laws.SetMemory.{cell-in}
 use Rattle.words.specs.laws.Only.{At, Either, Only, only-none, only-both, lent-long, both-lent, same-mid}
 use Rattle.liveness.specs.laws.Through.{Summary, summary-begin, summary-turn}
 use borrow.Author.Needs.{needs}

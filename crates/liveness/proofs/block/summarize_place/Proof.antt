@@ -7,8 +7,8 @@ use Rattle.instruction.specs.Instruction.{ofWord}
 use Rattle.effects.specs.Shape.{Tables, Cell, tablesOf}
 use Rattle.effects.specs.laws.Cells.{cellOf}
 use Rattle.words.specs.laws.Only.{only-none, lent-long, second-long}
-use Rattle.use_def.specs.laws.Single.{SingleFits, single-fits}
-use Rattle.use_def.specs.laws.Branching.{BranchFits, branch-fits}
+use Rattle.use_def.specs.laws.SingleSets.{SingleFits, single-fits}
+use Rattle.use_def.specs.laws.BranchSets.{BranchFits, branch-fits}
 use Rattle.liveness.specs.laws.Through.{not-placed, lent-placed}
 use borrow.Author.Needs.{needs}
 use Rattle.liveness.proofs.block.summarize_place.Statement.{statement}

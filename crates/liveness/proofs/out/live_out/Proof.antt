@@ -9,7 +9,7 @@ use Rattle.instruction.specs.laws.Class.{number-below}
 use Rattle.instruction.specs.Instruction.{class}
 use Rattle.flow.specs.Branch.{falls, branches}
 use Rattle.use_def.specs.laws.Wordwise.{allBits}
-use Rattle.liveness.specs.laws.Memory.{liveOf, start-inside, start-row}
+use Rattle.liveness.specs.laws.SetMemory.{liveOf, start-inside, start-row}
 use Rattle.flow.specs.laws.BranchLaws.{byte-below}
 use Rattle.liveness.specs.laws.Out.{both-bits, place-if, next-place, target-place, target-inside, out-joined}
 use borrow.Author.Needs.{needs}

@@ -6,7 +6,7 @@ use lib.ListN.{length, getD}
 use Rattle.effects.specs.Shape.{Sections}
 use Rattle.effects.specs.laws.Cells.{cellsBy}
 use Rattle.liveness.specs.Live.{Row}
-use Rattle.liveness.specs.laws.Memory.{codeOf, usesOf, preservedOf, liveOf, InRows, still-ready, visited-then}
+use Rattle.liveness.specs.laws.SetMemory.{codeWords, usesOf, preservedOf, liveOf, InRows, still-ready, visited-then}
 use Rattle.words.specs.laws.Only.{Only, only-none, only-both}
 use Rattle.liveness.specs.laws.Rounding.{Around, Rounding, rounding-begin, rounding-turn, rounding-end}
 use borrow.Author.Needs.{needs}
@@ -16,8 +16,8 @@ use Rattle.liveness.proofs.round.round.Tie as tie
 abbrev Inv-loop : tie.InvT-loop
 Inv-loop memory₀ sets blocks starts changed₀ b₀ memory changed b =
     (b ≤ sets .count) × (length memory ≡ length memory₀) × Only (InRows sets) memory₀ memory
-    × ((S : Sections) (leaders keep metadata : List ℕ) (rows : List Row) → Around S leaders keep (cellsBy (codeOf sets memory₀) metadata) (sets .width) (sets .count) rows blocks starts (usesOf sets memory₀) (preservedOf sets memory₀) (liveOf sets memory₀)
-    → Rounding S leaders keep (cellsBy (codeOf sets memory₀) metadata) (sets .width) (sets .count) rows (liveOf sets memory₀) (liveOf sets memory) b changed)
+    × ((S : Sections) (leaders keep metadata : List ℕ) (rows : List Row) → Around S leaders keep (cellsBy (codeWords sets memory₀) metadata) (sets .width) (sets .count) rows blocks starts (usesOf sets memory₀) (preservedOf sets memory₀) (liveOf sets memory₀)
+    → Rounding S leaders keep (cellsBy (codeWords sets memory₀) metadata) (sets .width) (sets .count) rows (liveOf sets memory₀) (liveOf sets memory) b changed)
 
 abbrev μ-loop : tie.MeasureT-loop
 μ-loop memory₀ sets blocks starts changed₀ b₀ memory changed b = b
@@ -48,7 +48,7 @@ loop-again c =
       x .kept .0 ∙ l .inv .1,
       only-both _ _ _ _ (l .inv .2) (x .ensures .1),
       λ S leaders keep metadata rows a.
-          rounding-turn S leaders keep (cellsBy (codeOf t m) metadata) (t .width) (t .count) rows (s .args .blocks .now) (s .args .starts .now) (usesOf t m) (preservedOf t m) (liveOf t m) a
+          rounding-turn S leaders keep (cellsBy (codeWords t m) metadata) (t .width) (t .count) rows (s .args .blocks .now) (s .args .starts .now) (usesOf t m) (preservedOf t m) (liveOf t m) a
           (liveOf t (l .memory)) (liveOf t (x .last .0)) (l .b) (l .b - 1) last (l .changed) (x .result) one below refl (l .inv .3 S leaders keep metadata rows a)
           (visited-then t m (l .memory) (s .pre .coded .laid) (l .inv .2) metadata (l .b - 1) last (s .args .blocks .now) (liveOf t (l .memory)) (liveOf t (x .last .0)) (x .result) inner (x .ensures .0)),
     )

@@ -7,7 +7,7 @@ use borrow.Author.Tests.{not-true, not-false}
 use Rattle.effects.specs.Shape.{Sections}
 use Rattle.effects.specs.laws.Cells.{cellsBy}
 use Rattle.liveness.specs.Live.{Row}
-use Rattle.liveness.specs.laws.Memory.{codeOf, usesOf, preservedOf, liveOf, InRows, still-ready, rows-code, rows-uses, rows-preserved}
+use Rattle.liveness.specs.laws.SetMemory.{codeWords, usesOf, preservedOf, liveOf, InRows, still-ready, rows-code, rows-uses, rows-preserved}
 use Rattle.words.specs.laws.Only.{Only, only-none, only-both}
 use Rattle.liveness.specs.laws.Rounding.{Around}
 use Rattle.liveness.specs.laws.Solving.{Solving, solving-begin, solving-turn, solving-found, solving-none}
@@ -18,8 +18,8 @@ use Rattle.liveness.proofs.round.solve.Tie as tie
 abbrev Inv-loop : tie.InvT-loop
 Inv-loop memory₀ sets blocks starts limit k₀ memory k =
     (length memory ≡ length memory₀) × Only (InRows sets) memory₀ memory
-    × ((S : Sections) (leaders keep metadata : List ℕ) (rows : List Row) → Around S leaders keep (cellsBy (codeOf sets memory₀) metadata) (sets .width) (sets .count) rows blocks starts (usesOf sets memory₀) (preservedOf sets memory₀) (liveOf sets memory₀)
-    → Solving S leaders keep (cellsBy (codeOf sets memory₀) metadata) (sets .width) (sets .count) limit rows blocks starts (usesOf sets memory₀) (preservedOf sets memory₀) (liveOf sets memory) k)
+    × ((S : Sections) (leaders keep metadata : List ℕ) (rows : List Row) → Around S leaders keep (cellsBy (codeWords sets memory₀) metadata) (sets .width) (sets .count) rows blocks starts (usesOf sets memory₀) (preservedOf sets memory₀) (liveOf sets memory₀)
+    → Solving S leaders keep (cellsBy (codeWords sets memory₀) metadata) (sets .width) (sets .count) limit rows blocks starts (usesOf sets memory₀) (preservedOf sets memory₀) (liveOf sets memory) k)
 
 abbrev μ-loop : tie.MeasureT-loop
 μ-loop memory₀ sets blocks starts limit k₀ memory k = k
@@ -50,7 +50,7 @@ returns c =
     let all = only-both _ _ _ _ o (x .ensures .1) in (
       λ S leaders keep metadata rows a.
           let v = l .inv .2 S leaders keep metadata rows a in
-          solving-found S leaders keep (cellsBy (codeOf t m) metadata) (t .width) (t .count) (s .args .limit) rows (s .args .blocks .now) (s .args .starts .now) (usesOf t m) (preservedOf t m) (liveOf t (l .memory)) _ (l .k) (omega arith) v _ (done S leaders keep metadata (v .current) (v .around)) (not-true _ (c .if1 .taken)),
+          solving-found S leaders keep (cellsBy (codeWords t m) metadata) (t .width) (t .count) (s .args .limit) rows (s .args .blocks .now) (s .args .starts .now) (usesOf t m) (preservedOf t m) (liveOf t (l .memory)) _ (l .k) (omega arith) v _ (done S leaders keep metadata (v .current) (v .around)) (not-true _ (c .if1 .taken)),
       rows-code t m (x .last .0) d all,
       rows-uses t m (x .last .0) d all,
       rows-preserved t m (x .last .0) d all,
@@ -70,7 +70,7 @@ loop-again c =
       only-both _ _ _ _ o (x .ensures .1),
       λ S leaders keep metadata rows a.
           let v = l .inv .2 S leaders keep metadata rows a in
-          solving-turn S leaders keep (cellsBy (codeOf t m) metadata) (t .width) (t .count) (s .args .limit) rows (s .args .blocks .now) (s .args .starts .now) (usesOf t m) (preservedOf t m) (liveOf t (l .memory)) _ (l .k) (omega arith) v _ (done S leaders keep metadata (v .current) (v .around)) (not-false _ (c .if1 .left)),
+          solving-turn S leaders keep (cellsBy (codeWords t m) metadata) (t .width) (t .count) (s .args .limit) rows (s .args .blocks .now) (s .args .starts .now) (usesOf t m) (preservedOf t m) (liveOf t (l .memory)) _ (l .k) (omega arith) v _ (done S leaders keep metadata (v .current) (v .around)) (not-false _ (c .if1 .left)),
     )
 
 same-length-2 : tie.Need-same-length-2 Inv-loop μ-loop
@@ -84,7 +84,7 @@ returns-2 c =
     let m = s .args .memory .now in
     let d = s .pre .coded .laid in
     let end : l .k ≡ 0 = omega arith in (
-      λ S leaders keep metadata rows a. solving-none S leaders keep (cellsBy (codeOf t m) metadata) (t .width) (t .count) (s .args .limit) rows (s .args .blocks .now) (s .args .starts .now) (usesOf t m) (preservedOf t m) _ _ end (l .inv .2 S leaders keep metadata rows a),
+      λ S leaders keep metadata rows a. solving-none S leaders keep (cellsBy (codeWords t m) metadata) (t .width) (t .count) (s .args .limit) rows (s .args .blocks .now) (s .args .starts .now) (usesOf t m) (preservedOf t m) _ _ end (l .inv .2 S leaders keep metadata rows a),
       rows-code t m (l .memory) d (l .inv .1),
       rows-uses t m (l .memory) d (l .inv .1),
       rows-preserved t m (l .memory) d (l .inv .1),

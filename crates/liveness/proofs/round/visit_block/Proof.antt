@@ -1,6 +1,6 @@
 use Prim.Native.Nat.{_+_}
 use native.Mathlib.Omega.{arith}
-use Rattle.liveness.specs.laws.Memory.{in-rows, visited}
+use Rattle.liveness.specs.laws.SetMemory.{in-rows, visited}
 use Rattle.liveness.specs.laws.Shown.{row-before}
 use borrow.Author.Needs.{needs}
 use Rattle.liveness.proofs.round.visit_block.Statement.{statement}

@@ -1,7 +1,7 @@
 use mathlib.Core.Path.{sym, _∙_}
 use lib.ListN.{getD}
 use Rattle.instruction.specs.Instruction.{ofWord}
-use Rattle.liveness.specs.laws.Memory.{liveOf}
+use Rattle.liveness.specs.laws.SetMemory.{liveOf}
 use Rattle.words.specs.laws.Only.{only-none}
 use Rattle.liveness.specs.laws.Sweeping.{entered, not-entered}
 use borrow.Author.Needs.{needs}

@@ -7,7 +7,7 @@ use Rattle.words.specs.laws.Regions.{mid-long}
 use Rattle.effects.specs.Shape.{tablesOf}
 use Rattle.effects.specs.laws.Cells.{cellsBy, cells-long}
 use Rattle.liveness.specs.Live.{Row}
-use Rattle.liveness.specs.laws.Memory.{codeOf, rowOf, liveOf, leadersOf, blocksOf, flagsAt, flagsOf, row-inside, code-word, same-word, same-code, same-live, same-leaders, same-blocks, still-coded}
+use Rattle.liveness.specs.laws.SetMemory.{codeWords, rowOf, liveOf, leadersOf, blocksOf, flagsAt, flagsOf, row-inside, code-word, same-word, same-code, same-live, same-leaders, same-blocks, still-coded}
 use Rattle.words.specs.laws.Only.{At, Only, only-none, only-both, lent, lent-long, put-only}
 use Rattle.liveness.specs.laws.Sweep.{Grounds, SweepFrom, sections, sweep-begin, sweep-end, code-turn}
 use borrow.Author.Needs.{needs}
@@ -18,8 +18,8 @@ abbrev Inv-loop : tie.InvT-loop
 Inv-loop memory₀ table₀ sets metadata types functions externs cases n flags p₀ memory table p =
     (p ≤ sets .code) × (length memory ≡ length memory₀) × (length table ≡ length table₀) × Only (At (sets .row) (sets .width)) memory₀ memory × Only (At (flagsAt (sets .code)) (sets .code)) table₀ table
     × ((locals : ℕ) (constants : List ℕ) (rows : List Row)
-    → Grounds (sections locals types constants (tablesOf functions externs cases)) (leadersOf (sets .code) table₀) (flagsOf (sets .code) table₀) (cellsBy (codeOf sets memory₀) metadata) rows (sets .width) (blocksOf (sets .code) table₀) (liveOf sets memory₀)
-    → SweepFrom (sections locals types constants (tablesOf functions externs cases)) (leadersOf (sets .code) table₀) (flagsOf (sets .code) table₀) (cellsBy (codeOf sets memory₀) metadata) rows (flagsOf (sets .code) table) (rowOf sets memory) p)
+    → Grounds (sections locals types constants (tablesOf functions externs cases)) (leadersOf (sets .code) table₀) (flagsOf (sets .code) table₀) (cellsBy (codeWords sets memory₀) metadata) rows (sets .width) (blocksOf (sets .code) table₀) (liveOf sets memory₀)
+    → SweepFrom (sections locals types constants (tablesOf functions externs cases)) (leadersOf (sets .code) table₀) (flagsOf (sets .code) table₀) (cellsBy (codeWords sets memory₀) metadata) rows (flagsOf (sets .code) table) (rowOf sets memory) p)
 
 abbrev μ-loop : tie.MeasureT-loop
 μ-loop memory₀ table₀ sets metadata types functions externs cases n flags p₀ memory table p = p
@@ -29,8 +29,8 @@ loop-holds c =
     let s = c .before .before .before .before .before .before .before in
     let m = s .args .memory .now in
     let l = s .pre .0 .coded .laid in
-    let long : length (codeOf (s .args .sets) m) ≡ s .args .sets .code = mid-long m 0 (s .args .sets .code) (omega (arith, l .row, row-inside _ _ l)) in
-    (omega arith, refl, refl, only-none _ _, only-none _ _, λ locals constants rows g. sweep-begin _ _ _ _ rows _ _ _ g _ _ (sym (cells-long (codeOf (s .args .sets) m) (s .args .metadata .now) ∙ long)))
+    let long : length (codeWords (s .args .sets) m) ≡ s .args .sets .code = mid-long m 0 (s .args .sets .code) (omega (arith, l .row, row-inside _ _ l)) in
+    (omega arith, refl, refl, only-none _ _, only-none _ _, λ locals constants rows g. sweep-begin _ _ _ _ rows _ _ _ g _ _ (sym (cells-long (codeWords (s .args .sets) m) (s .args .metadata .now) ∙ long)))
 
 enter-place-requires : tie.Need-enter-place-requires Inv-loop μ-loop
 enter-place-requires c κs =
@@ -76,8 +76,8 @@ loop-again c =
     let whole : n - 0 ≡ n = omega arith in
     let flags : flagsAt n + n - flagsAt n ≡ n = omega arith in
     let z = lent (l .table) (flagsAt n) n (y .last .1 .0) (rw (l .inv .2) (r .long-table)) (y .kept .1 .0) in
-    let long : length (codeOf t m) ≡ n = mid-long m 0 n (omega (arith, d .row, row-inside _ _ d)) in
-    let word : getD (codeOf t m) (l .p - 1) 0 ≡ getD (l .memory) (l .p - 1) 0 = code-word m n (l .p - 1) h ∙ sym (same-word t _ _ _ (l .inv .3) (λ j i. omega (arith, i .0, d .row)) (l .p - 1) h) in
+    let long : length (codeWords t m) ≡ n = mid-long m 0 n (omega (arith, d .row, row-inside _ _ d)) in
+    let word : getD (codeWords t m) (l .p - 1) 0 ≡ getD (l .memory) (l .p - 1) 0 = code-word m n (l .p - 1) h ∙ sym (same-word t _ _ _ (l .inv .3) (λ j i. omega (arith, i .0, d .row)) (l .p - 1) h) in
     let same = same-word t _ _ _ (x .ensures .1) (λ j i. omega (arith, i .0, d .row)) (l .p - 1) h in
     let enter = rw (whole, part, same-leaders n _ _ (r .long-table) (l .inv .4), same-blocks n _ _ (r .long-table) (l .inv .4), same-live t m (l .memory) d (l .inv .3)) at (x .ensures .0) in
     let swept = rw (flags, same) at (y .ensures .0) in (
@@ -88,7 +88,7 @@ loop-again c =
       only-both _ _ _ _ (l .inv .4) (z .0),
       λ locals constants rows g.
           rw (z .1)
-          (code-turn _ (leadersOf n (s .args .table .now)) _ (codeOf t m) (s .args .metadata .now) rows (t .width) (blocksOf n (s .args .table .now)) (liveOf t m) g (flagsOf n (l .table)) (rowOf t (l .memory)) (rowOf t (x .last .0)) _ _ n (l .p) (l .p - 1) _ long word e h
+          (code-turn _ (leadersOf n (s .args .table .now)) _ (codeWords t m) (s .args .metadata .now) rows (t .width) (blocksOf n (s .args .table .now)) (liveOf t m) g (flagsOf n (l .table)) (rowOf t (l .memory)) (rowOf t (x .last .0)) _ _ n (l .p) (l .p - 1) _ long word e h
           (l .inv .5 locals constants rows g) enter swept),
     )
 

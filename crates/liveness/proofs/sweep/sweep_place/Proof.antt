@@ -12,10 +12,10 @@ use Rattle.effects.specs.Shape.{Tables, Cell, tablesOf}
 use Rattle.effects.specs.laws.Cells.{cellOf}
 use Rattle.effects.specs.laws.Single.{isSingle}
 use Rattle.effects.specs.laws.Branching.{isBranching}
-use Rattle.use_def.specs.laws.Single.{single-fits, single-absent}
-use Rattle.use_def.specs.laws.Branching.{branch-fits, branch-not-dead}
+use Rattle.use_def.specs.laws.SingleSets.{single-fits, single-absent}
+use Rattle.use_def.specs.laws.BranchSets.{branch-fits, branch-not-dead}
 use Rattle.use_def.specs.laws.Free.{deadBy}
-use Rattle.liveness.specs.laws.Memory.{rowOf, row-inside}
+use Rattle.liveness.specs.laws.SetMemory.{rowOf, row-inside}
 use Rattle.words.specs.laws.Only.{only-none, lent-long}
 use Rattle.liveness.specs.laws.Sweeping.{swept-off, lent-gone, lent-on, lent-either}
 use borrow.Author.Needs.{needs}

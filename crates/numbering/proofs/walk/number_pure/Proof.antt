@@ -2,7 +2,7 @@ use Rattle.numbering.proofs.Classes.{pure-none, operator-named, operato
 use Rattle.numbering.proofs.Walking.{as-becomes, pure-by, forget-becomes}
 use native.Mathlib.Omega.{arith}
 use mathlib.Core.Path.{refl, sym, _∙_}
-use Rattle.values.specs.laws.Memory.{constantOf}
+use Rattle.values.specs.laws.Memory.{keyAtom}
 use Rattle.numbering.specs.laws.Walk.{pureBy}
 use Rattle.values.specs.laws.Named.{Named}
 use borrow.Author.Needs.{needs}
@@ -37,7 +37,7 @@ unfolding Named
 number-copy-requires c κs = let a = c .before .before .before .before .before .before .before .before in let h = rw (c .before .enum-told3 .given .1) at (a .pre .1) in (a .pre .0, h .0, h .1)
 
 returns-2 : tie.Need-returns-2
-unfolding pureBy constantOf
+unfolding pureBy keyAtom
 returns-2 c =
     let a = c .before .before .before .before .before .before .before .before .before .before .before .before in
     pure-by (a .args .i) (a .args .p) _ (c .before .before .before .before .before .enum-told .given .1) (λ dest d l T v y. (tt, rw (c .before .before .before .imm32 .ensures))) (omega arith) (omega arith) (omega arith) (c .before .before .store-constant .ensures)

@@ -5,7 +5,7 @@ use lib.ListN.{length}
 use borrow.Rule.Slice.PartMut.{midOf}
 use Rattle.words.specs.laws.Regions.{mid-long}
 use Rattle.answer.specs.Pass.{refused}
-use Rattle.removal.specs.laws.Kept.{sectionsIn}
+use Rattle.removal.specs.laws.KeptWork.{sectionsIn}
 use Rattle.optimize.specs.laws.Parts.{answers-refused, answers-same, branches-loops}
 use Rattle.optimize.specs.laws.Chain.{checked-refused, checked-passed, same-room, reached-marks, reached-answer}
 use Rattle.optimize.specs.laws.Steps.{list-lent}

@@ -4,11 +4,11 @@ use Prim.Native.Nat.{ℕ, _≤_}
 use native.Mathlib.Omega.{arith}
 use lib.ListN.{length}
 use Rattle.unit.specs.Size.{work32Room}
-use Rattle.removal.specs.laws.Kept.{sectionsIn}
+use Rattle.removal.specs.laws.KeptWork.{sectionsIn}
 use Rattle.optimize.specs.laws.Parts.{answers-same}
 use Rattle.optimize.specs.laws.Chain.{marks-retainable, kept-finished, kept-answer}
 use Rattle.optimize.specs.laws.Steps.{list-still}
-use Rattle.optimize.specs.laws.Listing.{list-asks, list-retains}
+use Rattle.optimize.specs.laws.KeptListing.{list-asks, list-retains}
 use borrow.Author.Needs.{needs}
 use Rattle.optimize.proofs.parts.after_loops.Statement.{statement}
 use Rattle.optimize.proofs.parts.after_loops.Tie as tie

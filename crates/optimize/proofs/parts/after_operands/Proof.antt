@@ -6,7 +6,7 @@ use borrow.Rule.Slice.PartMut.{midOf}
 use Rattle.words.specs.laws.Regions.{mid-long}
 use Rattle.effects.specs.Shape.{tablesOf}
 use Rattle.answer.specs.Pass.{refused}
-use Rattle.removal.specs.laws.Kept.{sectionsIn}
+use Rattle.removal.specs.laws.KeptWork.{sectionsIn}
 use Rattle.optimize.specs.laws.Parts.{cellsIn, Checked, answers-refused, answers-same, operands-branches}
 use Rattle.optimize.specs.laws.Chain.{checked-refused, checked-passed, same-room, loaded-numberable, loaded-branches, loaded-renumbered, numbered-listed}
 use Rattle.optimize.specs.laws.Steps.{list-lent}

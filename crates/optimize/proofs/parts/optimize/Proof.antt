@@ -6,7 +6,7 @@ use lib.ListN.{length}
 use borrow.Rule.Slice.PartMut.{midOf, postOf}
 use Rattle.flow.specs.laws.Listing.{checkOf, ListedBy}
 use Rattle.answer.specs.Pass.{refused}
-use Rattle.removal.specs.laws.Kept.{sectionsIn}
+use Rattle.removal.specs.laws.KeptWork.{sectionsIn}
 use Rattle.optimize.specs.laws.Parts.{wordsIn, answers-refused, answers-same, optimized-operands}
 use Rattle.optimize.specs.laws.Chain.{checked-refused, checked-passed, same-room, load-front, load-long, operands-asks, operands-answer}
 use Rattle.optimize.specs.laws.Steps.{list-made}

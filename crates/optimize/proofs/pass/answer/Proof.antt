@@ -1,6 +1,6 @@
 use mathlib.Core.Path.{refl, sym, ap, _∙_}
 use Rattle.unit.specs.declared.Header.{Header}
-use Rattle.unit.specs.laws.Laws.{layout-unit, layout-refused}
+use Rattle.unit.specs.laws.UnitLaws.{layout-unit, layout-refused}
 use lib.ListN.{length}
 use Rattle.answer.specs.Answer.{lentOf, passAnswer}
 use Rattle.answer.specs.Pass.{refused}

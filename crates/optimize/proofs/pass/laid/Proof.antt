@@ -3,7 +3,7 @@ use mathlib.Core.Path.{_≡_, sym, ap, _∙_}
 use mathlib.Core.Bool.{Bool}
 use Rattle.unit.specs.declared.Counts.{Counts}
 use Rattle.unit.specs.Layout.{headerOf}
-use Rattle.unit.specs.laws.Laws.{unit-laid}
+use Rattle.unit.specs.laws.UnitLaws.{unit-laid}
 use Rattle.answer.specs.Answer.{isSkipped}
 use Rattle.optimize.specs.laws.Parts.{answers-unchanged, answers-refused, answers-same}
 use Rattle.optimize.specs.laws.Whole.{worked-on, layout-skipped, layout-short, layout-worked}

@@ -1,6 +1,6 @@
 use mathlib.Core.Path.{_∙_}
 use native.Mathlib.Omega.{arith}
-use Rattle.run.specs.Given.{pass-alike}
+use Rattle.run.specs.Given.{pass-preserves}
 use borrow.Author.Needs.{needs}
 use Rattle.optimize.proofs.pass.pass.Statement.{statement}
 use Rattle.optimize.proofs.pass.pass.Tie as tie
@@ -33,7 +33,7 @@ returns c =
       output = r .answer .ensures .1;
       work32 = c .before .before .before .before .before .before .zero-u32 .ensures ∙ rw (r .answer .kept .1 .1 .0);
       work64 = c .before .before .zero-u64 .ensures ∙ rw (r .answer .kept .1 .1 .1 .0);
-      runs = rw (r .answer .ensures .1) (pass-alike (s .args .unit .now) _ (s .args .out .now) (λ i. omega (arith, bytes .given i)));
+      runs = rw (r .answer .ensures .1) (pass-preserves (s .args .unit .now) _ (s .args .out .now) (λ i. omega (arith, bytes .given i)));
     }
 
 pub pass-spec : {M : Type 1} → statement M

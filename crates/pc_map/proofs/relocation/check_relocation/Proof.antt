@@ -7,7 +7,7 @@ use lib.ListN.{length, getD}
 use Rattle.instruction.specs.Instruction.{class, ofWord}
 use Rattle.effects.specs.laws.Cells.{cellOf, cellsBy, cells-long}
 use Rattle.flow.specs.laws.Control.{isControl, control-inside, no-loop-hint}
-use Rattle.flow.specs.laws.Sweep.{Swept, swept-first, swept-none, swept-later, swept-here}
+use Rattle.flow.specs.laws.ControlSweep.{Swept, swept-first, swept-none, swept-later, swept-here}
 use Rattle.pc_map.specs.Relocate.{relocationCheck}
 use Rattle.pc_map.specs.laws.Relocated.{relocationTest}
 use borrow.Author.Needs.{needs}

@@ -6,7 +6,7 @@ use native.Mathlib.Omega.{arith}
 use lib.Dec.{eqb}
 use lib.ListN.{length, getD}
 use Rattle.removal.specs.laws.Next.{nextKept}
-use Rattle.removal.specs.laws.Rounding.{Walked, Takes, keepIn, walk-begin, walk-asks, walk-flags, walk-inside, walk-below, walk-on, walk-end, idle-dropped}
+use Rattle.removal.specs.laws.JumpRounds.{Walked, Takes, keepIn, walk-begin, walk-asks, walk-flags, walk-inside, walk-below, walk-on, walk-end, idle-dropped}
 use borrow.Author.Needs.{needs}
 use Rattle.removal.proofs.jump.drop_idle.Statement.{statement}
 use Rattle.removal.proofs.jump.drop_idle.Tie as tie

@@ -1,4 +1,4 @@
-use Rattle.removal.specs.laws.Rounding.{map-asks, map-made}
+use Rattle.removal.specs.laws.JumpRounds.{map-asks, map-made}
 use borrow.Author.Needs.{needs}
 use Rattle.removal.proofs.jump.drop_jumps.Statement.{statement}
 use Rattle.removal.proofs.jump.drop_jumps.Tie as tie

@@ -1,7 +1,7 @@
 use mathlib.Core.Path.{_∙_}
 use native.Mathlib.Omega.{arith}
 use borrow.Author.Tests.{not-true}
-use Rattle.removal.specs.laws.Rounding.{Rounding, rounding-begin, rounding-asks, rounding-turn, rounding-last, rounding-end}
+use Rattle.removal.specs.laws.JumpRounds.{Rounding, rounding-begin, rounding-asks, rounding-turn, rounding-last, rounding-end}
 use borrow.Author.Needs.{needs}
 use Rattle.removal.proofs.jump.drop_rounds.Statement.{statement}
 use Rattle.removal.proofs.jump.drop_rounds.Tie as tie

@@ -6,7 +6,7 @@ use lib.ListN.{length, getD}
 use Rattle.flow.specs.laws.Control.{control-inside, at-control, skip-first, skip-next, skip-last}
 use Rattle.flow.specs.Loop.{isPlainHint}
 use Rattle.removal.specs.laws.Cleared.{Cleared, step-on, step-off, cleared-none, cleared-up}
-use Rattle.removal.specs.laws.Plain.{hintAt, hints-idle, hints-dropped}
+use Rattle.removal.specs.laws.PlainHints.{hintAt, hints-idle, hints-dropped}
 use borrow.Author.Needs.{needs}
 use Rattle.removal.proofs.plain.drop_hints.Statement.{statement}
 use Rattle.removal.proofs.plain.drop_hints.Tie as tie

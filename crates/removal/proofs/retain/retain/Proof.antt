@@ -3,8 +3,8 @@ use Prim.Native.Nat.{_+_, _-_, _≤_}
 use native.Mathlib.Omega.{arith}
 use lib.ListN.{length}
 use Rattle.words.specs.laws.Regions.{mid-long, put-long}
-use Rattle.removal.specs.laws.Kept.{keepAt}
-use Rattle.removal.specs.laws.Retaining.{hints-asks, hints-retainable, stores-long, behind-same, jumps-asks, jumps-retained}
+use Rattle.removal.specs.laws.KeptWork.{keepAt}
+use Rattle.removal.specs.laws.RetainedWork.{hints-asks, hints-retainable, stores-long, behind-same, jumps-asks, jumps-retained}
 use borrow.Author.Needs.{needs}
 use Rattle.removal.proofs.retain.retain.Statement.{statement}
 use Rattle.removal.proofs.retain.retain.Tie as tie

@@ -1,5 +1,5 @@
 use mathlib.Core.Path.{_≡_, sym, _∙_, ap}
-use Rattle.replay.specs.Text.{byteAt, further}
+use Rattle.replay.specs.Recorded.{byteAt, further}
 use Rattle.replay.proofs.Reading.{kind-c, kind-f, kind-other}
 use borrow.Author.Needs.{needs}
 use Rattle.replay.proofs.text.kind.Statement.{statement}

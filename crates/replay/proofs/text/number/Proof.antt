@@ -1,6 +1,6 @@
 use mathlib.Core.Path.{_≡_, refl, _∙_, ap}
 use Prim.Native.Nat.{_-_, _≤_}
-use Rattle.replay.specs.Text.{byteAt, further, numberFrom, numberAt}
+use Rattle.replay.specs.Recorded.{byteAt, further, numberFrom, numberAt}
 use Rattle.replay.proofs.Reading.{number-ends, number-goes-on, number-full}
 use borrow.Author.Needs.{needs}
 use Rattle.replay.proofs.text.number.Statement.{statement}

@@ -1,7 +1,7 @@
 use mathlib.Core.Path.{_≡_, refl, _∙_}
 use Prim.Native.Nat.{_-_}
 use lib.ListN.{length}
-use Rattle.replay.specs.Text.{skipped}
+use Rattle.replay.specs.Recorded.{skipped}
 use Rattle.replay.proofs.Reading.{skip-none, skip-found, skip-next}
 use borrow.Author.Needs.{needs}
 use Rattle.replay.proofs.text.skip.Statement.{statement}

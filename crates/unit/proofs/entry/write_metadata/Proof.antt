@@ -1,6 +1,6 @@
 use native.Mathlib.Omega.{arith}
 use Rattle.unit.proofs.Writing.{four-words}
-use Rattle.unit.specs.laws.Laws.{metadata-words}
+use Rattle.unit.specs.laws.UnitLaws.{metadata-words}
 use borrow.Author.Needs.{needs}
 use Rattle.unit.proofs.entry.write_metadata.Statement.{statement}
 use Rattle.unit.proofs.entry.write_metadata.Tie as tie

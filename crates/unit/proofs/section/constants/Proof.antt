@@ -1,6 +1,6 @@
 use native.Mathlib.Omega.{arith}
 use Rattle.unit.specs.Layout.{headerOf}
-use Rattle.unit.specs.laws.Laws.{unit-laid}
+use Rattle.unit.specs.laws.UnitLaws.{unit-laid}
 use Rattle.unit.proofs.section.constants.Statement.{statement}
 use Rattle.unit.proofs.section.constants.Tie as tie
 

@@ -2,7 +2,7 @@ use mathlib.Core.Path.{_∙_}
 use native.Mathlib.Nat.{one-mul}
 use native.Mathlib.Omega.{arith}
 use Rattle.unit.specs.Layout.{headerOf}
-use Rattle.unit.specs.laws.Laws.{unit-laid}
+use Rattle.unit.specs.laws.UnitLaws.{unit-laid}
 use Rattle.unit.proofs.section.types.Statement.{statement}
 use Rattle.unit.proofs.section.types.Tie as tie
 

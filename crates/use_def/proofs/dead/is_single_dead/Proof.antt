@@ -1,6 +1,6 @@
 use mathlib.Core.Path.{sym, _∙_}
 use Rattle.instruction.specs.Instruction.{ofWord}
-use Rattle.use_def.specs.laws.Single.{single-dead, single-spans}
+use Rattle.use_def.specs.laws.SingleSets.{single-dead, single-spans}
 use borrow.Author.Needs.{needs}
 use Rattle.use_def.proofs.dead.is_single_dead.Statement.{statement}
 use Rattle.use_def.proofs.dead.is_single_dead.Tie as tie

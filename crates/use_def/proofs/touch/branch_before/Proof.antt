@@ -1,6 +1,6 @@
 use mathlib.Core.Path.{sym, _∙_}
 use Rattle.instruction.specs.laws.Class.{number-below}
-use Rattle.use_def.specs.laws.Branching.{put-branch-reads}
+use Rattle.use_def.specs.laws.BranchSets.{put-branch-reads}
 use borrow.Author.Needs.{needs}
 use Rattle.use_def.proofs.touch.branch_before.Statement.{statement}
 use Rattle.use_def.proofs.touch.branch_before.Tie as tie

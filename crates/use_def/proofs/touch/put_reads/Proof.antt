@@ -14,13 +14,13 @@ put-each-read-requires : tie.Need-put-each-read-requires
 put-each-read-requires c κs =
     let s = c .before .before .before .before .before .before .before .before .before .before in
     let f = s .pre .1 in
-    let d = c .before .told .ensures in
+    let d = c .before .ranges-metadata .ensures in
     (f .few, d .cases (s .args .cases .now) (f .cases), rw (d .reads (tablesOf (s .args .functions .now) (s .args .externs .now) (s .args .cases .now))) (f .reads-fit))
 
 returns : tie.Need-returns
 returns c =
     let s = c .before .before .before .before .before .before .before .before .before .before .before .before .before in
-    rw (← c .before .before .before .before .told .ensures .reads (tablesOf (s .args .functions .now) (s .args .externs .now) (s .args .cases .now))) (c .before .before .put-each-read .ensures)
+    rw (← c .before .before .before .before .ranges-metadata .ensures .reads (tablesOf (s .args .functions .now) (s .args .externs .now) (s .args .cases .now))) (c .before .before .put-each-read .ensures)
 
 put-range-requires : tie.Need-put-range-requires
 put-range-requires c κs =

@@ -14,13 +14,13 @@ put-each-write-requires : tie.Need-put-each-write-requires
 put-each-write-requires c κs =
     let s = c .before .before .before .before .before .before .before .before .before .before in
     let f = s .pre .1 in
-    let d = c .before .told .ensures in
+    let d = c .before .ranges-metadata .ensures in
     (f .few, d .cases (s .args .cases .now) (f .cases), rw (d .writes (tablesOf (s .args .functions .now) (s .args .externs .now) (s .args .cases .now))) (f .writes-fit))
 
 returns : tie.Need-returns
 returns c =
     let s = c .before .before .before .before .before .before .before .before .before .before .before .before .before in
-    rw (← c .before .before .before .before .told .ensures .writes (tablesOf (s .args .functions .now) (s .args .externs .now) (s .args .cases .now))) (c .before .before .put-each-write .ensures)
+    rw (← c .before .before .before .before .ranges-metadata .ensures .writes (tablesOf (s .args .functions .now) (s .args .externs .now) (s .args .cases .now))) (c .before .before .put-each-write .ensures)
 
 put-range-requires : tie.Need-put-range-requires
 put-range-requires c κs =

@@ -1,5 +1,5 @@
 use Rattle.use_def.specs.laws.Touched.{before}
-use Rattle.use_def.specs.laws.Single.{single-stays}
+use Rattle.use_def.specs.laws.SingleSets.{single-stays}
 use borrow.Author.Needs.{needs}
 use Rattle.use_def.proofs.touch.single_before.Statement.{statement}
 use Rattle.use_def.proofs.touch.single_before.Tie as tie

@@ -1,6 +1,6 @@
 use mathlib.Core.Path.{sym, _∙_}
 use Rattle.instruction.specs.laws.Class.{number-below}
-use Rattle.use_def.specs.laws.Branching.{loop-condition, put-loop-write}
+use Rattle.use_def.specs.laws.BranchSets.{loop-condition, put-loop-write}
 use borrow.Author.Needs.{needs}
 use Rattle.use_def.proofs.touch.take_loop_write.Statement.{statement}
 use Rattle.use_def.proofs.touch.take_loop_write.Tie as tie

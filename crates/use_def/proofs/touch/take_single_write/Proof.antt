@@ -1,5 +1,5 @@
 use mathlib.Core.Path.{refl}
-use Rattle.use_def.specs.laws.Single.{put-single-write}
+use Rattle.use_def.specs.laws.SingleSets.{put-single-write}
 use borrow.Author.Needs.{needs}
 use Rattle.use_def.proofs.touch.take_single_write.Statement.{statement}
 use Rattle.use_def.proofs.touch.take_single_write.Tie as tie

@@ -1,5 +1,5 @@
 use mathlib.Core.Path.{_∙_, sym}
-use Rattle.values.specs.laws.Folded.{answered}
+use Rattle.values.specs.laws.Folded.{foldedAs}
 use Rattle.values.specs.Number.{foldBinary}
 use Rattle.values.proofs.Unfolded.{unfolded-left, unfolded-right}
 use borrow.Author.Needs.{needs}
@@ -13,11 +13,11 @@ returns-2 : tie.Need-returns-2
 returns-2 c = rw (c .before .before .left .given .1) (unfolded-right _ _ _ (c .match2 .keys2))
 
 returns-3 : tie.Need-returns-3
-unfolding answered foldBinary
+unfolding foldedAs foldBinary
 returns-3 c = rw (c .before .before .before .before .before .before .before .left .given .1, c .before .before .before .before .right .given .1, sym (c .before .before .folds-binary .ensures) ∙ c .before .if1 .taken) (cc)
 
 returns-4 : tie.Need-returns-4
-unfolding answered foldBinary
+unfolding foldedAs foldBinary
 returns-4 c = rw (c .before .before .before .before .before .before .left .given .1, c .before .before .before .right .given .1, sym (c .before .folds-binary .ensures) ∙ c .if1 .left)
 
 pub fold-binary-spec : {M : Type 1} → statement M

@@ -1,5 +1,5 @@
 use mathlib.Core.Path.{_∙_, sym}
-use Rattle.values.specs.laws.Folded.{answered}
+use Rattle.values.specs.laws.Folded.{foldedAs}
 use Rattle.values.specs.Number.{foldUnary}
 use Rattle.values.proofs.Unfolded.{unfolded-unary}
 use borrow.Author.Needs.{needs}
@@ -10,11 +10,11 @@ returns : tie.Need-returns
 returns c = λ right. unfolded-unary _ _ (c .match .keys2)
 
 returns-2 : tie.Need-returns-2
-unfolding answered foldUnary
+unfolding foldedAs foldUnary
 returns-2 c = λ right. rw (c .before .before .before .before .left .given .1, sym (c .before .before .folds-unary .ensures) ∙ c .before .if1 .taken) (cc)
 
 returns-3 : tie.Need-returns-3
-unfolding answered foldUnary
+unfolding foldedAs foldUnary
 returns-3 c = λ right. rw (c .before .before .before .left .given .1, sym (c .before .folds-unary .ensures) ∙ c .if1 .left)
 
 pub fold-unary-spec : {M : Type 1} → statement M

@@ -17,7 +17,7 @@ use Rattle.words.specs.laws.Only.{At, Only, only-none, only-put, only-both, put
 use Rattle.words.specs.laws.Regions.{mid-long, get-mid, mid-put, put-long, put-put}
 use Rattle.instruction.specs.declared.Instruction.{Instruction}
 use Rattle.instruction.specs.Instruction.{class, ofWord}
-use Rattle.instruction.specs.laws.Laws.{jump-class}
+use Rattle.instruction.specs.laws.ReadBack.{jump-class}
 use Rattle.instruction.specs.Opcode as op
 use Rattle.effects.specs.Shape.{Cell}
 use Rattle.effects.specs.laws.Cells.{cellOf, cellsBy, cells-long}

@@ -14,7 +14,7 @@ use Rattle.words.specs.Lists.{isIn, every, tabulate, tabulateFrom}
 use Rattle.words.specs.laws.Lists.{every-at, getD-tabulate}
 use Rattle.effects.specs.Shape.{nothing, fieldA, fixed, part, Shape}
 use Rattle.instruction.specs.Opcode as op
-use Rattle.effects.specs.Table.{Row, shape, shapeIn, readRows, readShape, writeRows, writeShape, arrayRows, arrayShape}
+use Rattle.effects.specs.Table.{Arm, shape, shapeIn, readRows, readShape, writeRows, writeShape, arrayRows, arrayShape}
 use Rattle.effects.specs.laws.Form.{forms, formAt, unpack, noPart, rows, rowOf, readsOf, writesOf, readParts, writeParts, demandAt, demandRows, demandRowOf, demandsOf, demands}
 
 -- a table is right everywhere if its entries, read, are what they should be, and what stands for the others is
@@ -55,7 +55,7 @@ below : ℕ → List ℕ → Bool
 below n [] = true
 below n (y ∷ ys) = let rest = below n ys in cond (ltb y n) rest false
 
-names-below : ℕ → List Row → Bool
+names-below : ℕ → List Arm → Bool
 names-below n [] = true
 names-below n (r ∷ rs) = let rest = names-below n rs in cond (below n (r .opcodes)) rest false
 
@@ -70,7 +70,7 @@ is-in-past n o (y ∷ ys) h e = go (ltb y n) refl e (λ e. is-in-past n o ys h e
         rw (ne-eqb o y (λ s. omega arith)) (f e)
     go false q e f = let z : _≡_ {A = ℕ} 0 1 = cc in absurd (omega arith)
 
-shape-past : (n o : ℕ) (rs : List Row) (other : Shape) → n ≤ o → names-below n rs ≡ true → shapeIn rs other o ≡ other
+shape-past : (n o : ℕ) (rs : List Arm) (other : Shape) → n ≤ o → names-below n rs ≡ true → shapeIn rs other o ≡ other
 unfolding names-below shapeIn
 shape-past n o [] other h e = refl
 shape-past n o (r ∷ rs) other h e = go (below n (r .opcodes)) refl e (λ e. shape-past n o rs other h e)

@@ -12,7 +12,7 @@ use Rattle.flow.specs.laws.Flags.{Flags}
 use Rattle.pc_map.specs.Boundary.{isKept, boundary}
 use Rattle.pc_map.specs.laws.Boundaries.{boundary-zero, boundary-kept, boundary-dropped, boundary-mono}
 use Rattle.pc_map.specs.Relocate.{relocate, retainFrom}
-use Rattle.answer.specs.Clean.{cellOf, cellsAfter}
+use Rattle.answer.specs.Clean.{retainedCell, cellsAfter}
 
 retained-at : (keep : List ℕ) → Flags keep → (q : ℕ) (xs : List Cell) → q + length xs ≡ length keep → (k : ℕ) → k < length xs → isKept keep (q + k) ≡ true
     → cellAt (cellsAfter (retainFrom keep q xs)) (boundary keep (q + k) - boundary keep q) ≡ relocate keep (q + k) (cellAt xs k)
@@ -72,7 +72,7 @@ module _ (keep : List ℕ) (b : Flags keep) (cells : List Cell) (long : length c
   kept-long =
       let r = retained-long keep b 0 cells (rw zero-add long) in
       let z = boundary-zero keep in
-      length-map (retainFrom keep 0 cells) cellOf ∙ rw long (omega arith)
+      length-map (retainFrom keep 0 cells) retainedCell ∙ rw long (omega arith)
 
   pub kept-inside : (p : ℕ) → p < length cells → isKept keep p ≡ true → boundary keep p < length (cellsAfter (retainFrom keep 0 cells))
   kept-inside p h y =

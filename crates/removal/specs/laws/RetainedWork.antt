@@ -26,7 +26,7 @@ use Rattle.run.specs.laws.Optimized.{useful-flags, useful-long}
 use Rattle.answer.specs.Jump.{jumpRounds}
 use Rattle.answer.specs.Pass.{keptPlaces, usefulPlaces}
 use Rattle.removal.specs.laws.Jumping.{Rounds, endsIn, mapOf}
-use Rattle.removal.specs.laws.Kept.{sectionsIn, keepAt, endsAt, Useful, Stored, Retainable, Retains}
+use Rattle.removal.specs.laws.KeptWork.{sectionsIn, keepAt, endsAt, Useful, Stored, Retainable, Retains}
 
 -- what dropping hints asks, with the parts' lengths as the code has them
 pub hints-asks : {T : Tables} {types leads marks : List ℕ} (n k at count m : ℕ) (metadata work32 work64 : List ℕ) → k ≡ n → m ≡ count

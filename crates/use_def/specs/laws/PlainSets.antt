@@ -16,12 +16,12 @@ use Rattle.effects.specs.declared.Range.{Range}
 use Rattle.effects.specs.Shape.{Tables, Cell, rangeOf}
 use Rattle.effects.specs.Effects.{allReads, writes}
 use Rattle.effects.specs.laws.Form.{formAt, unpack, rowOf}
-use Rattle.effects.specs.laws.Rows.{rows-read, rows-write}
+use Rattle.effects.specs.laws.TableRows.{rows-read, rows-write}
 use Rattle.effects.specs.laws.Ranges.{CasesInside, reads-other, writes-other}
 use Rattle.effects.specs.laws.Plain.{isPlain, slot-form}
 
 -- what an instruction touches with metadata m is what it touches with m′
-pub record Alike (i : Instruction) (m m′ : Metadata) : Type 0 where
+pub record SameRanges (i : Instruction) (m m′ : Metadata) : Type 0 where
   pub reads : (T : Tables) → allReads T (record { instruction = i; metadata = m }) ≡ allReads T (record { instruction = i; metadata = m′ })
   pub writes : (T : Tables) → writes T (record { instruction = i; metadata = m }) ≡ writes T (record { instruction = i; metadata = m′ })
   pub cases : (l : List ℕ) → CasesInside l (record { instruction = i; metadata = m′ }) → CasesInside l (record { instruction = i; metadata = m })
@@ -59,7 +59,7 @@ module _ (i : Instruction) (m m′ : Metadata) where
     each zero v h g = refl
     each (suc n) v h g = more (one (v % 256) h) (last n (v / 256) g)
 
-  plain-alike : isPlain (i .op) (rowOf (i .op)) ≡ true → Alike i m m′
+  plain-alike : isPlain (i .op) (rowOf (i .op)) ≡ true → SameRanges i m m′
   plain-alike e =
       let row = rowOf (i .op) in
       let tests : (not (eqb (i .op) op.SelectExec) && ltb row 0x30000) ≡ true = left-true (not (eqb (i .op) op.SelectExec) && ltb row 0x30000) (ltb (row / 256 % 256) 3) e in
@@ -76,14 +76,14 @@ module _ (i : Instruction) (m m′ : Metadata) where
         cases = λ l f e. absurd (other e);
       }
 
-alike-refl : (i : Instruction) (m : Metadata) → Alike i m m
+alike-refl : (i : Instruction) (m : Metadata) → SameRanges i m m
 alike-refl i m = record { reads = λ T. refl; writes = λ T. refl; cases = λ l f. f }
 
 -- the metadata of place p, or of place 0 where the opcode is plain
 pub told-alike : (i : Instruction) (l : List ℕ) (p at : ℕ) (when : Bool) (m : Metadata) → when ≡ isPlain (i .op) (rowOf (i .op)) → at ≡ cond (not when) p 0
-    → m ≡ metadataAt l at → Alike i m (metadataAt l p)
+    → m ≡ metadataAt l at → SameRanges i m (metadataAt l p)
 told-alike i l p at when m e a d = rw (d, a) (go when e)
   where
-    go : (t : Bool) → t ≡ isPlain (i .op) (rowOf (i .op)) → Alike i (metadataAt l (cond (not t) p 0)) (metadataAt l p)
+    go : (t : Bool) → t ≡ isPlain (i .op) (rowOf (i .op)) → SameRanges i (metadataAt l (cond (not t) p 0)) (metadataAt l p)
     go true q = plain-alike i (metadataAt l 0) (metadataAt l p) (sym q)
     go false q = alike-refl i (metadataAt l p)

@@ -14,7 +14,7 @@ use Rattle.words.specs.laws.Only.{mid-mid, back-within}
 use Rattle.pc_map.specs.Boundary.{boundary}
 use Rattle.pc_map.specs.laws.Listed.{keptList}
 use Rattle.removal.specs.laws.Jumping.{mapOf}
-use Rattle.removal.specs.laws.Kept.{keepAt, listAt, Retains}
+use Rattle.removal.specs.laws.KeptWork.{keepAt, listAt, Retains}
 
 module _ {n : ℕ} {metadata types constants functions externs cases work32 work64 work32′ work64′ : List ℕ} (d : Retains n metadata types constants functions externs cases work32 work64 work32′ work64′)
     (few : n ≤ maxInstructions) (room : work32Room n ≤ length work32′) where

@@ -116,7 +116,7 @@ entries u e =
       cases = every-at _ _ (cases .1);
     }
 
-pub record Laid (u : List ℕ) : Type 0 where
+pub record WellFormed (u : List ℕ) : Type 0 where
   pub header : headerSize ≤ length u
   pub locals : headerOf u .counts .locals ≤ maxLocalSlots
   pub defer : headerOf u .counts .defer ≤ 1
@@ -126,7 +126,7 @@ pub record Laid (u : List ℕ) : Type 0 where
   pub lengths : Lengths u
   pub entries : Entries u
 
-pub unit-laid : (u : List ℕ) → isUnit u ≡ true → Laid u
+pub unit-laid : (u : List ℕ) → isUnit u ≡ true → WellFormed u
 unfolding isUnit goodCounts
 unit-laid u e =
     let long = passed (leb headerSize (length u)) _ e in

@@ -11,7 +11,7 @@ use Rattle.effects.specs.declared.Check.the-variants.{Passed, Refused}
 use Rattle.effects.specs.Shape.{Cell}
 use Rattle.effects.specs.laws.Cells.{cellOf, cellsBy}
 use Rattle.effects.specs.Check.{lowest}
-use Rattle.effects.specs.laws.Laws.{Unrefused, refused-first, refused-none, refused-later, refused-here}
+use Rattle.effects.specs.laws.Unrefused.{Unrefused, refused-first, refused-none, refused-later, refused-here}
 use Rattle.flow.specs.laws.Control.{isControl, Controls, at-control, control-inside, skip-first, skip-next, skip-last}
 
 -- no place before the k-th of the list is refused

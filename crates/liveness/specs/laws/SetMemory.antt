@@ -21,7 +21,7 @@ use Rattle.effects.specs.laws.ByClass.{writesByClass}
 use Rattle.flow.specs.Branch.{branchInside}
 use Rattle.use_def.specs.laws.Touched.{Fits}
 use Rattle.use_def.specs.laws.Wordwise.{Moved}
-use Rattle.liveness.specs.declared.Layout.{Layout}
+use Rattle.liveness.specs.declared.SetLayout.{SetLayout}
 use Rattle.words.specs.laws.Only.{At, Either, Only, only-both, only-more, mid-mid, same-mid, put-mid}
 use Rattle.liveness.specs.laws.Out.{OutOf}
 use Rattle.liveness.specs.laws.Shown.{rowAt, row-before}
@@ -38,33 +38,33 @@ cell-in m metadata n p v h l e =
     cell-at (midOf 0 n m) metadata p (rw long l) ∙ rw (code-word m n p l, e)
 
 -- one after another, and all within the buffer
-pub record Laid (s : Layout) (room : ℕ) : Type 0 where
+pub record LayoutFits (s : SetLayout) (room : ℕ) : Type 0 where
   pub row : s .code ≤ s .row
   pub uses : s .row + s .width ≤ s .uses
   pub preserved : s .uses + s .width * s .count ≤ s .preserved
   pub live : s .preserved + s .width * s .count ≤ s .live
   pub end : s .live + s .width * s .count ≤ room
 
-pub row-inside : (s : Layout) (room : ℕ) → Laid s room → s .row + s .width ≤ room
+pub row-inside : (s : SetLayout) (room : ℕ) → LayoutFits s room → s .row + s .width ≤ room
 row-inside s room l = omega (arith, l .uses, l .preserved, l .live, l .end)
 
-abbrev pub codeOf : Layout → List ℕ → List ℕ
-codeOf s m = midOf 0 (s .code) m
+abbrev pub codeWords : SetLayout → List ℕ → List ℕ
+codeWords s m = midOf 0 (s .code) m
 
-abbrev pub rowOf : Layout → List ℕ → List ℕ
+abbrev pub rowOf : SetLayout → List ℕ → List ℕ
 rowOf s m = midOf (s .row) (s .width) m
 
-abbrev pub usesOf : Layout → List ℕ → List ℕ
+abbrev pub usesOf : SetLayout → List ℕ → List ℕ
 usesOf s m = midOf (s .uses) (s .width * s .count) m
 
-abbrev pub preservedOf : Layout → List ℕ → List ℕ
+abbrev pub preservedOf : SetLayout → List ℕ → List ℕ
 preservedOf s m = midOf (s .preserved) (s .width * s .count) m
 
-abbrev pub liveOf : Layout → List ℕ → List ℕ
+abbrev pub liveOf : SetLayout → List ℕ → List ℕ
 liveOf s m = midOf (s .live) (s .width * s .count) m
 
 -- without gaps
-abbrev pub laidOut : ℕ → ℕ → ℕ → Layout
+abbrev pub laidOut : ℕ → ℕ → ℕ → SetLayout
 laidOut n w count = record {
   code = n;
   width = w;
@@ -75,19 +75,19 @@ laidOut n w count = record {
   live = n + w + w * count + w * count;
 }
 
-pub laid-out : (n w count room : ℕ) → n + w + 3 * (w * count) ≤ room → Laid (laidOut n w count) room
+pub laid-out : (n w count room : ℕ) → n + w + 3 * (w * count) ≤ room → LayoutFits (laidOut n w count) room
 laid-out n w count room h = record { row = omega arith; uses = omega arith; preserved = omega arith; live = omega arith; end = omega arith }
 
 -- the code's branches and the blocks' numbers stay inside
-pub record Coded (s : Layout) (memory blocks : List ℕ) : Type 0 where
-  pub laid : Laid s (length memory)
+pub record Coded (s : SetLayout) (memory blocks : List ℕ) : Type 0 where
+  pub laid : LayoutFits s (length memory)
   pub most : s .code ≤ maxInstructions
   pub long-blocks : length blocks ≡ s .code
   pub inside : (p : ℕ) → p < s .code → branchInside (s .code) p (ofWord (getD memory p 0)) ≡ true
   pub rows-inside : (q : ℕ) → q < s .code → s .width * getD blocks q 0 + s .width ≤ s .width * s .count
 
 -- what is live at the start of the block of place q
-module _ (s : Layout) (m blocks : List ℕ) (c : Coded s m blocks) (q : ℕ) (h : q < s .code) where
+module _ (s : SetLayout) (m blocks : List ℕ) (c : Coded s m blocks) (q : ℕ) (h : q < s .code) where
   abbrev start : ℕ
   start = s .live + s .width * getD blocks q 0
 
@@ -98,11 +98,11 @@ module _ (s : Layout) (m blocks : List ℕ) (c : Coded s m blocks) (q : ℕ) (h 
   start-row = sym (mid-mid m (s .live) (s .width * s .count) (s .width * getD blocks q 0) (s .width) (c .laid .end) (c .rows-inside q h))
 
 -- what was written behind the code leaves all that
-module _ (s : Layout) (P : ℕ → Type 0) (m m′ : List ℕ) (o : Only P m m′) (past : (j : ℕ) → P j → s .code ≤ j) where
+module _ (s : SetLayout) (P : ℕ → Type 0) (m m′ : List ℕ) (o : Only P m m′) (past : (j : ℕ) → P j → s .code ≤ j) where
   pub same-word : (p : ℕ) → p < s .code → getD m′ p 0 ≡ getD m p 0
   same-word p h = o .same p (λ i. let q = past p i in omega arith)
 
-  pub same-code : Laid s (length m) → codeOf s m′ ≡ codeOf s m
+  pub same-code : LayoutFits s (length m) → codeWords s m′ ≡ codeWords s m
   same-code l = same-mid P m m′ o 0 (s .code) (omega (arith, l .row, l .uses, l .preserved, l .live, l .end)) (λ j h i. let q = past j i in omega (arith, h .1))
 
   pub still-coded : (blocks : List ℕ) → Coded s m blocks → Coded s m′ blocks
@@ -115,20 +115,20 @@ module _ (s : Layout) (P : ℕ → Type 0) (m m′ : List ℕ) (o : Only P m m�
   }
 
 -- a set in the row leaves the blocks' live sets
-pub same-live : (s : Layout) (m m′ : List ℕ) → Laid s (length m) → Only (At (s .row) (s .width)) m m′ → liveOf s m′ ≡ liveOf s m
+pub same-live : (s : SetLayout) (m m′ : List ℕ) → LayoutFits s (length m) → Only (At (s .row) (s .width)) m m′ → liveOf s m′ ≡ liveOf s m
 same-live s m m′ l o =
     same-mid (At (s .row) (s .width)) m m′ o (s .live) (s .width * s .count) (l .end) (λ j h i. omega (arith, h .0, i .1, l .uses, l .preserved, l .live))
 
 -- ---- what is written into the blocks' sets
 
-abbrev pub InSums : Layout → ℕ → Type 0
+abbrev pub InSums : SetLayout → ℕ → Type 0
 InSums s = Either (At (s .uses) (s .width * s .count)) (At (s .preserved) (s .width * s .count))
 
-pub past-sums : (s : Layout) (room : ℕ) → Laid s room → (j : ℕ) → InSums s j → s .code ≤ j
+pub past-sums : (s : SetLayout) (room : ℕ) → LayoutFits s room → (j : ℕ) → InSums s j → s .code ≤ j
 past-sums s room l j = ⊎-elim (λ i. omega (arith, i .0, l .row, l .uses)) (λ i. omega (arith, i .0, l .row, l .uses, l .preserved))
 
 -- the two sets of block b
-module _ (s : Layout) (m m′ : List ℕ) (b : ℕ) (l : Laid s (length m)) (h : b < s .count)
+module _ (s : SetLayout) (m m′ : List ℕ) (b : ℕ) (l : LayoutFits s (length m)) (h : b < s .count)
     (o : Only (Either (At (s .uses + s .width * b) (s .width)) (At (s .preserved + s .width * b) (s .width))) m m′) where
   inner : s .width * b + s .width ≤ s .width * s .count
   inner = row-before (s .width) b (s .count) h
@@ -153,14 +153,14 @@ module _ (s : Layout) (m m′ : List ℕ) (b : ℕ) (l : Laid s (length m)) (h :
       ends′ : s .preserved + s .width * s .count ≤ length m
       ends′ = omega (arith, l .live, l .end)
 
-abbrev pub InRows : Layout → ℕ → Type 0
+abbrev pub InRows : SetLayout → ℕ → Type 0
 InRows s = Either (At (s .row) (s .width)) (At (s .live) (s .width * s .count))
 
-pub past-rows : (s : Layout) (room : ℕ) → Laid s room → (j : ℕ) → InRows s j → s .code ≤ j
+pub past-rows : (s : SetLayout) (room : ℕ) → LayoutFits s room → (j : ℕ) → InRows s j → s .code ≤ j
 past-rows s room l j = ⊎-elim (λ i. omega (arith, i .0, l .row)) (λ i. omega (arith, i .0, l .row, l .uses, l .preserved, l .live))
 
 -- what is live at the end of block b, in the row, and then at its start
-module _ (s : Layout) (m m₁ m₂ : List ℕ) (b : ℕ) (l : Laid s (length m)) (h : b < s .count) (o : Only (At (s .row) (s .width)) m m₁) (o₁ : Only (At (s .live + s .width * b) (s .width)) m₁ m₂) where
+module _ (s : SetLayout) (m m₁ m₂ : List ℕ) (b : ℕ) (l : LayoutFits s (length m)) (h : b < s .count) (o : Only (At (s .row) (s .width)) m m₁) (o₁ : Only (At (s .live + s .width * b) (s .width)) m₁ m₂) where
   room : s .width * b + s .width ≤ s .width * s .count
   room = row-before (s .width) b (s .count) h
 
@@ -193,14 +193,14 @@ module _ (s : Layout) (m m₁ m₂ : List ℕ) (b : ℕ) (l : Laid s (length m))
       }
 
 -- what rounds start from
-pub record Ready (s : Layout) (memory blocks starts : List ℕ) : Type 0 where
+pub record Ready (s : SetLayout) (memory blocks starts : List ℕ) : Type 0 where
   pub coded : Coded s memory blocks
   pub long-starts : s .count < length starts
   pub rising : Rising starts (s .count) (s .code)
 
 -- rounds leave the code and what blocks use and preserve
-module _ (s : Layout) (m m′ : List ℕ) (l : Laid s (length m)) (o : Only (InRows s) m m′) where
-  pub rows-code : codeOf s m′ ≡ codeOf s m
+module _ (s : SetLayout) (m m′ : List ℕ) (l : LayoutFits s (length m)) (o : Only (InRows s) m m′) where
+  pub rows-code : codeWords s m′ ≡ codeWords s m
   rows-code = same-code s (InRows s) m m′ o (past-rows s (length m) l) l
 
   between : (a : ℕ) → s .row + s .width ≤ a → a + s .width * s .count ≤ s .live → midOf a (s .width * s .count) m′ ≡ midOf a (s .width * s .count) m
@@ -219,12 +219,12 @@ module _ (s : Layout) (m m′ : List ℕ) (l : Laid s (length m)) (o : Only (InR
   -- a visit, by the cells and sets that rounds start from
   pub visited-then : (metadata : List ℕ) (b p : ℕ) (blocks live live′ : List ℕ) (r : Bool) → p < s .code
       → Visited (s .width) b p (s .code) (ofWord (getD m′ p 0)) blocks (usesOf s m′) (preservedOf s m′) live live′ r
-      → Visited (s .width) b p (length (cellsBy (codeOf s m) metadata)) (cellAt (cellsBy (codeOf s m) metadata) p .instruction) blocks (usesOf s m) (preservedOf s m) live live′ r
+      → Visited (s .width) b p (length (cellsBy (codeWords s m) metadata)) (cellAt (cellsBy (codeWords s m) metadata) p .instruction) blocks (usesOf s m) (preservedOf s m) live live′ r
   visited-then metadata b p blocks live live′ r h v =
       let ends : s .code ≤ length m = omega (arith, l .row, l .uses, l .preserved, l .live, l .end) in
       let same = same-word s (InRows s) m m′ o (past-rows s (length m) l) p h in
-      let i : cellAt (cellsBy (codeOf s m) metadata) p .instruction ≡ ofWord (getD m′ p 0) = ap (λ (x : Cell). x .instruction) (cell-in m metadata (s .code) p (getD m′ p 0) ends h same) in
-      rw (cells-long (codeOf s m) metadata, mid-long m 0 (s .code) (omega arith), i) (rw (rows-uses, rows-preserved) at v)
+      let i : cellAt (cellsBy (codeWords s m) metadata) p .instruction ≡ ofWord (getD m′ p 0) = ap (λ (x : Cell). x .instruction) (cell-in m metadata (s .code) p (getD m′ p 0) ends h same) in
+      rw (cells-long (codeWords s m) metadata, mid-long m 0 (s .code) (omega arith), i) (rw (rows-uses, rows-preserved) at v)
 
 -- ---- the numbers of n places: leaders, blocks, starts, flags of kept places
 
@@ -249,7 +249,7 @@ module _ (n : ℕ) (t t′ : List ℕ) (h : flagsAt n + n ≤ length t) (o : Onl
   same-blocks = same-mid (At (flagsAt n) n) t t′ o n n (omega arith) (λ j i k. omega (arith, i .1, k .0))
 
 -- what the sweep starts from
-pub record Sweepable (s : Layout) (T : Tables) (memory metadata types table : List ℕ) : Type 0 where
+pub record Sweepable (s : SetLayout) (T : Tables) (memory metadata types table : List ℕ) : Type 0 where
   pub coded : Coded s memory (blocksOf (s .code) table)
   pub long-table : flagsAt (s .code) + s .code ≤ length table
   pub entries : metadataSize * s .code ≤ length metadata

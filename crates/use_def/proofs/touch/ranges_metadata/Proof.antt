@@ -5,10 +5,10 @@ use native.Mathlib.Omega.{arith}
 use Rattle.unit.specs.Size.{metadataSize}
 use Rattle.effects.specs.laws.Form.{rowOf}
 use Rattle.effects.specs.laws.Plain.{isPlain}
-use Rattle.use_def.specs.laws.Plain.{told-alike}
+use Rattle.use_def.specs.laws.PlainSets.{told-alike}
 use borrow.Author.Needs.{needs}
-use Rattle.use_def.proofs.touch.told.Statement.{statement}
-use Rattle.use_def.proofs.touch.told.Tie as tie
+use Rattle.use_def.proofs.touch.ranges_metadata.Statement.{statement}
+use Rattle.use_def.proofs.touch.ranges_metadata.Tie as tie
 
 -- an entry where place p has one
 inside : (when : Bool) (p k : ℕ) → metadataSize * p + metadataSize ≤ k → metadataSize * cond when p 0 + metadataSize ≤ k
@@ -25,5 +25,5 @@ returns c =
     let row : plain .result ≡ isPlain (s .args .i .op) (rowOf (s .args .i .op)) = plain .ensures ∙ ap (λ (r : ℕ). isPlain (s .args .i .op) r) (c .before .before .before .row .ensures) in
     told-alike (s .args .i) (s .args .metadata .now) (s .args .p) _ (plain .result) _ row (c .before .index-if .ensures) (c .metadata .ensures)
 
-pub told-spec : {M : Type 1} → statement M
-told-spec = tie.close (tie.spec (λ c κs. search needs) (λ c κs. search needs) (λ c κs. search needs) metadata-requires returns)
+pub ranges-metadata-spec : {M : Type 1} → statement M
+ranges-metadata-spec = tie.close (tie.spec (λ c κs. search needs) (λ c κs. search needs) (λ c κs. search needs) metadata-requires returns)

@@ -4,8 +4,8 @@ use mathlib.Core.Path.{_≡_}
 use mathlib.Core.List.{List}
 use Prim.Native.Nat.{ℕ, _+_, _≤_, _<_}
 use lib.ListN.{length}
-use Rattle.values.specs.Table.{Values, empty, representative, store, learn}
-use Rattle.values.specs.laws.Memory.{memoryOf, numberAt, constantOf, constantKey, limit, atomIn, Ready, Holds}
+use Rattle.values.specs.Values.{Values, empty, representative, store, learn}
+use Rattle.values.specs.laws.Memory.{memoryOf, numberAt, keyAtom, constantKey, limit, atomIn, Ready, Holds}
 
 -- the memory stays in order; at most c constants and e expressions more, at most k epochs later
 pub record Kept (n S k c e : ℕ) (t t′ : List ℕ) : Type 0 where
@@ -45,7 +45,7 @@ pub record Stores (n S : ℕ) (types : List ℕ) (t : List ℕ) (s d : ℕ) (t�
 pub record Interns (n S : ℕ) (t : List ℕ) (kind bits d : ℕ) (t′ : List ℕ) : Type 0 where
   pub kept : Kept n S 0 1 0 t t′
   pub low : d < limit n S (memoryOf n S t′)
-  pub is : (dest : ℕ → ℕ) → atomIn n S dest (memoryOf n S t′) d ≡ constantOf (constantKey kind bits)
+  pub is : (dest : ℕ → ℕ) → atomIn n S dest (memoryOf n S t′) d ≡ keyAtom (constantKey kind bits)
   pub holds : (dest : ℕ → ℕ) (v : Values) → Holds n S dest v (memoryOf n S t) → Holds n S dest v (memoryOf n S t′)
 
 -- an expression of two numbers, whose value has the number d
