@@ -1,67 +1,73 @@
 -- The definitions that answers and runs are computed by, crate by crate: to unfold a name here is to unfold all that its line names.
 -- Assumes nothing.
-use Rattle.words.specs.laws.Bits as wordsBits
 use Rattle.words.specs.Le as wordsLe
-use Rattle.words.specs.Lists as wordsLists
 use Rattle.words.specs.Word as wordsWord
+use Rattle.words.specs.Lists as wordsLists
 use Rattle.instruction.specs.Class as instructionClass
 use Rattle.instruction.specs.Instruction as instructionInstruction
 use Rattle.unit.specs.Entry as unitEntry
 use Rattle.unit.specs.Layout as unitLayout
 use Rattle.unit.specs.Result as unitResult
-use Rattle.effects.specs.laws.Cells as effectsCells
-use Rattle.effects.specs.Check as effectsCheck
-use Rattle.effects.specs.Effects as effectsEffects
 use Rattle.effects.specs.Shape as effectsShape
 use Rattle.effects.specs.Table as effectsTable
-use Rattle.flow.specs.Block as flowBlock
+use Rattle.effects.specs.Effects as effectsEffects
+use Rattle.effects.specs.Check as effectsCheck
 use Rattle.flow.specs.Branch as flowBranch
-use Rattle.flow.specs.Loop as flowLoop
+use Rattle.flow.specs.Block as flowBlock
 use Rattle.flow.specs.Reach as flowReach
+use Rattle.flow.specs.Loop as flowLoop
 use Rattle.values.specs.Fold as valuesFold
+use Rattle.values.specs.Values as valuesValues
 use Rattle.values.specs.Number as valuesNumber
-use Rattle.values.specs.Values as valuesTable
 use Rattle.pc_map.specs.Relocate as pcmapRelocate
-use Rattle.liveness.specs.Dead as livenessDead
 use Rattle.liveness.specs.Live as livenessLive
-use Rattle.answer.specs.Answer as answerAnswer
+use Rattle.liveness.specs.Dead as livenessDead
 use Rattle.answer.specs.Jump as answerJump
 use Rattle.answer.specs.Pass as answerPass
+use Rattle.answer.specs.Answer as answerAnswer
 use Rattle.answer.specs.Clean as answerClean
-use Rattle.run.specs.System as runSystem
 use Rattle.run.specs.Machine as runMachine
 use Rattle.run.specs.Program as runProgram
+use Rattle.run.specs.Returned as runReturned
 
 unfoldable pub ofWords : Unit {0}
-unfolding wordsBits.member wordsBits.inserted wordsBits.removed wordsLe.fromLe wordsLe.toLe wordsLists.every wordsLists.tabulateFrom wordsLists.tabulate wordsLists.sum wordsLists.mapFrom wordsWord.signExtend
+unfolding wordsLe.fromLe wordsLe.toLe wordsWord.signExtend wordsLists.every wordsLists.tabulateFrom wordsLists.tabulate wordsLists.sum wordsLists.mapFrom
 ofWords = tt
 
 unfoldable pub ofInstruction : Unit {0}
 unfolding instructionClass.single instructionClass.classOf instructionClass.numberOf instructionClass.namedClass instructionClass.isPure instructionInstruction.instructionAt instructionInstruction.toWord instructionInstruction.ofWord
 ofInstruction = tt
 
+unfoldable ofUnit1 : Unit {0}
+unfolding unitEntry.metadataAt unitEntry.metadataBytes unitEntry.goodMetadata unitEntry.constantOf unitEntry.constantAt unitEntry.goodConstant unitEntry.functionAt unitEntry.externAt unitEntry.caseAt unitEntry.goodCase unitLayout.headerOf unitLayout.sectionsFollow unitLayout.goodCounts unitLayout.goodEntries unitLayout.isUnit unitLayout.layoutOf unitResult.resultHeader unitResult.codeBytes
+ofUnit1 = tt
+
 unfoldable pub ofUnit : Unit {0}
-unfolding unitEntry.metadataAt unitEntry.metadataBytes unitEntry.goodMetadata unitEntry.constantOf unitEntry.constantAt unitEntry.goodConstant unitEntry.functionAt unitEntry.externAt unitEntry.caseAt unitEntry.goodCase unitLayout.headerOf unitLayout.sectionsFollow unitLayout.goodCounts unitLayout.goodEntries unitLayout.isUnit unitLayout.layoutOf unitResult.resultHeader unitResult.codeBytes unitResult.metadataBytesAll unitResult.placeBytes unitResult.resultBytes
+unfolding ofUnit1 unitResult.metadataBytesAll unitResult.placeBytes unitResult.resultBytes unitResult.retainedFrom unitResult.readResult
 ofUnit = tt
 
 unfoldable ofEffects1 : Unit {0}
-unfolding effectsCells.cellsBy effectsCheck.lowest effectsCheck.effectsSound effectsCheck.operandRefusal effectsCheck.operandCheck effectsEffects.caseReads effectsEffects.caseWrites effectsEffects.reads effectsEffects.arrays effectsEffects.writes effectsEffects.allReads effectsEffects.demandsMet effectsEffects.rangeFits effectsEffects.rangeWithin effectsEffects.rangeHas effectsEffects.allOf effectsEffects.anyOf effectsShape.isThere effectsShape.paramSlots effectsShape.returnSlots effectsShape.isKnown effectsShape.externSlots effectsShape.isKind effectsShape.met
+unfolding effectsShape.isThere effectsShape.paramSlots effectsShape.returnSlots effectsShape.isKnown effectsShape.externSlots effectsShape.isKind effectsShape.met effectsShape.value effectsShape.applies effectsShape.rangeOf effectsTable.shapeIn effectsTable.readShape effectsTable.writeShape effectsTable.arrayShape effectsEffects.caseReads effectsEffects.caseWrites effectsEffects.reads effectsEffects.arrays
 ofEffects1 = tt
 
 unfoldable pub ofEffects : Unit {0}
-unfolding ofEffects1 effectsShape.value effectsShape.applies effectsShape.rangeOf effectsTable.shapeIn effectsTable.readShape effectsTable.writeShape effectsTable.arrayShape
+unfolding ofEffects1 effectsEffects.writes effectsEffects.allReads effectsEffects.demandsMet effectsEffects.rangeFits effectsEffects.rangeWithin effectsEffects.rangeHas effectsEffects.allOf effectsEffects.anyOf effectsCheck.lowest effectsCheck.effectsSound effectsCheck.operandRefusal effectsCheck.operandCheck
 ofEffects = tt
 
 unfoldable pub ofFlow : Unit {0}
-unfolding flowBlock.endsBlock flowBlock.branchTargets flowBlock.blockEnds flowBlock.isLeader flowBlock.leaders flowBranch.falls flowBranch.branches flowBranch.targetBy flowBranch.branchInside flowBranch.branchCheck flowLoop.successors flowLoop.reachedPlaces flowLoop.loopCheck flowLoop.loopEnds flowLoop.anchors flowReach.markAll flowReach.markIf flowReach.sweep flowReach.sweeps flowReach.reached
+unfolding flowBranch.falls flowBranch.branches flowBranch.targetBy flowBranch.branchInside flowBranch.branchCheck flowBlock.endsBlock flowBlock.branchTargets flowBlock.blockEnds flowBlock.isLeader flowBlock.leaders flowReach.markAll flowReach.markIf flowReach.sweep flowReach.sweeps flowReach.reached flowLoop.successors flowLoop.reachedPlaces flowLoop.loopCheck flowLoop.loopEnds flowLoop.anchors
 ofFlow = tt
 
 unfoldable ofValues1 : Unit {0}
-unfolding valuesFold.bitwise valuesFold.differ valuesFold.lowBits valuesFold.trunc valuesFold.foldWord valuesFold.fitsImm32 valuesNumber.constantAtom valuesNumber.foldUnary valuesNumber.foldBinary valuesNumber.loadOrStay valuesNumber.stored valuesNumber.copyOrStay valuesNumber.byExpression valuesNumber.byValue valuesNumber.numberUnary valuesNumber.numberBinary valuesNumber.numberCopy valuesNumber.numberConstant valuesNumber.numberRead valuesNumber.decided valuesNumber.numberJump valuesNumber.numberBy valuesNumber.numberFrom valuesNumber.numberCode
+unfolding valuesFold.bitwise valuesFold.differ valuesFold.lowBits valuesFold.trunc valuesFold.bitWord valuesFold.foldWord valuesFold.fitsImm32 valuesValues.sameAtom valuesValues.sameExpression valuesValues.valueIn valuesValues.slotIn valuesValues.expressionIn valuesValues.usable valuesValues.recordedSlot valuesValues.orItself valuesValues.representative valuesValues.store valuesValues.learn
 ofValues1 = tt
 
+unfoldable ofValues2 : Unit {0}
+unfolding valuesNumber.constantAtom valuesNumber.foldUnary valuesNumber.foldBinary valuesNumber.loadOrStay valuesNumber.stored valuesNumber.copyOrStay valuesNumber.byExpression valuesNumber.byValue valuesNumber.numberUnary valuesNumber.numberBinary valuesNumber.numberCopy valuesNumber.numberConstant valuesNumber.numberRead valuesNumber.decided valuesNumber.numberJump valuesNumber.numberBy
+ofValues2 = tt
+
 unfoldable pub ofValues : Unit {0}
-unfolding ofValues1 valuesTable.sameAtom valuesTable.sameExpression valuesTable.valueIn valuesTable.slotIn valuesTable.expressionIn valuesTable.usable valuesTable.recordedSlot valuesTable.orItself valuesTable.representative valuesTable.store valuesTable.learn
+unfolding ofValues1 ofValues2 valuesNumber.numberFrom valuesNumber.numberCode
 ofValues = tt
 
 unfoldable pub ofPcMap : Unit {0}
@@ -69,19 +75,23 @@ unfolding pcmapRelocate.relocationCheck pcmapRelocate.movedJump pcmapRelocate.mo
 ofPcMap = tt
 
 unfoldable pub ofLiveness : Unit {0}
-unfolding livenessDead.unread livenessDead.isDead livenessDead.sweptAt livenessDead.sweepFrom livenessDead.withoutDead livenessDead.deadStores livenessLive.liveBefore livenessLive.union livenessLive.sameRow livenessLive.sameRows livenessLive.edges livenessLive.noRow livenessLive.joined livenessLive.liveAfter livenessLive.roundFrom livenessLive.solveIn livenessLive.liveRows
+unfolding livenessLive.liveBefore livenessLive.union livenessLive.sameRow livenessLive.sameRows livenessLive.edges livenessLive.noRow livenessLive.joined livenessLive.liveAfter livenessLive.roundFrom livenessLive.solveIn livenessLive.liveRows livenessDead.unread livenessDead.isDead livenessDead.sweptAt livenessDead.sweepFrom livenessDead.withoutDead livenessDead.deadStores
 ofLiveness = tt
 
 unfoldable ofAnswer1 : Unit {0}
-unfolding answerAnswer.cellsOf answerAnswer.sectionsOf answerAnswer.roomFor answerAnswer.isSkipped answerAnswer.afterRoom answerAnswer.afterSkipped answerAnswer.afterLayout answerAnswer.answerWith answerAnswer.passAnswer answerJump.isIdle answerJump.dropIdle answerJump.jumpRounds answerPass.checked answerPass.sameCode answerPass.allKept answerPass.usefulPlaces answerPass.keptPlaces answerPass.removal answerPass.afterLoops answerPass.afterBranches answerPass.afterOperands answerPass.optimized answerPass.isWorkedOn answerPass.pass answerClean.placedBy
+unfolding answerJump.isIdle answerJump.dropIdle answerJump.jumpRounds answerPass.outputAfter answerPass.checked answerPass.sameCode answerPass.allKept answerPass.usefulPlaces answerPass.keptPlaces answerPass.removal answerPass.afterLoops answerPass.afterBranches answerPass.afterOperands answerPass.optimized answerPass.isWorkedOn answerPass.pass answerAnswer.cellsOf answerAnswer.sectionsOf
 ofAnswer1 = tt
 
 unfoldable pub ofAnswer : Unit {0}
-unfolding ofAnswer1 answerClean.afterPass answerClean.cleanFrom answerClean.cleanedFirst answerClean.cleanAnswer
+unfolding ofAnswer1 answerAnswer.roomFor answerAnswer.isSkipped answerAnswer.afterRoom answerAnswer.afterSkipped answerAnswer.afterLayout answerAnswer.answerWith answerAnswer.passAnswer answerClean.placedBy answerClean.afterPass answerClean.cleanFrom answerClean.cleanedFirst answerClean.spareFor answerClean.cleanAnswer
 ofAnswer = tt
 
+unfoldable ofRun1 : Unit {0}
+unfolding runMachine.put runMachine.goto runMachine.answered runMachine.perform runMachine.step runMachine.wayOf runMachine.logOf runProgram.slotsFrom runProgram.slotsOf runProgram.givenRanges runProgram.constantWord runProgram.unaryWord runProgram.binaryWord runProgram.recordedMetadata runProgram.event runProgram.actBy runProgram.hasMeaning runProgram.classIn runProgram.nodeBy runProgram.programOf
+ofRun1 = tt
+
 unfoldable pub ofRun : Unit {0}
-unfolding runSystem.after runMachine.put runMachine.goto runMachine.answered runMachine.perform runMachine.step runMachine.wayOf runMachine.logOf runProgram.slotsFrom runProgram.slotsOf runProgram.givenRanges runProgram.constantWord runProgram.unaryWord runProgram.binaryWord runProgram.recordedMetadata runProgram.event runProgram.actBy runProgram.hasMeaning runProgram.classIn runProgram.nodeBy runProgram.programOf
+unfolding ofRun1 runReturned.givenFunction runReturned.resultFunction runReturned.outputFunction runReturned.PreservesRuns
 ofRun = tt
 
 -- of a pass and the cleaning; of runs too
