@@ -18,6 +18,7 @@ use optimize::Answer;
 use optimize::parts;
 use unit::result;
 use unit::section;
+use unit::size;
 
 // The pass on the code and metadata of a result, and the unit's other sections.
 fn work(
@@ -34,7 +35,7 @@ fn work(
     let metadata = result::metadata_at(k);
     let places = result::places_at(k);
     parts::optimize(
-        &from[16..metadata],
+        &from[size::RESULT_HEADER..metadata],
         &from[metadata..places],
         section::types(unit),
         section::constants(unit),
@@ -55,7 +56,11 @@ fn place(from: &[u8], to: &mut [u8], k: usize, j: usize)
 {
     let old = result::places_at(k);
     let new = result::places_at(j);
-    buffer::compose(&from[old..old + 4 * k], &mut to[new..new + 4 * j], j);
+    buffer::compose(
+        &from[old..old + size::PLACE * k],
+        &mut to[new..new + size::PLACE * j],
+        j,
+    );
 }
 
 // "n under 2" is unchanged; what the pass rewrote has old places in the given unit. What the work buffers hold then is free.

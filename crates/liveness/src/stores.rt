@@ -18,6 +18,9 @@ use crate::sweep;
 use unit::size;
 use words::fill;
 
+// "liveness work passes 16,777,216"
+const MAX_WORK: usize = 16777216;
+
 // One set behind the code's n words, and three for each block.
 fn laid_out(n: usize, w: usize, count: usize) -> SetLayout
     requires { ⌜ n + w + 3 * (w * count) < 2 ^ 64 ⌝ }
@@ -72,7 +75,7 @@ fn drop_stores(
         sets,
         &table[n..starts],
         &table[starts..flags],
-        16777216 / size,
+        MAX_WORK / size,
     ) {
         return;
     }
@@ -108,7 +111,7 @@ pub fn drop_dead_stores(
     if w == 0 {
         return;
     }
-    if w * count > 2097152 {
+    if w * count > size::MAX_SET_WORDS {
         return;
     }
     let sets = laid_out(n, w, count);

@@ -24,7 +24,7 @@ pub fn is_skipped(c: Counts) -> bool
     if c.instructions < 2 {
         return true;
     }
-    if c.instructions > 65536 {
+    if c.instructions > size::MAX_INSTRUCTIONS {
         return true;
     }
     c.defer == 1

@@ -16,8 +16,10 @@ use unit::Metadata;
 use unit::Offsets;
 use unit::SelectCase;
 use unit::entry;
+use unit::field;
 use unit::refusal;
 use unit::section;
+use unit::size;
 use words::le;
 
 fn counts(unit: &[u8]) -> Counts
@@ -25,15 +27,15 @@ fn counts(unit: &[u8]) -> Counts
     ensures { λ r. ⌜ r ≡ headerOf (now (unit .entry)) .counts ⌝ }
 {
     Counts {
-        instructions: section::word(unit, 0),
-        metadata: section::word(unit, 4),
-        locals: section::word(unit, 8),
-        types: section::word(unit, 12),
-        defer: section::word(unit, 16),
-        constants: section::word(unit, 20),
-        functions: section::word(unit, 24),
-        externs: section::word(unit, 28),
-        cases: section::word(unit, 32),
+        instructions: section::word(unit, field::INSTRUCTIONS),
+        metadata: section::word(unit, field::METADATA),
+        locals: section::word(unit, field::LOCALS),
+        types: section::word(unit, field::TYPES),
+        defer: section::word(unit, field::DEFER),
+        constants: section::word(unit, field::CONSTANTS),
+        functions: section::word(unit, field::FUNCTIONS),
+        externs: section::word(unit, field::EXTERNS),
+        cases: section::word(unit, field::CASES),
     }
 }
 
@@ -42,13 +44,13 @@ fn offsets(unit: &[u8]) -> Offsets
     ensures { λ r. ⌜ r ≡ headerOf (now (unit .entry)) .offsets ⌝ }
 {
     Offsets {
-        code: section::word(unit, 36),
-        metadata: section::word(unit, 40),
-        types: section::word(unit, 44),
-        constants: section::word(unit, 48),
-        functions: section::word(unit, 52),
-        externs: section::word(unit, 56),
-        cases: section::word(unit, 60),
+        code: section::word(unit, field::CODE_AT),
+        metadata: section::word(unit, field::METADATA_AT),
+        types: section::word(unit, field::TYPES_AT),
+        constants: section::word(unit, field::CONSTANTS_AT),
+        functions: section::word(unit, field::FUNCTIONS_AT),
+        externs: section::word(unit, field::EXTERNS_AT),
+        cases: section::word(unit, field::CASES_AT),
     }
 }
 
@@ -74,21 +76,58 @@ fn sections_follow(unit: &[u8]) -> bool
     requires { ⌜ headerSize ≤ length (now unit) ⌝ }
     ensures { λ r. ⌜ r ≡ sectionsFollow (headerOf (now (unit .entry))) (length (now (unit .entry))) ⌝ }
 {
-    (section::word(unit, 36) == 64)
-        & meets(unit, 36, 0, 8, 40)
-        & meets(unit, 40, 4, 16, 44)
-        & meets(unit, 44, 12, 1, 48)
-        & meets(unit, 48, 20, 16, 52)
-        & meets(unit, 52, 24, 4, 56)
-        & meets(unit, 56, 28, 2, 60)
-        & (unit.len() == section::past(unit, 60, 32, 8))
+    (section::word(unit, field::CODE_AT) == size::HEADER)
+        & meets(
+            unit,
+            field::CODE_AT,
+            field::INSTRUCTIONS,
+            size::INSTRUCTION,
+            field::METADATA_AT,
+        )
+        & meets(
+            unit,
+            field::METADATA_AT,
+            field::METADATA,
+            size::METADATA,
+            field::TYPES_AT,
+        )
+        & meets(
+            unit,
+            field::TYPES_AT,
+            field::TYPES,
+            size::TYPE,
+            field::CONSTANTS_AT,
+        )
+        & meets(
+            unit,
+            field::CONSTANTS_AT,
+            field::CONSTANTS,
+            size::CONSTANT,
+            field::FUNCTIONS_AT,
+        )
+        & meets(
+            unit,
+            field::FUNCTIONS_AT,
+            field::FUNCTIONS,
+            size::FUNCTION,
+            field::EXTERNS_AT,
+        )
+        & meets(
+            unit,
+            field::EXTERNS_AT,
+            field::EXTERNS,
+            size::EXTERN,
+            field::CASES_AT,
+        )
+        & (unit.len() == section::past(unit, field::CASES_AT, field::CASES, size::CASE))
 }
 
 fn good_counts(unit: &[u8]) -> bool
     requires { ⌜ headerSize ≤ length (now unit) ⌝ }
     ensures { λ r. ⌜ r ≡ goodCounts (headerOf (now (unit .entry))) ⌝ }
 {
-    (section::word(unit, 8) <= 65535) & (section::word(unit, 16) <= 1)
+    (section::word(unit, field::LOCALS) <= size::MAX_LOCALS)
+        & (section::word(unit, field::DEFER) <= 1)
 }
 
 // A kind of 0 to 15, an ok flag, and a select's cases within the section of cases.
@@ -192,17 +231,20 @@ fn good_entries(unit: &[u8]) -> bool
     requires { ⌜ Sections (headerOf (now unit)) (length (now unit)) ⌝ }
     ensures { λ r. ⌜ r ≡ goodEntries (now (unit .entry)) ⌝ }
 {
-    let cases = section::word(unit, 32);
-    every_metadata(section::part(unit, 40, 4, 16), cases)
-        & every_type(section::part(unit, 44, 12, 1))
-        & every_constant(section::part(unit, 48, 20, 16))
-        & every_case(section::part(unit, 60, 32, 8))
+    let cases = section::word(unit, field::CASES);
+    every_metadata(
+        section::part(unit, field::METADATA_AT, field::METADATA, size::METADATA),
+        cases,
+    )
+        & every_type(section::part(unit, field::TYPES_AT, field::TYPES, size::TYPE))
+        & every_constant(section::part(unit, field::CONSTANTS_AT, field::CONSTANTS, size::CONSTANT))
+        & every_case(section::part(unit, field::CASES_AT, field::CASES, size::CASE))
 }
 
 fn is_unit(unit: &[u8]) -> bool
     ensures { λ r. ⌜ r ≡ isUnit (now (unit .entry)) ⌝ }
 {
-    if unit.len() < 64 {
+    if unit.len() < size::HEADER {
         return false;
     }
     if !sections_follow(unit) {

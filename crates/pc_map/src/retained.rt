@@ -18,6 +18,7 @@ use crate::relocation;
 use instruction::Instruction;
 use unit::entry;
 use unit::result;
+use unit::size;
 use words::le;
 
 // The instruction of place p, from byte `at` on.
@@ -36,7 +37,13 @@ fn write_code(words: &[u64], bounds: &[u32], kept: &[u32], out: &mut [u8])
     let k = kept.len();
     let mut q: usize = 0;
     while q < k {
-        write_instruction(words, bounds, kept[q] as usize, out, 16 + 8 * q);
+        write_instruction(
+            words,
+            bounds,
+            kept[q] as usize,
+            out,
+            size::RESULT_HEADER + size::INSTRUCTION * q,
+        );
         q += 1;
     }
 }
@@ -66,7 +73,14 @@ fn write_metadata(
     let k = kept.len();
     let mut q: usize = 0;
     while q < k {
-        write_entry(words, metadata, bounds, kept[q] as usize, out, a + 16 * q);
+        write_entry(
+            words,
+            metadata,
+            bounds,
+            kept[q] as usize,
+            out,
+            a + size::METADATA * q,
+        );
         q += 1;
     }
 }
@@ -79,7 +93,7 @@ fn write_places(kept: &[u32], out: &mut [u8], a: usize)
     let k = kept.len();
     let mut q: usize = 0;
     while q < k {
-        le::write_u32(out, a + 4 * q, kept[q]);
+        le::write_u32(out, a + size::PLACE * q, kept[q]);
         q += 1;
     }
 }

@@ -72,6 +72,8 @@ put g w σ s = cond (g s) (w s) (σ s)
 unfoldable pub goto : Node → ℕ → Bool → ℕ
 goto N p branch = cond branch (N .target) (suc p)
 
+-- A reply says whether the step branches, "ForLoop's way". Every other outside instruction has the next place for its target
+-- (`targetBy` of flow/specs/Branch), so that the way plays no part in it.
 unfoldable pub answered : Node → ℕ → Words → List Event → Reply → State
 answered N p σ R (words w branch) = at (goto N p branch) (put (N .gives) w σ) R
 answered N p σ R finish = over byReply R

@@ -10,13 +10,14 @@ use crate::Constant;
 use crate::Extern;
 use crate::Metadata;
 use crate::SelectCase;
+use crate::size;
 use words::le;
 
 pub fn metadata(section: &[u8], k: usize) -> Metadata
     requires { ⌜ metadataSize * k + metadataSize ≤ length (now section) ⌝ }
     ensures { λ r. ⌜ r ≡ metadataAt (now (section .entry)) k ⌝ }
 {
-    let at = 16 * k;
+    let at = size::METADATA * k;
     Metadata {
         kind: section[at],
         ok: section[at + 1],
@@ -54,8 +55,8 @@ fn constant_of(kind: u8, value: u64) -> Constant
 pub fn constant(section: &[u8], k: usize) -> Constant
     ensures { λ r. ⌜ r ≡ constantAt (now (section .entry)) k ⌝ }
 {
-    if k < section.len() / 16 {
-        let at = 16 * k;
+    if k < section.len() / size::CONSTANT {
+        let at = size::CONSTANT * k;
         constant_of(section[at], le::read_u64(section, at + 8))
     } else {
         Constant::Missing
@@ -65,8 +66,8 @@ pub fn constant(section: &[u8], k: usize) -> Constant
 pub fn function(section: &[u8], k: usize) -> Callee
     ensures { λ r. ⌜ r ≡ functionAt (now (section .entry)) k ⌝ }
 {
-    if k < section.len() / 4 {
-        let at = 4 * k;
+    if k < section.len() / size::FUNCTION {
+        let at = size::FUNCTION * k;
         Callee::Slots(le::read_u16(section, at), le::read_u16(section, at + 2))
     } else {
         Callee::Missing
@@ -76,8 +77,8 @@ pub fn function(section: &[u8], k: usize) -> Callee
 pub fn extern_of(section: &[u8], k: usize) -> Extern
     ensures { λ r. ⌜ r ≡ externAt (now (section .entry)) k ⌝ }
 {
-    if k < section.len() / 2 {
-        Extern::Returns(le::read_u16(section, 2 * k))
+    if k < section.len() / size::EXTERN {
+        Extern::Returns(le::read_u16(section, size::EXTERN * k))
     } else {
         Extern::Missing
     }
@@ -87,7 +88,7 @@ pub fn select_case(section: &[u8], k: usize) -> SelectCase
     requires { ⌜ caseSize * k + caseSize ≤ length (now section) ⌝ }
     ensures { λ r. ⌜ r ≡ caseAt (now (section .entry)) k ⌝ }
 {
-    let at = 8 * k;
+    let at = size::CASE * k;
     SelectCase {
         kind: section[at],
         ok: section[at + 1],

@@ -5,20 +5,24 @@ ghost use lib.ListN.{length};
 ghost use borrow.Rule.Slice.PartMut.{putMid};
 ghost use Rattle.unit.specs.Size.{maxInstructions, resultHeaderSize};
 ghost use Rattle.unit.specs.Result.{resultHeader, resultMetadataAt, resultPlacesAt};
+use crate::size;
 use words::le;
+
+// The code stands behind the header.
+const CODE_AT: u32 = size::RESULT_HEADER as u32;
 
 pub fn metadata_at(k: usize) -> usize
     requires { ⌜ k ≤ maxInstructions ⌝ }
     ensures { λ r. ⌜ r ≡ resultMetadataAt k ⌝ }
 {
-    16 + 8 * k
+    size::RESULT_HEADER + size::INSTRUCTION * k
 }
 
 pub fn places_at(k: usize) -> usize
     requires { ⌜ k ≤ maxInstructions ⌝ }
     ensures { λ r. ⌜ r ≡ resultPlacesAt k ⌝ }
 {
-    metadata_at(k) + 16 * k
+    metadata_at(k) + size::METADATA * k
 }
 
 // The header of a result of k instructions.
@@ -27,7 +31,7 @@ pub fn write_header(out: &mut [u8], k: usize)
     ensures { λ _. ⌜ now (out .exit) ≡ putMid 0 resultHeaderSize (now (out .entry)) (resultHeader k) ⌝ }
 {
     le::write_u32(out, 0, k as u32);
-    le::write_u32(out, 4, 16);
+    le::write_u32(out, 4, CODE_AT);
     le::write_u32(out, 8, metadata_at(k) as u32);
     le::write_u32(out, 12, places_at(k) as u32);
 }

@@ -7,6 +7,8 @@ ghost use borrow.Rule.Slice.PartMut.{midOf};
 ghost use Rattle.words.specs.Le.{u32At};
 ghost use Rattle.unit.specs.Size.{headerSize};
 ghost use Rattle.unit.specs.Layout.{isUnit, codeOf, metadataOf, typesOf, constantsOf, functionsOf, externsOf, casesOf};
+use crate::field;
+use crate::size;
 use words::le;
 
 // The header's number at a byte.
@@ -39,47 +41,47 @@ pub fn code(unit: &[u8]) -> &[u8]
     requires { ⌜ isUnit (now unit) ≡ true ⌝ }
     ensures { λ r. ⌜ now r ≡ codeOf (now (unit .entry)) ⌝ }
 {
-    part(unit, 36, 0, 8)
+    part(unit, field::CODE_AT, field::INSTRUCTIONS, size::INSTRUCTION)
 }
 
 pub fn metadata(unit: &[u8]) -> &[u8]
     requires { ⌜ isUnit (now unit) ≡ true ⌝ }
     ensures { λ r. ⌜ now r ≡ metadataOf (now (unit .entry)) ⌝ }
 {
-    part(unit, 40, 4, 16)
+    part(unit, field::METADATA_AT, field::METADATA, size::METADATA)
 }
 
 pub fn types(unit: &[u8]) -> &[u8]
     requires { ⌜ isUnit (now unit) ≡ true ⌝ }
     ensures { λ r. ⌜ now r ≡ typesOf (now (unit .entry)) ⌝ }
 {
-    part(unit, 44, 12, 1)
+    part(unit, field::TYPES_AT, field::TYPES, size::TYPE)
 }
 
 pub fn constants(unit: &[u8]) -> &[u8]
     requires { ⌜ isUnit (now unit) ≡ true ⌝ }
     ensures { λ r. ⌜ now r ≡ constantsOf (now (unit .entry)) ⌝ }
 {
-    part(unit, 48, 20, 16)
+    part(unit, field::CONSTANTS_AT, field::CONSTANTS, size::CONSTANT)
 }
 
 pub fn functions(unit: &[u8]) -> &[u8]
     requires { ⌜ isUnit (now unit) ≡ true ⌝ }
     ensures { λ r. ⌜ now r ≡ functionsOf (now (unit .entry)) ⌝ }
 {
-    part(unit, 52, 24, 4)
+    part(unit, field::FUNCTIONS_AT, field::FUNCTIONS, size::FUNCTION)
 }
 
 pub fn externs(unit: &[u8]) -> &[u8]
     requires { ⌜ isUnit (now unit) ≡ true ⌝ }
     ensures { λ r. ⌜ now r ≡ externsOf (now (unit .entry)) ⌝ }
 {
-    part(unit, 56, 28, 2)
+    part(unit, field::EXTERNS_AT, field::EXTERNS, size::EXTERN)
 }
 
 pub fn cases(unit: &[u8]) -> &[u8]
     requires { ⌜ isUnit (now unit) ≡ true ⌝ }
     ensures { λ r. ⌜ now r ≡ casesOf (now (unit .entry)) ⌝ }
 {
-    part(unit, 60, 32, 8)
+    part(unit, field::CASES_AT, field::CASES, size::CASE)
 }

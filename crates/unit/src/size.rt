@@ -1,13 +1,44 @@
-// The lengths of the buffers that a caller lends.
+// Sizes of the layout, limits, and the lengths of the buffers that a caller lends.
 ghost use mathlib.Core.Path.{_≡_};
 ghost use Prim.Native.Nat.{_^_, _≤_, _<_, min};
 ghost use Rattle.unit.specs.Size.{outputRoom, work32Room, setWords, work64Room, maxLocalSlots};
+
+// Bytes of the header and of one entry of each section.
+pub const HEADER: usize = 64;
+
+pub const INSTRUCTION: usize = 8;
+
+pub const METADATA: usize = 16;
+
+pub const TYPE: usize = 1;
+
+pub const CONSTANT: usize = 16;
+
+pub const FUNCTION: usize = 4;
+
+pub const EXTERN: usize = 2;
+
+pub const CASE: usize = 8;
+
+// Bytes of the result's header, of one old place, and of all that a retained instruction takes.
+pub const RESULT_HEADER: usize = 16;
+
+pub const PLACE: usize = 4;
+
+pub const RETAINED: usize = INSTRUCTION + METADATA + PLACE;
+
+// The largest function that is worked on, the largest number of local slots, and the most words of sets over all blocks.
+pub const MAX_INSTRUCTIONS: usize = 65536;
+
+pub const MAX_LOCALS: usize = 65535;
+
+pub const MAX_SET_WORDS: usize = 2097152;
 
 pub fn output_room(n: usize) -> usize
     requires { ⌜ n < 2 ^ 32 ⌝ }
     ensures { λ r. ⌜ r ≡ outputRoom n ⌝ }
 {
-    16 + 28 * n
+    RESULT_HEADER + RETAINED * n
 }
 
 pub fn work32_room(n: usize) -> usize
@@ -40,6 +71,6 @@ pub fn work64_room(n: usize, s: usize) -> usize
     if w == 0 {
         24 * n + 4 * s
     } else {
-        24 * n + 4 * s + w + 3 * w * lesser(n, 2097152 / w)
+        24 * n + 4 * s + w + 3 * w * lesser(n, MAX_SET_WORDS / w)
     }
 }

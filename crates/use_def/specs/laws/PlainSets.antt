@@ -80,9 +80,9 @@ alike-refl : (i : Instruction) (m : Metadata) → SameRanges i m m
 alike-refl i m = record { reads = λ T. refl; writes = λ T. refl; cases = λ l f. f }
 
 -- the metadata of place p, or of place 0 where the opcode is plain
-pub told-alike : (i : Instruction) (l : List ℕ) (p at : ℕ) (when : Bool) (m : Metadata) → when ≡ isPlain (i .op) (rowOf (i .op)) → at ≡ cond (not when) p 0
+pub same-ranges : (i : Instruction) (l : List ℕ) (p at : ℕ) (when : Bool) (m : Metadata) → when ≡ isPlain (i .op) (rowOf (i .op)) → at ≡ cond (not when) p 0
     → m ≡ metadataAt l at → SameRanges i m (metadataAt l p)
-told-alike i l p at when m e a d = rw (d, a) (go when e)
+same-ranges i l p at when m e a d = rw (d, a) (go when e)
   where
     go : (t : Bool) → t ≡ isPlain (i .op) (rowOf (i .op)) → SameRanges i (metadataAt l (cond (not t) p 0)) (metadataAt l p)
     go true q = plain-alike i (metadataAt l 0) (metadataAt l p) (sym q)
