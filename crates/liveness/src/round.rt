@@ -10,7 +10,7 @@ ghost use Rattle.liveness.specs.Live.{Row};
 ghost use Rattle.liveness.specs.laws.SetMemory.{Ready, InRows, codeWords, usesOf, preservedOf, liveOf};
 ghost use Rattle.words.specs.laws.Only.{Only};
 ghost use Rattle.liveness.specs.laws.Rounding.{Around, Rounded};
-ghost use Rattle.liveness.specs.laws.Solving.{Solved};
+ghost use Rattle.liveness.specs.laws.Solving.{Solves};
 ghost use Rattle.liveness.specs.laws.Visit.{Visited};
 use crate::SetLayout;
 use crate::out;
@@ -65,7 +65,7 @@ pub fn solve(
     limit: usize,
 ) -> bool
     requires { ⌜ Ready sets (now memory) (now blocks) (now starts) ⌝ }
-    ensures { λ r. ⌜ ((S : Sections) (leaders keep metadata : List ℕ) (rows : List Row) → Around S leaders keep (cellsBy (codeWords sets (now (memory .entry))) metadata) (sets .width) (sets .count) rows (now (blocks .entry)) (now (starts .entry)) (usesOf sets (now (memory .entry))) (preservedOf sets (now (memory .entry))) (liveOf sets (now (memory .entry))) → Solved S leaders keep (cellsBy (codeWords sets (now (memory .entry))) metadata) (sets .width) limit rows (liveOf sets (now (memory .exit))) r) × (codeWords sets (now (memory .exit)) ≡ codeWords sets (now (memory .entry))) × (usesOf sets (now (memory .exit)) ≡ usesOf sets (now (memory .entry))) × (preservedOf sets (now (memory .exit)) ≡ preservedOf sets (now (memory .entry))) ⌝ }
+    ensures { λ r. ⌜ Solves sets (now (memory .entry)) (now (blocks .entry)) (now (starts .entry)) limit (now (memory .exit)) r ⌝ }
 {
     let mut k = limit;
     while k > 0 {

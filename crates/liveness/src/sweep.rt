@@ -18,7 +18,7 @@ ghost use Rattle.liveness.specs.Dead.{sweepFrom};
 ghost use Rattle.liveness.specs.laws.SetMemory.{LayoutFits, Coded, Sweepable, codeWords, rowOf, liveOf, leadersOf, blocksOf, flagsAt, flagsOf};
 ghost use Rattle.words.specs.laws.Only.{At, Only};
 ghost use Rattle.liveness.specs.laws.Sweeping.{Entered, Swept};
-ghost use Rattle.liveness.specs.laws.Sweep.{Grounds, sections};
+ghost use Rattle.liveness.specs.laws.Sweep.{Sweeps};
 use crate::SetLayout;
 use crate::out;
 use effects::branching;
@@ -111,7 +111,7 @@ pub fn sweep(
     cases: &[u8],
 )
     requires { ⌜ Sweepable sets (tablesOf (now functions) (now externs) (now cases)) (now memory) (now metadata) (now types) (now table) × (0 < sets .width) ⌝ }
-    ensures { λ _. ⌜ ((locals : ℕ) (constants : List ℕ) (rows : List Row) → Grounds (sections locals (now (types .entry)) constants (tablesOf (now (functions .entry)) (now (externs .entry)) (now (cases .entry)))) (leadersOf (sets .code) (now (table .entry))) (flagsOf (sets .code) (now (table .entry))) (cellsBy (codeWords sets (now (memory .entry))) (now (metadata .entry))) rows (sets .width) (blocksOf (sets .code) (now (table .entry))) (liveOf sets (now (memory .entry))) → flagsOf (sets .code) (now (table .exit)) ≡ sweepFrom (sections locals (now (types .entry)) constants (tablesOf (now (functions .entry)) (now (externs .entry)) (now (cases .entry)))) (length (cellsBy (codeWords sets (now (memory .entry))) (now (metadata .entry)))) (leadersOf (sets .code) (now (table .entry))) (flagsOf (sets .code) (now (table .entry))) rows 0 (cellsBy (codeWords sets (now (memory .entry))) (now (metadata .entry))) .keep) × (now (table .exit) ≡ putMid (flagsAt (sets .code)) (sets .code) (now (table .entry)) (flagsOf (sets .code) (now (table .exit)))) × (codeWords sets (now (memory .exit)) ≡ codeWords sets (now (memory .entry))) ⌝ }
+    ensures { λ _. ⌜ Sweeps sets (now (memory .entry)) (now (metadata .entry)) (now (types .entry)) (tablesOf (now (functions .entry)) (now (externs .entry)) (now (cases .entry))) (now (table .entry)) (now (memory .exit)) (now (table .exit)) ⌝ }
 {
     let n = sets.code;
     let flags = 3 * n + 1;

@@ -14,7 +14,7 @@ ghost use Rattle.values.specs.laws.Folded.{expressionOf};
 ghost use Rattle.values.specs.laws.Memory.{memoryOf, keyAtom, constantKey, expressionKey, limit, expressionAt, atomIn, endAt, Ready};
 ghost use Rattle.values.specs.laws.Entries.{key, bucketOf, headAt};
 ghost use Rattle.values.specs.laws.Promises.{Clears};
-ghost use Rattle.numbering.specs.laws.Walk.{wordOf, Stands, Becomes, Room, Coded, Second, secondNumber, foldBy, binaryClass, operatorClass, onZero, atomOf, KindOf, operated, scalarIn, pureBy, undecidedBy, takes, otherBy, sectionsWith, Begins, Enters, Turns, Numberable};
+ghost use Rattle.numbering.specs.laws.Walk.{wordOf, Stands, Becomes, Room, Coded, Second, secondNumber, foldBy, binaryClass, operatorClass, onZero, atomOf, KindOf, operated, scalarIn, pureBy, undecidedBy, takes, otherBy, sectionsWith, Begins, Enters, Turns, Numberable, limitAt, expressionWith};
 ghost use Rattle.values.specs.laws.Named.{Named};
 ghost use Rattle.instruction.specs.declared.Class.the-variants.{Return};
 ghost use Rattle.values.specs.declared.Atom.the-variants.{Definition};
@@ -100,7 +100,7 @@ fn define(
     word: u64,
 ) -> Instruction
     requires { ⌜ Room n (length (now types)) (now t) × (i .a < length (now types)) × (p < n) × (b ≡ bucketOf n (key word 0)) × (b < n) × (first ≡ headAt (memoryOf n (length (now types)) (now t) .expressionTable) (memoryOf n (length (now types)) (now t) .epoch) b) × Coded n (length (now types)) (memoryOf n (length (now types)) (now t)) word × (expressionAt n (length (now types)) (memoryOf n (length (now types)) (now t)) (key word 0) ≡ Nothing) ⌝ }
-    ensures { λ r. ⌜ ((op flags left right : ℕ) → op < 256 → flags < 256 → left < limit n (length (now (types .entry))) (memoryOf n (length (now (types .entry))) (now (t .entry))) → right < limit n (length (now (types .entry))) (memoryOf n (length (now (types .entry))) (now (t .entry))) → key word 0 ≡ expressionKey op flags left right → Becomes n (now (types .entry)) 0 0 1 (now (t .entry)) r (now (t .exit)) (λ dest constants. Stands n p i dest) (λ dest S x. storedBy S i (learn x (expressionOf op flags (atomIn n (length (now (types .entry))) dest (memoryOf n (length (now (types .entry))) (now (t .entry))) left) (atomIn n (length (now (types .entry))) dest (memoryOf n (length (now (types .entry))) (now (t .entry))) right)) (Definition p (i .a))) (Definition p (i .a)))) ⌝ }
+    ensures { λ r. ⌜ ((op flags left right : ℕ) → op < 256 → flags < 256 → left < limitAt n (now (types .entry)) (now (t .entry)) → right < limitAt n (now (types .entry)) (now (t .entry)) → key word 0 ≡ expressionKey op flags left right → Becomes n (now (types .entry)) 0 0 1 (now (t .entry)) r (now (t .exit)) (λ dest constants. Stands n p i dest) (λ dest S x. storedBy S i (learn x (expressionWith n (now (types .entry)) (now (t .entry)) dest op flags left right) (Definition p (i .a))) (Definition p (i .a)))) ⌝ }
 {
     let locals = types.len();
     let d = (locals + (p as usize)) as u64;
@@ -119,7 +119,7 @@ fn by_expression(
     right: u64,
 ) -> Instruction
     requires { ⌜ Room n (length (now types)) (now t) × (i .a < length (now types)) × (p < n) × (left < limit n (length (now types)) (memoryOf n (length (now types)) (now t))) × (right < limit n (length (now types)) (memoryOf n (length (now types)) (now t))) ⌝ }
-    ensures { λ r. ⌜ Becomes n (now (types .entry)) 0 0 1 (now (t .entry)) r (now (t .exit)) (λ dest constants. Stands n p i dest) (λ dest S x. byExpression S p i x (expressionOf (i .op) (i .flags) (atomIn n (length (now (types .entry))) dest (memoryOf n (length (now (types .entry))) (now (t .entry))) left) (atomIn n (length (now (types .entry))) dest (memoryOf n (length (now (types .entry))) (now (t .entry))) right)) (expressionIn (x .expressions) (expressionOf (i .op) (i .flags) (atomIn n (length (now (types .entry))) dest (memoryOf n (length (now (types .entry))) (now (t .entry))) left) (atomIn n (length (now (types .entry))) dest (memoryOf n (length (now (types .entry))) (now (t .entry))) right)))) ⌝ }
+    ensures { λ r. ⌜ Becomes n (now (types .entry)) 0 0 1 (now (t .entry)) r (now (t .exit)) (λ dest constants. Stands n p i dest) (λ dest S x. byExpression S p i x (expressionWith n (now (types .entry)) (now (t .entry)) dest (i .op) (i .flags) left right) (expressionIn (x .expressions) (expressionWith n (now (types .entry)) (now (t .entry)) dest (i .op) (i .flags) left right))) ⌝ }
 {
     let word = expression_word(i.op, i.flags, left, right);
     let b = entries::bucket(n, word, 0);
@@ -142,7 +142,7 @@ fn by_value(
     folded: Folded,
 ) -> Instruction
     requires { ⌜ Room n (length (now types)) (now t) × (i .a < length (now types)) × (p < n) × (left < limit n (length (now types)) (memoryOf n (length (now types)) (now t))) × (right < limit n (length (now types)) (memoryOf n (length (now types)) (now t))) ⌝ }
-    ensures { λ r. ⌜ Becomes n (now (types .entry)) 0 1 1 (now (t .entry)) r (now (t .exit)) (λ dest constants. Stands n p i dest) (λ dest S x. byValue S p i x (expressionOf (i .op) (i .flags) (atomIn n (length (now (types .entry))) dest (memoryOf n (length (now (types .entry))) (now (t .entry))) left) (atomIn n (length (now (types .entry))) dest (memoryOf n (length (now (types .entry))) (now (t .entry))) right)) (wordOf folded)) ⌝ }
+    ensures { λ r. ⌜ Becomes n (now (types .entry)) 0 1 1 (now (t .entry)) r (now (t .exit)) (λ dest constants. Stands n p i dest) (λ dest S x. byValue S p i x (expressionWith n (now (types .entry)) (now (t .entry)) dest (i .op) (i .flags) left right) (wordOf folded)) ⌝ }
 {
     match folded {
         Folded::Word(v) => store_constant(t, types, n, load_or_stay(i, v), 0, v),

@@ -8,11 +8,14 @@ use Prim.Native.Nat.{ℕ, suc, _-_, _<_}
 use native.Mathlib.Omega.{arith}
 use lib.ListN.{length}
 use Rattle.effects.specs.Shape.{Sections, Cell}
+use Rattle.effects.specs.laws.Cells.{cellsBy}
 use Rattle.flow.specs.Block.{blockCount}
 use Rattle.liveness.specs.Live.{Row, noRow, roundFrom, solveIn, sameRows}
 use Rattle.liveness.specs.laws.Rows.{Wide, round-wide}
 use Rattle.liveness.specs.laws.Shown.{Shown}
 use Rattle.liveness.specs.laws.Rounding.{Around, Rounded, rows-long}
+use Rattle.liveness.specs.laws.SetMemory.{codeWords, usesOf, preservedOf, liveOf}
+use Rattle.liveness.specs.declared.SetLayout.{SetLayout}
 
 -- rows are found, and shown
 pub record Found (S : Sections) (leaders keep : List ℕ) (cells : List Cell) (w limit : ℕ) (rows : List Row) (live : List ℕ) : Type 0 where
@@ -85,3 +88,13 @@ module _ (S : Sections) (leaders keep : List ℕ) (cells : List Cell) (w count l
   pub solving-none : (live : List ℕ) (k : ℕ) → k ≡ 0 → Solving S leaders keep cells w count limit rows blocks starts uses preserved live k → Solved S leaders keep cells w limit rows live false
   unfolding solveIn
   solving-none live k e s = record { yes = λ q. absurd (false≢true q); no = λ q. s .left ∙ rw e }
+
+-- what `solve` promises: rounds over the rows that the memory holds, of a function with any sections; code and block sets stay
+abbrev pub Solves : SetLayout → List ℕ → List ℕ → List ℕ → ℕ → List ℕ → Bool → Type 0
+Solves sets memory blocks starts limit memory′ r =
+    ((S : Sections) (leaders keep metadata : List ℕ) (rows : List Row)
+    → Around S leaders keep (cellsBy (codeWords sets memory) metadata) (sets .width) (sets .count) rows blocks starts (usesOf sets memory) (preservedOf sets memory) (liveOf sets memory)
+    → Solved S leaders keep (cellsBy (codeWords sets memory) metadata) (sets .width) limit rows (liveOf sets memory′) r)
+    × (codeWords sets memory′ ≡ codeWords sets memory)
+    × (usesOf sets memory′ ≡ usesOf sets memory)
+    × (preservedOf sets memory′ ≡ preservedOf sets memory)

@@ -11,6 +11,7 @@ use native.Mathlib.Omega.{arith}
 use lib.ListN.{length, getD, take, drop, List·getD-append}
 use lib.Seq.{drop-cons, drop-length, take-length, take-suc, append-snoc, set-at, getD-take, length-take-le}
 use borrow.Author.Tests.{eqb-true, eqb-false, eq-eqb}
+use borrow.Rule.Slice.PartMut.{putMid}
 use Rattle.words.specs.Lists.{tabulate}
 use Rattle.effects.specs.Shape.{Tables, Sections, Cell, cellAt, noCell}
 use Rattle.instruction.specs.Instruction.{ofWord}
@@ -32,6 +33,8 @@ use Rattle.liveness.specs.laws.Round.{not-touched}
 use Rattle.liveness.specs.laws.Out.{out-holds}
 use Rattle.liveness.specs.laws.Unread.{dead-by}
 use Rattle.liveness.specs.laws.Sweeping.{Entered, Swept}
+use Rattle.liveness.specs.laws.SetMemory.{codeWords, liveOf, leadersOf, blocksOf, flagsAt, flagsOf}
+use Rattle.liveness.specs.declared.SetLayout.{SetLayout}
 
 -- a row before an instruction, of one after it that a set holds
 before-holds : (T : Tables) (x : Cell) (s : ℕ) (r : Row) (l l′ : List ℕ) → length r ≡ s → Within s (allReads T x) → Holds l r → Before T x l l′ → Holds l′ (liveBefore T x r)
@@ -238,3 +241,13 @@ module _ (S : Sections) (leaders keep : List ℕ) (cells : List Cell) where
       go : (o : Option (List Row)) → length (withoutDead S leaders keep cells o) ≡ length cells
       go none = e
       go (some rows) = sweep-long rows 0 cells
+
+-- what `sweep` promises of the table's flags: they are what the definition's sweep makes of them; nothing else of the table changes
+abbrev pub Sweeps : SetLayout → List ℕ → List ℕ → List ℕ → Tables → List ℕ → List ℕ → List ℕ → Type 0
+Sweeps sets memory metadata types T table memory′ table′ =
+    ((locals : ℕ) (constants : List ℕ) (rows : List Row)
+    → Grounds (sections locals types constants T) (leadersOf (sets .code) table) (flagsOf (sets .code) table) (cellsBy (codeWords sets memory) metadata) rows (sets .width) (blocksOf (sets .code) table) (liveOf sets memory)
+    → flagsOf (sets .code) table′
+    ≡ sweepFrom (sections locals types constants T) (length (cellsBy (codeWords sets memory) metadata)) (leadersOf (sets .code) table) (flagsOf (sets .code) table) rows 0 (cellsBy (codeWords sets memory) metadata) .keep)
+    × (table′ ≡ putMid (flagsAt (sets .code)) (sets .code) table (flagsOf (sets .code) table′))
+    × (codeWords sets memory′ ≡ codeWords sets memory)

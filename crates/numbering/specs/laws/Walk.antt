@@ -20,7 +20,7 @@ use Rattle.values.specs.Values.{Values, Expression, Represented, empty, valueOf
 use Rattle.values.specs.laws.Folded.{expressionOf}
 use Rattle.values.specs.Number.{Numbered, isScalar, cleared, constantAtom, setBC, foldUnary, foldBinary, stored, byValue, numberUnary, numberBinary, numberCopy, numberConstant, numberRead, numberBy, number, numberFrom, numberCode}
 use Rattle.values.specs.laws.Entries.{key}
-use Rattle.values.specs.laws.Memory.{Memory, memoryOf, numberAt, keyAtom, constantKey, expressionKey, limit, Ready, Holds}
+use Rattle.values.specs.laws.Memory.{Memory, memoryOf, numberAt, keyAtom, constantKey, expressionKey, limit, Ready, Holds, atomIn}
 use Rattle.values.specs.laws.Promises.{Kept, Same}
 use Rattle.values.specs.laws.Named.{Named}
 use Rattle.values.specs.declared.Atom.{Atom}
@@ -63,6 +63,16 @@ foldBy false e = foldUnary e (e .left)
 unfoldable pub secondOf : List ℕ → Values → ℕ → Bool → Represented
 secondOf types t s true = representative types t s
 secondOf types t s false = record { slot = s; table = t }
+
+-- of the values in memory at t: how many numbers there are, the value with a number, and an instruction's expression
+abbrev pub limitAt : ℕ → List ℕ → List ℕ → ℕ
+limitAt n types t = limit n (length types) (memoryOf n (length types) t)
+
+abbrev pub atomAt : ℕ → List ℕ → List ℕ → (ℕ → ℕ) → ℕ → Atom
+atomAt n types t dest d = atomIn n (length types) dest (memoryOf n (length types) t) d
+
+abbrev pub expressionWith : ℕ → List ℕ → List ℕ → (ℕ → ℕ) → ℕ → ℕ → ℕ → ℕ → Expression
+expressionWith n types t dest op flags left right = expressionOf op flags (atomAt n types t dest left) (atomAt n types t dest right)
 
 -- the classes of two operands, of one or two, and of a jump on 0
 abbrev pub binaryClass : Class → Bool
