@@ -14,8 +14,7 @@ use Rattle.instruction.specs.Opcode as op
 use Rattle.instruction.specs.Instruction.{plain, withImm32}
 use Rattle.unit.specs.Entry.{typeValue}
 use Rattle.effects.specs.Shape.{Cell, tablesOf}
-use Rattle.run.specs.System.{System}
-use Rattle.run.specs.laws.System.{after}
+use Rattle.run.specs.System.{System, after}
 use Rattle.run.specs.Machine.{Words, Event, Way, byReturn, byPanic, byReply, byCode, words, World, State, step, wayOf, logOf, system, start, SameRuns}
 use Rattle.run.specs.Program.{Function, programOf}
 use Rattle.examples.specs.Computed.{runs}

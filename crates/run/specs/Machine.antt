@@ -8,8 +8,7 @@ use Prim.Native.Nat.{ℕ, suc}
 use lib.Dec.{ltb, eqb}
 use native.Mathlib.Omega.{arith}
 use Rattle.unit.specs.declared.Metadata.{Metadata}
-use Rattle.run.specs.System.{System}
-use Rattle.run.specs.laws.System.{Same}
+use Rattle.run.specs.System.{System, Same}
 
 -- the words of the slots, by the slot's number; those of 64 bits are among them
 abbrev pub Words : Type 0

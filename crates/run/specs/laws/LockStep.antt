@@ -7,7 +7,7 @@ use mathlib.Core.Option.{none, some}
 use Prim.Native.Nat.{ℕ, _<_}
 use lib.Dec.{ltb, ltb→lt}
 use native.Mathlib.Omega.{arith}
-use Rattle.run.specs.laws.System.{Same}
+use Rattle.run.specs.System.{Same}
 use Rattle.run.specs.laws.Simulation.{Sim, simulated}
 use Rattle.run.specs.Machine.{Words, Event, Way, World, Program, State, at, over, step, wayOf, logOf, system}
 

@@ -8,7 +8,7 @@ use Prim.Native.Nat.{ℕ, _+_, _-_, _≤_, _<_}
 use lib.Arith.{le→nltb}
 use lib.Dec.{ltb, eqb, T, ltb→lt, lt→ltb, nltb→le, eqb-refl}
 use native.Mathlib.Omega.{arith}
-use Rattle.run.specs.laws.System.{Same}
+use Rattle.run.specs.System.{Same}
 use Rattle.run.specs.laws.Simulation.{Sim, simulated}
 use Rattle.run.specs.Machine.{Words, Event, Way, byCode, World, Reply, words, finish, Act, silent, ask, stop, fail, Program, State, at, over, put, goto, answered, perform, step, wayOf, logOf, system}
 

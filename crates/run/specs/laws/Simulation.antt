@@ -6,8 +6,7 @@ use mathlib.Core.Option.{Option, none, some}
 use Prim.Native.Nat.{ℕ, zero, suc, _+_, _≤_, _<_, zero-le, suc-le-suc}
 use native.Mathlib.Nat.{le-refl, le-step, not-suc-le-zero, zero-add, suc-add}
 use native.Mathlib.Omega.{arith}
-use Rattle.run.specs.System.{System}
-use Rattle.run.specs.laws.System.{after, Same}
+use Rattle.run.specs.System.{System, after, Same}
 
 module _ {R W : Type 0} where
   -- What a simulation is. `move`: either both step, or the given one steps alone and its size goes down.
