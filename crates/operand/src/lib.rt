@@ -33,30 +33,21 @@ fn tested(op: u8, left: u64, wanted: u64, c: u64) -> Operand
 pub fn smallest(op: u8, left: u64, wanted: u64) -> Operand
     ensures { λ r. ⌜ RightOperand op left wanted r ⌝ }
 {
+    let holds = wanted == 1;
     match op {
         19 => tested(op, left, wanted, std::num::wrapping_sub_u64(wanted, left)),
         20 => tested(op, left, wanted, std::num::wrapping_sub_u64(left, wanted)),
         21 => product::factor(left, wanted),
-        32 => tested(op, left, wanted, comparison::equal(left, wanted == 1)),
-        33 => tested(op, left, wanted, comparison::equal(left, wanted != 1)),
-        34 => tested(op, left, wanted, comparison::signed_less(left, wanted == 1)),
-        35 => tested(op, left, wanted, comparison::less(left, wanted == 1)),
-        36 => tested(
-            op,
-            left,
-            wanted,
-            comparison::signed_greater(left, wanted != 1),
-        ),
-        37 => tested(op, left, wanted, comparison::at_most(left, wanted == 1)),
-        38 => tested(
-            op,
-            left,
-            wanted,
-            comparison::signed_greater(left, wanted == 1),
-        ),
-        39 => tested(op, left, wanted, comparison::at_most(left, wanted != 1)),
-        40 => tested(op, left, wanted, comparison::signed_less(left, wanted != 1)),
-        41 => tested(op, left, wanted, comparison::less(left, wanted != 1)),
+        32 => tested(op, left, wanted, comparison::equal(left, holds)),
+        33 => tested(op, left, wanted, comparison::equal(left, !holds)),
+        34 => tested(op, left, wanted, comparison::signed_less(left, holds)),
+        35 => tested(op, left, wanted, comparison::less(left, holds)),
+        36 => tested(op, left, wanted, comparison::signed_greater(left, !holds)),
+        37 => tested(op, left, wanted, comparison::at_most(left, holds)),
+        38 => tested(op, left, wanted, comparison::signed_greater(left, holds)),
+        39 => tested(op, left, wanted, comparison::at_most(left, !holds)),
+        40 => tested(op, left, wanted, comparison::signed_less(left, !holds)),
+        41 => tested(op, left, wanted, comparison::less(left, !holds)),
         48 => tested(op, left, wanted, wanted),
         49 => tested(op, left, wanted, std::num::wrapping_sub_u64(wanted, left)),
         50 => tested(op, left, wanted, left ^ wanted),
