@@ -91,6 +91,26 @@ lampruda_cleaned lampruda_clean(const uint8_t *unit, size_t unit_length, uint8_t
                                 uint32_t *work32, size_t work32_length, uint64_t *work64, size_t work64_length,
                                 uint8_t *first, size_t first_length, uint8_t *second, size_t second_length);
 
+/* What `kind` says of an operand. */
+enum {
+    LAMPRUDA_WORD = 0,       /* word is the smallest right word, unsigned */
+    LAMPRUDA_NONE = 1,       /* no right word does it; word is 0 */
+    LAMPRUDA_NOT_COVERED = 2 /* the opcode is none of the 17 below; word is 0 */
+};
+
+/* The right word that is asked for. */
+typedef struct {
+    uint32_t kind;
+    uint64_t word;
+} lampruda_right;
+
+/*
+ * An operand for a wanted outcome: the smallest right word, unsigned, for which an integer binary opcode gives the
+ * wanted word. The opcodes are AddI 19, SubI 20, MulI 21; EqI 32, NeI 33, LtI 34, LtU 35, LeI 36, LeU 37, GtI 38,
+ * GtU 39, GeI 40, GeU 41, which give 1 or 0; And 48, Or 49, Xor 50, AndNot 51. Sums and products wrap.
+ */
+lampruda_right lampruda_operand(uint8_t opcode, uint64_t left, uint64_t wanted);
+
 /* Word i of a unit's header. */
 static inline uint32_t lampruda_word(const uint8_t *unit, size_t i)
 {

@@ -3,7 +3,10 @@
 ghost use mathlib.Core.Path.{_≡_};
 ghost use Rattle.run.specs.Contract.{PassContract, CleanContract, buffers, spares};
 ghost use Rattle.host.specs.Numbers.{numbersOf, numbersOfOutcome, numbersOfCleaning};
+ghost use Rattle.host.specs.OperandNumbers.{OperandContract};
 use clean::clean;
+use operand::Operand;
+use operand::smallest;
 use optimize::Answer;
 use optimize::pass;
 
@@ -80,5 +83,25 @@ pub extern "C" fn lampruda_clean(
         number: n.number,
         place: n.place,
         passes,
+    }
+}
+
+// An operand in numbers: kind 0 the smallest right word; 1 no word does it; 2 the opcode is not covered.
+#[repr(C)]
+pub struct OperandNumbers {
+    pub kind: u32,
+    pub word: u64,
+}
+
+// An operand for a wanted outcome.
+#[no_mangle]
+pub extern "C" fn lampruda_operand(opcode: u8, left: u64, wanted: u64) -> OperandNumbers
+    ensures { λ r. ⌜ OperandContract opcode left wanted r ⌝ }
+{
+    let a = smallest(opcode, left, wanted);
+    match a {
+        Operand::Word(word) => OperandNumbers { kind: 0, word },
+        Operand::None => OperandNumbers { kind: 1, word: 0 },
+        Operand::NotCovered => OperandNumbers { kind: 2, word: 0 },
     }
 }

@@ -7,6 +7,7 @@ mod compare;
 mod fuzz;
 mod guarded;
 mod mutate;
+mod operand;
 mod options;
 mod parallel;
 mod table;
@@ -17,7 +18,8 @@ use std::process::ExitCode;
 
 const USAGE: &str = "usage: beside compare [--seed S] [--count N] [--profile NAME] [--small-world]
        beside bench [--seed S] [--longest N] [--svg FILE] | --unit FILE
-       beside fuzz [--seed S] [--count N] [--from INDEX] [--seconds T]";
+       beside fuzz [--seed S] [--count N] [--from INDEX] [--seconds T]
+       beside operand [--seed S] [--count N]";
 
 fn main() -> ExitCode {
     let arguments: Vec<String> = std::env::args().skip(1).collect();
@@ -26,6 +28,7 @@ fn main() -> ExitCode {
             "compare" => compare::run(options),
             "bench" => bench::run(options),
             "fuzz" => fuzz::run(options),
+            "operand" => operand::run(options),
             _ => Err(USAGE.into()),
         }),
         None => Err(USAGE.into()),

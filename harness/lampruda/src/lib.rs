@@ -20,12 +20,14 @@ mod fate;
 mod flow;
 mod lengths;
 mod lent;
+mod operand;
 mod passes;
 pub mod sys;
 
 pub use fate::{fates, Fate};
 pub use lengths::needed;
 pub use lent::Lent;
+pub use operand::{operand, Operand};
 pub use passes::{cleaned_fates, Pass};
 
 use unit::Lengths;

@@ -1,4 +1,4 @@
-//! The proved library's two functions, as `include/lampruda.h` declares them. Nothing checks one against the
+//! The proved library's functions, as `include/lampruda.h` declares them. Nothing checks one against the
 //! other.
 
 /// `lampruda_answer`
@@ -30,6 +30,18 @@ pub const UNCHANGED: u32 = 0;
 pub const REFUSED: u32 = 1;
 pub const REWRITTEN: u32 = 2;
 
+/// `lampruda_right`
+#[repr(C)]
+#[derive(Clone, Copy, Debug, Eq, PartialEq)]
+pub struct Right {
+    pub kind: u32,
+    pub word: u64,
+}
+
+pub const WORD: u32 = 0;
+pub const NONE: u32 = 1;
+pub const NOT_COVERED: u32 = 2;
+
 extern "C" {
     pub fn lampruda_pass(
         unit: *const u8,
@@ -56,4 +68,6 @@ extern "C" {
         second: *mut u8,
         second_length: usize,
     ) -> Cleaned;
+
+    pub fn lampruda_operand(opcode: u8, left: u64, wanted: u64) -> Right;
 }

@@ -112,6 +112,11 @@ fn job() {
     check("job");
 }
 
+#[test]
+fn operand() {
+    check("operand");
+}
+
 /// No subcommand is forgotten here, and none has help that a terminal of 80 columns breaks.
 #[test]
 fn every_subcommand() {

@@ -9,7 +9,7 @@ mod opcode;
 
 pub use assemble::{assemble, Error};
 pub use disassemble::{disassemble, Lines};
-pub use names::{distance, is_loop_hint, target, TYPES};
+pub use names::{distance, is_loop_hint, op, target, TYPES};
 pub use opcode::Opcode;
 
 /// How a text is written, for people.

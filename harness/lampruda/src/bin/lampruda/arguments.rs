@@ -26,7 +26,7 @@ impl Arguments {
             } else if let Some(option) = known(command.values, word) {
                 let value = words.next().ok_or_else(|| arguments.usage(&format!("{option} needs a name")))?;
                 arguments.values.push((option, value.clone()));
-            } else if word != "-" && word.to_string_lossy().starts_with('-') {
+            } else if looks_like_option(&word.to_string_lossy()) {
                 return Err(arguments.usage(&format!("{} is no option", word.to_string_lossy())));
             } else {
                 arguments.files.push(word.clone());
@@ -63,7 +63,19 @@ impl Arguments {
         }
     }
 
+    /// The words that are no options, where there are so many of them.
+    pub fn words<const N: usize>(&self, missing: &str) -> Result<[String; N], String> {
+        let words: Vec<String> = self.files.iter().map(|word| word.to_string_lossy().into_owned()).collect();
+        words.try_into().map_err(|_| self.usage(missing))
+    }
+
     pub fn usage(&self, message: &str) -> String {
         format!("{0}: {message}; see lampruda {0} --help", self.command)
     }
+}
+
+/// What begins with -, but for - itself and negative numbers.
+fn looks_like_option(word: &str) -> bool {
+    let mut letters = word.chars();
+    letters.next() == Some('-') && letters.next().is_some_and(|letter| !letter.is_ascii_digit())
 }

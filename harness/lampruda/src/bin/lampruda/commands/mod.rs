@@ -5,19 +5,21 @@ mod clean;
 mod disassemble;
 mod job;
 mod list;
+mod operand;
 mod pass;
 
 use crate::arguments::Arguments;
 use crate::Status;
 
 /// In the order in which they are listed.
-pub const COMMANDS: [&Command; 6] = [
+pub const COMMANDS: [&Command; 7] = [
     &pass::COMMAND,
     &clean::COMMAND,
     &list::COMMAND,
     &assemble::COMMAND,
     &disassemble::COMMAND,
     &job::COMMAND,
+    &operand::COMMAND,
 ];
 
 /// A subcommand.

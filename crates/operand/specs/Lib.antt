@@ -1,0 +1,4 @@
+pub mod Operand
+pub mod Candidate
+pub mod Congruent
+pub mod Unique
