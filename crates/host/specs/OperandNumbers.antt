@@ -1,4 +1,4 @@
--- An operand as numbers.
+-- Definitions. An operand as numbers.
 -- Assumes nothing.
 use mathlib.Core.Path.{_≡_}
 use Prim.Native.Nat.{ℕ}

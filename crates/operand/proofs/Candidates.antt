@@ -6,8 +6,8 @@ use native.Mathlib.Omega.{arith}
 use lib.Bits.{bitXor}
 use Rattle.instruction.specs.Opcode as op
 use Rattle.values.specs.Fold.{foldWord, bitWord, wordAnd, wordOr, wordNot}
-use Rattle.values.specs.Bitwise.{xor-bits}
-use Rattle.operand.specs.Candidate.{Candidate}
+use Rattle.values.specs.laws.Bitwise.{xor-bits}
+use Rattle.operand.specs.laws.Candidate.{Candidate}
 use Rattle.operand.proofs.Bits.{and-left, and-right, and-again, or-left, or-most, or-rest, xor-back, not-least, not-rest}
 
 module _ (l w : ℕ) {c : ℕ} (left : l < 2 ^ 64) (fits : c < 2 ^ 64) where

@@ -7,7 +7,7 @@ use native.Mathlib.Omega.{arith}
 use lib.Dec.{eqb, leb, ltb}
 use borrow.Author.Tests.{leb-true, leb-false, le-leb, lt-leb, eqb-true, eqb-false, eq-eqb, ne-eqb}
 use Rattle.words.specs.Word.{signedLess}
-use Rattle.operand.specs.Candidate.{Tips}
+use Rattle.operand.specs.laws.Candidate.{Tips}
 
 -- from what a test says of numbers; a test for < is one for ≤ of the next number
 holding : (a b : ℕ → ℕ) {c : ℕ} {t : Bool} → t ≡ true → ((r : ℕ) → r < 2 ^ 64 → a r ≤ b r → (c ≤ r) × (a c ≤ b c)) → Tips (λ r. leb (a r) (b r)) t c

@@ -12,7 +12,7 @@ use Rattle.values.specs.Fold.{foldWord}
 use Rattle.operand.specs.Operand.{RightOperand}
 use Rattle.operand.specs.declared.Operand.the-variants.{Word, None}
 use Rattle.operand.proofs.Testing.{gives-it}
-use Rattle.operand.specs.Congruent.{Congruent, Inverse, equal, reduced, swap, then, times, fewer}
+use Rattle.operand.specs.laws.Congruent.{Congruent, Inverse, equal, reduced, swap, then, times, fewer}
 use Rattle.operand.proofs.Zeros.{zeros-rest, zeros-most, zeros-all}
 
 -- a product has the trailing zeros of its factors

@@ -8,8 +8,9 @@ use native.Mathlib.Omega.{arith}
 use lib.Dec.{eqb}
 use lib.Pow.{pow-add, pow-lt}
 use borrow.Author.Tests.{eqb-true, eq-eqb}
-use Rattle.words.specs.Lists.{every, every-at}
-use Rattle.operand.specs.Congruent.{Congruent, Inverse, equal, reduced, swap, then, plus, times, cancel, fewer}
+use Rattle.words.specs.Lists.{every}
+use Rattle.words.specs.laws.Lists.{every-at}
+use Rattle.operand.specs.laws.Congruent.{Congruent, Inverse, equal, reduced, swap, then, plus, times, cancel, fewer}
 
 -- an odd word is its own inverse in its low 3 bits
 pub own-inverse : (a : ℕ) → a % 2 ≡ 1 → Inverse 3 a a

@@ -7,7 +7,7 @@ use native.Mathlib.Omega.{arith}
 use Rattle.words.specs.Lists.{isIn}
 use Rattle.values.specs.Fold.{foldWord, foldingBinary}
 use Rattle.operand.specs.Operand.{RightOperand}
-use Rattle.operand.specs.Candidate.{Candidate}
+use Rattle.operand.specs.laws.Candidate.{Candidate}
 use Rattle.operand.specs.declared.Operand.the-variants.{Word, None}
 
 module _ (o l : ℕ) {w c : ℕ} (covered : isIn o foldingBinary ≡ true) (candidate : Candidate (foldWord o 0 l) w c) where

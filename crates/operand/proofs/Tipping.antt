@@ -7,7 +7,7 @@ use native.Mathlib.Omega.{arith}
 use lib.Dec.{eqb, leb, ltb}
 use borrow.Author.Tests.{leb-true, leb-false, lt-leb, le-leb}
 use Rattle.values.specs.Fold.{bool}
-use Rattle.operand.specs.Candidate.{Candidate, Tips}
+use Rattle.operand.specs.laws.Candidate.{Candidate, Tips}
 
 outcome : {w : ℕ} (t : Bool) → bool t ≡ w → t ≡ eqb w 1
 outcome true e = rw (← e)

@@ -1,4 +1,3 @@
 pub mod Operand
-pub mod Candidate
-pub mod Congruent
 pub mod Unique
+pub mod laws

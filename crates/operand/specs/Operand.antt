@@ -1,4 +1,4 @@
--- An operand for a wanted outcome (document 02, L8). "The definition searches nothing: it states only that the outcome matches and no
+-- Definitions. An operand for a wanted outcome (document 02, L8). "The definition searches nothing: it states only that the outcome matches and no
 -- smaller word does, or for none that no word does."
 -- Assumes nothing.
 use mathlib.Core.Path.{_≡_}

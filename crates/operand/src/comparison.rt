@@ -2,7 +2,7 @@
 ghost use Prim.Native.Nat.{_<_, _≤_};
 ghost use lib.Dec.{eqb, leb, ltb};
 ghost use Rattle.words.specs.Word.{signedLess};
-ghost use Rattle.operand.specs.Candidate.{Tips};
+ghost use Rattle.operand.specs.laws.Candidate.{Tips};
 
 // left == r
 pub fn equal(left: u64, holds: bool) -> u64

@@ -4,7 +4,8 @@ ghost use mathlib.Core.Bool.{true};
 ghost use Rattle.words.specs.Lists.{isIn};
 ghost use Rattle.values.specs.Fold.{foldWord, foldingBinary};
 ghost use Rattle.operand.specs.Operand.{RightOperand};
-ghost use Rattle.operand.specs.Candidate.{Candidate};
+ghost use Rattle.operand.specs.laws.Candidate.{Candidate};
+use instruction::opcode;
 use values::fold;
 
 pub mod comparison;
@@ -35,23 +36,23 @@ pub fn smallest(op: u8, left: u64, wanted: u64) -> Operand
 {
     let holds = wanted == 1;
     match op {
-        19 => tested(op, left, wanted, std::num::wrapping_sub_u64(wanted, left)),
-        20 => tested(op, left, wanted, std::num::wrapping_sub_u64(left, wanted)),
-        21 => product::factor(left, wanted),
-        32 => tested(op, left, wanted, comparison::equal(left, holds)),
-        33 => tested(op, left, wanted, comparison::equal(left, !holds)),
-        34 => tested(op, left, wanted, comparison::signed_less(left, holds)),
-        35 => tested(op, left, wanted, comparison::less(left, holds)),
-        36 => tested(op, left, wanted, comparison::signed_greater(left, !holds)),
-        37 => tested(op, left, wanted, comparison::at_most(left, holds)),
-        38 => tested(op, left, wanted, comparison::signed_greater(left, holds)),
-        39 => tested(op, left, wanted, comparison::at_most(left, !holds)),
-        40 => tested(op, left, wanted, comparison::signed_less(left, !holds)),
-        41 => tested(op, left, wanted, comparison::less(left, !holds)),
-        48 => tested(op, left, wanted, wanted),
-        49 => tested(op, left, wanted, std::num::wrapping_sub_u64(wanted, left)),
-        50 => tested(op, left, wanted, left ^ wanted),
-        51 => tested(op, left, wanted, std::num::wrapping_sub_u64(left, wanted)),
+        opcode::ADD_I => tested(op, left, wanted, std::num::wrapping_sub_u64(wanted, left)),
+        opcode::SUB_I => tested(op, left, wanted, std::num::wrapping_sub_u64(left, wanted)),
+        opcode::MUL_I => product::factor(left, wanted),
+        opcode::EQ_I => tested(op, left, wanted, comparison::equal(left, holds)),
+        opcode::NE_I => tested(op, left, wanted, comparison::equal(left, !holds)),
+        opcode::LT_I => tested(op, left, wanted, comparison::signed_less(left, holds)),
+        opcode::LT_U => tested(op, left, wanted, comparison::less(left, holds)),
+        opcode::LE_I => tested(op, left, wanted, comparison::signed_greater(left, !holds)),
+        opcode::LE_U => tested(op, left, wanted, comparison::at_most(left, holds)),
+        opcode::GT_I => tested(op, left, wanted, comparison::signed_greater(left, holds)),
+        opcode::GT_U => tested(op, left, wanted, comparison::at_most(left, !holds)),
+        opcode::GE_I => tested(op, left, wanted, comparison::signed_less(left, !holds)),
+        opcode::GE_U => tested(op, left, wanted, comparison::less(left, !holds)),
+        opcode::AND => tested(op, left, wanted, wanted),
+        opcode::OR => tested(op, left, wanted, std::num::wrapping_sub_u64(wanted, left)),
+        opcode::XOR => tested(op, left, wanted, left ^ wanted),
+        opcode::AND_NOT => tested(op, left, wanted, std::num::wrapping_sub_u64(left, wanted)),
         _ => Operand::NotCovered,
     }
 }

@@ -2,7 +2,7 @@
 ghost use mathlib.Core.Path.{_≡_};
 ghost use Prim.Native.Nat.{ℕ, _+_, _%_, _≤_};
 ghost use Rattle.operand.specs.Operand.{RightOperand};
-ghost use Rattle.operand.specs.Congruent.{Inverse};
+ghost use Rattle.operand.specs.laws.Congruent.{Inverse};
 ghost use Rattle.instruction.specs.Opcode as op;
 use crate::Operand;
 use words::word;

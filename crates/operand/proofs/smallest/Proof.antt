@@ -3,10 +3,11 @@ use mathlib.Core.Bool.{Bool, false}
 use mathlib.Core.List.{List, [], _∷_}
 use Prim.Native.Nat.{ℕ, _<_}
 use native.Mathlib.Omega.{arith}
-use Rattle.words.specs.Lists.{isIn, every, every-at}
-use Rattle.words.specs.Keys.{NoneOf, none-of}
+use Rattle.words.specs.Lists.{isIn, every}
+use Rattle.words.specs.laws.Lists.{every-at}
+use Rattle.words.specs.laws.Keys.{NoneOf, none-of}
 use Rattle.values.specs.Fold.{bool, foldWord, foldingBinary}
-use Rattle.values.specs.Folded.{agree, agree-same}
+use Rattle.values.specs.laws.Folded.{agree, agree-same}
 use Rattle.operand.specs.Operand.{RightOperand}
 use Rattle.operand.proofs.Candidates.{add-candidate, sub-candidate, and-candidate, or-candidate, xor-candidate, and-not-candidate}
 use Rattle.operand.proofs.Tipping.{tipped, turned, opposite, reverse}
