@@ -26,6 +26,7 @@ use Rattle.answer.specs.Jump as answerJump
 use Rattle.answer.specs.Pass as answerPass
 use Rattle.answer.specs.Answer as answerAnswer
 use Rattle.answer.specs.Clean as answerClean
+use Rattle.run.specs.System as runSystem
 use Rattle.run.specs.Machine as runMachine
 use Rattle.run.specs.Program as runProgram
 use Rattle.run.specs.Returned as runReturned
@@ -87,7 +88,7 @@ unfolding ofAnswer1 answerAnswer.roomFor answerAnswer.isSkipped answerAnswer.aft
 ofAnswer = tt
 
 unfoldable ofRun1 : Unit {0}
-unfolding runMachine.put runMachine.goto runMachine.answered runMachine.perform runMachine.step runMachine.wayOf runMachine.logOf runProgram.slotsFrom runProgram.slotsOf runProgram.givenRanges runProgram.constantWord runProgram.unaryWord runProgram.binaryWord runProgram.recordedMetadata runProgram.event runProgram.actBy runProgram.hasMeaning runProgram.classIn runProgram.nodeBy runProgram.programOf
+unfolding runSystem.after runMachine.put runMachine.goto runMachine.answered runMachine.perform runMachine.step runMachine.wayOf runMachine.logOf runProgram.slotsFrom runProgram.slotsOf runProgram.givenRanges runProgram.constantWord runProgram.unaryWord runProgram.binaryWord runProgram.recordedMetadata runProgram.event runProgram.actBy runProgram.hasMeaning runProgram.classIn runProgram.nodeBy runProgram.programOf
 ofRun1 = tt
 
 unfoldable pub ofRun : Unit {0}
