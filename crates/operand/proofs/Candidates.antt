@@ -1,11 +1,11 @@
 -- The candidates of sums and of the bitwise opcodes.
 -- Assumes nothing.
-use mathlib.Core.Path.{_≡_, sym, ap, _∙_}
+use mathlib.Core.Path.{_≡_, sym, _∙_}
 use Prim.Native.Nat.{ℕ, _+_, _-_, _%_, _^_, _<_, _≤_}
 use native.Mathlib.Omega.{arith}
 use lib.Bits.{bitXor}
 use Rattle.instruction.specs.Opcode as op
-use Rattle.values.specs.Fold.{foldWord, bitWord, wordAnd, wordOr, wordNot}
+use Rattle.values.specs.Fold.{foldWord, bitWord}
 use Rattle.values.specs.laws.Bitwise.{xor-bits}
 use Rattle.operand.specs.laws.Candidate.{Candidate}
 use Rattle.operand.proofs.Bits.{and-left, and-right, and-again, or-left, or-most, or-rest, xor-back, not-least, not-rest}

@@ -1,4 +1,4 @@
--- Factors of a product modulo 2^64.
+-- Factors of a product modulo 2^64: trailing zeros decide, and the inverse gives the smallest.
 -- Assumes nothing.
 use mathlib.Core.Path.{_≡_, refl, sym, ap, _∙_}
 use Prim.Native.Nat.{ℕ, _+_, _*_, _-_, _/_, _%_, _^_, _<_, _≤_}
@@ -15,14 +15,16 @@ use Rattle.operand.proofs.Testing.{gives-it}
 use Rattle.operand.specs.laws.Congruent.{Congruent, Inverse, equal, reduced, swap, then, times, fewer}
 use Rattle.operand.proofs.Zeros.{zeros-rest, zeros-most, zeros-all}
 
+multiple : (n : ℕ) → Congruent (trailingZeros 64 n) n 0
+multiple n = record { same = zeros-rest 64 n ∙ sym (zero-mod (2 ^ trailingZeros 64 n)) }
+
 -- a product has the trailing zeros of its factors
 pub zeros-decide : (l w s : ℕ) → l * s % 2 ^ 64 ≡ w → trailingZeros 64 l ≤ trailingZeros 64 w
 zeros-decide l w s e =
     let k = trailingZeros 64 l in
-    let none : Congruent k l 0 = record { same = zeros-rest 64 l ∙ sym (zero-mod (2 ^ k)) } in
-    let multiple : Congruent k (l * s) 0 = then (equal (mul-comm l s)) (then (times s none) (equal (mul-zero s))) in
+    let product : Congruent k (l * s) 0 = then (equal (mul-comm l s)) (then (times s (multiple l)) (equal (mul-zero s))) in
     let whole : Congruent 64 w (l * s) = then (equal (sym e)) (reduced (l * s)) in
-    zeros-most 64 k w (trailing-le 64 l) (then (fewer (trailing-le 64 l) whole) multiple .same ∙ zero-mod (2 ^ k))
+    zeros-most 64 k w (trailing-le 64 l) (then (fewer (trailing-le 64 l) whole) product .same ∙ zero-mod (2 ^ k))
 
 -- o and v are what is left of both words behind k zeros, and i is the inverse of o
 module _ {n : ℕ} (j k : ℕ) (sum : j + k ≡ n) (o v i : ℕ) (inverse : Inverse n o i) where
@@ -67,8 +69,7 @@ module _ (l w i : ℕ) (fits : w < 2 ^ 64) (zeros : trailingZeros 64 l ≤ trail
   wanted : w / 2 ^ trailingZeros 64 l * 2 ^ trailingZeros 64 l ≡ w
   wanted =
       let k = trailingZeros 64 l in
-      let none : Congruent (trailingZeros 64 w) w 0 = record { same = zeros-rest 64 w ∙ sym (zero-mod (2 ^ trailingZeros 64 w)) } in
-      omega (arith, div-add-mod' w (2 ^ k), fewer zeros none .same, zero-mod (2 ^ k))
+      omega (arith, div-add-mod' w (2 ^ k), fewer zeros (multiple w) .same, zero-mod (2 ^ k))
 
   gives : foldWord op.MulI 0 l (factorOf l w i) ≡ w
   unfolding foldWord

@@ -2,9 +2,9 @@
 -- Assumes nothing.
 use mathlib.Core.Path.{_≡_, refl, sym, ap, _∙_}
 use mathlib.Core.Bool.{Bool, true, false, not}
-use Prim.Native.Nat.{ℕ, suc, _≤_, _<_}
+use Prim.Native.Nat.{ℕ, suc}
 use native.Mathlib.Omega.{arith}
-use lib.Dec.{eqb, leb, ltb}
+use lib.Dec.{eqb, leb}
 use borrow.Author.Tests.{leb-true, leb-false, lt-leb, le-leb}
 use Rattle.values.specs.Fold.{bool}
 use Rattle.operand.specs.laws.Candidate.{Candidate, Tips}
@@ -40,8 +40,4 @@ opposite a b = go (leb b a) refl
     go false e = le-leb (suc a) b (omega (arith, leb-false b a e))
 
 pub reverse : (a b : ℕ) → leb a b ≡ not (leb (suc b) a)
-reverse a b = go (leb a b) refl
-  where
-    go : (t : Bool) → leb a b ≡ t → t ≡ not (leb (suc b) a)
-    go true e = rw (lt-leb (suc b) a (omega (arith, leb-true a b e)))
-    go false e = rw (le-leb (suc b) a (omega (arith, leb-false a b e)))
+reverse a b = round (leb a b) (leb (suc b) a) (sym (opposite b a))

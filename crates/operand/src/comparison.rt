@@ -1,5 +1,4 @@
 // The smallest words that make a comparison with a left word true or false, "unsigned" where its readings are signed too.
-ghost use Prim.Native.Nat.{_<_, _≤_};
 ghost use lib.Dec.{eqb, leb, ltb};
 ghost use Rattle.words.specs.Word.{signedLess};
 ghost use Rattle.operand.specs.laws.Candidate.{Tips};

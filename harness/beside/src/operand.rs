@@ -7,30 +7,10 @@ use crate::options::Options;
 use generate::Rng;
 use lampruda::Operand;
 use std::time::Instant;
-use Opcode::*;
+use text::Opcode::{self, *};
 
-#[derive(Clone, Copy, Debug, Eq, PartialEq)]
-enum Opcode {
-    AddI = 19,
-    SubI = 20,
-    MulI = 21,
-    EqI = 32,
-    NeI = 33,
-    LtI = 34,
-    LtU = 35,
-    LeI = 36,
-    LeU = 37,
-    GtI = 38,
-    GtU = 39,
-    GeI = 40,
-    GeU = 41,
-    And = 48,
-    Or = 49,
-    Xor = 50,
-    AndNot = 51,
-}
-
-const ALL: [Opcode; 17] =
+/// The 17 integer binary opcodes.
+const COVERED: [Opcode; 17] =
     [AddI, SubI, MulI, EqI, NeI, LtI, LtU, LeI, LeU, GtI, GtU, GeI, GeU, And, Or, Xor, AndNot];
 
 /// Words of so many bits.
@@ -66,6 +46,7 @@ impl Width {
             GtU => (l > r).into(),
             GeI => (left >= right).into(),
             GeU => (l >= r).into(),
+            _ => unreachable!("{opcode:?} is not covered"),
         };
         self.low(outcome)
     }
@@ -120,7 +101,7 @@ pub fn run(mut options: Options) -> Result<(), String> {
     let edges = all_edges()?;
     let mut rng = Rng::new(seed, 0);
     for _ in 0..count {
-        let opcode = rng.pick(&ALL);
+        let opcode = rng.pick(&COVERED);
         let left = any_word(&mut rng);
         // What some word gives, for half of them.
         let wanted = match rng.percent(50) {
@@ -139,7 +120,7 @@ pub fn run(mut options: Options) -> Result<(), String> {
 /// Every opcode with all words of 8 bits.
 fn all_bytes() -> Result<u64, String> {
     let mut searched = 0;
-    for opcode in ALL {
+    for opcode in COVERED {
         for left in 0..256 {
             let mut first = [None; 256];
             for r in (0..256).rev() {
@@ -200,7 +181,7 @@ fn any_word(rng: &mut Rng) -> u64 {
 
 /// The library's answer is that of the search.
 fn compare(opcode: u8, left: u64, wanted: u64) -> Result<(), String> {
-    let searched = match ALL.into_iter().find(|known| *known as u8 == opcode) {
+    let searched = match COVERED.into_iter().find(|known| *known as u8 == opcode) {
         Some(opcode) => WORDS.search(opcode, left, wanted).map_or(Operand::None, Operand::Word),
         None => Operand::NotCovered,
     };

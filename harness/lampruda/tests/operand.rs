@@ -42,7 +42,7 @@ fn factors() {
         (0, 0, Operand::Word(0)),
         (0, SIGN, Operand::None),
         (u64::MAX, 1, Operand::Word(u64::MAX)),
-        // modulo 2^62 alone
+        // 3 and 3 + 2^62, 3 + 2^63, 3 + 3 * 2^62
         (4, 12, Operand::Word(3)),
     ] {
         assert_eq!(operand(MulI as u8, left, wanted), right, "{left:#x} {wanted:#x}");

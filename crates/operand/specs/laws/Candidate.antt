@@ -1,4 +1,4 @@
--- Candidates: "one lemma per opcode does all"; nothing is searched.
+-- Candidates: one word for each opcode, in place of a search.
 -- Assumes nothing.
 use mathlib.Core.Path.{_≡_}
 use mathlib.Core.Bool.{Bool}

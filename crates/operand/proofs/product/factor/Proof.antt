@@ -7,10 +7,10 @@ use Rattle.operand.proofs.product.factor.Statement.{statement}
 use Rattle.operand.proofs.product.factor.Tie as tie
 
 returns : tie.Need-returns
-returns c = none-right _ _ (c .if1 .taken)
+returns c = none-right _ _ (omega arith)
 
 returns-2 : tie.Need-returns-2
-returns-2 c = zero-right _ _ (c .if2 .taken) (omega arith) (c .before .if1 .left)
+returns-2 c = zero-right _ _ (c .if2 .taken) (omega arith) (omega arith)
 
 cast-k : tie.Need-cast-k
 cast-k c = omega (arith, trailing-le 64 (c .before .before .args .left))
@@ -29,7 +29,7 @@ returns-3 c =
     let l = c .before .before .before .before .args .left in
     let other = c .before .before .if2 .left in
     let odd = zeros-odd 64 l (omega arith) (omega arith) in
-    factor-right l _ _ (omega arith) (c .before .before .before .if1 .left) (c .before .inverse .ensures odd) (c .wrapping-mul .ensures)
+    factor-right l _ _ (omega arith) (omega arith) (c .before .inverse .ensures odd) (c .wrapping-mul .ensures)
 
 pub factor-spec : {M : Type 1} → statement M
 factor-spec =
