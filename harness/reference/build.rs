@@ -1,11 +1,18 @@
-//! Copies volang's four files byte for byte to OUT_DIR, with our stand-ins for two children of `optimize`
-//! beside them, and writes the file by which the crate includes them.
+//! Copies volang's four files to OUT_DIR, with our stand-ins for two children of `optimize` beside them, and
+//! writes the file by which the crate includes them. The package `reference` gets the copies with document 02's
+//! changes (`patches`), the package `unpatched` gets them byte for byte. The given files are never altered.
 
+mod patches;
+
+use patches::PATCHES;
 use std::path::{Path, PathBuf};
 use std::{env, fs, process};
 
 /// Names the folder that has volang's `lang/crates`.
 const VARIABLE: &str = "VOLANG_SRC";
+
+/// The package that is compiled without document 02's changes.
+const UNPATCHED: &str = "unpatched";
 
 /// From volang's source folder to OUT_DIR.
 const COPIED: [(&str, &str); 4] = [
@@ -29,7 +36,9 @@ const MODULES: [(&str, &str); 3] = [
 ];
 
 fn main() {
+    // Both packages stand side by side; the files are those of `reference`.
     let manifest = PathBuf::from(env::var_os("CARGO_MANIFEST_DIR").unwrap());
+    let home = manifest.join("../reference");
     let out = PathBuf::from(env::var_os("OUT_DIR").unwrap());
     println!("cargo:rerun-if-env-changed={VARIABLE}");
     let source = match env::var_os(VARIABLE) {
@@ -41,7 +50,10 @@ fn main() {
         copy(&source.join(from), &out.join(to));
     }
     for (from, to) in STAND_INS {
-        copy(&manifest.join(from), &out.join(to));
+        copy(&home.join(from), &out.join(to));
+    }
+    if env::var("CARGO_PKG_NAME").unwrap() != UNPATCHED {
+        patch(&out);
     }
     let modules: String = MODULES
         .iter()
@@ -51,6 +63,21 @@ fn main() {
         })
         .collect();
     fs::write(out.join("modules.rs"), modules).unwrap();
+}
+
+/// Makes document 02's changes in the copies.
+fn patch(out: &Path) {
+    for patch in PATCHES {
+        let path = out.join(patch.file);
+        let text = fs::read_to_string(&path).unwrap();
+        let times = text.matches(patch.old).count();
+        if times != 1 {
+            eprintln!("a text to be patched occurs {times} times in volang's {}, and not once:", patch.file);
+            eprintln!("{}", patch.old);
+            process::exit(1);
+        }
+        fs::write(&path, text.replacen(patch.old, patch.new, 1)).unwrap();
+    }
 }
 
 fn copy(from: &Path, to: &Path) {

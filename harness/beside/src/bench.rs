@@ -7,11 +7,11 @@ use crate::chart::{self, Curve, Panel};
 use crate::options::Options;
 use generate::{Shape, EXTREMES, SHAPES};
 use lampruda::Workspace;
-use reference::Prepared;
 use std::fs;
 use std::hint::black_box;
 use std::time::{Duration, Instant};
 use unit::{Answer, Section, Unit};
+use unpatched::Prepared;
 
 const LENGTHS: [usize; 5] = [20, 200, 2_000, 9_700, 65_536];
 

@@ -1,5 +1,6 @@
-//! The reference: volang's optimize.rs, pc_map.rs, instruction.rs and instruction_effects.rs, compiled
-//! unchanged (build.rs copies them), with stand-ins for the modules that they lean on.
+//! The reference: volang's optimize.rs, pc_map.rs, instruction.rs and instruction_effects.rs, copied by build.rs,
+//! with stand-ins for the modules that they lean on. The package `reference` has document 02's changes in the
+//! copies (patches.rs); `unpatched` is the same crate without them, for the benchmark.
 //!
 //! Document 01: "The reference is `optimize_function`; the wrapper above it is `clean_function`, of which the
 //! up-to-three-pass loop is ported too." What the Rust gives back becomes document 01's answers in `answers`.
