@@ -51,11 +51,14 @@ loop-again c =
     let l = t .before in
     let a = l .before .before .args in
     let low = t .loop-test .taken in
-    let p = l .loop .p in
-    (omega arith, read-below p (l .loop .rank) (c .index .result) (l .loop .inv .1) (c .index .ensures .0), λ k h same.
-    let e = a .n - (p + 1) in
-    let word = c .before .read-u64 .ensures ∙ ap (λ (u : List ℕ). u64At u (headerSize + 8 * p)) same ∙ read-word (a .n) k p e (omega arith) in
-    more-read (a .n) p k (l .loop .rank) (c .index .result) low (l .loop .inv .2 k h same) (c .index .ensures .1 (k / 24 ^ e % 24) (below-base (k / 24 ^ e)) word))
+    let p = l .loop .p in (
+      omega arith,
+      read-below p (l .loop .rank) (c .index .result) (l .loop .inv .1) (c .index .ensures .0),
+      λ k h same.
+          let e = a .n - (p + 1) in
+          let word = c .before .read-u64 .ensures ∙ ap (λ (u : List ℕ). u64At u (headerSize + 8 * p)) same ∙ read-word (a .n) k p e (omega arith) in
+          more-read (a .n) p k (l .loop .rank) (c .index .result) low (l .loop .inv .2 k h same) (c .index .ensures .1 (k / 24 ^ e % 24) (below-base (k / 24 ^ e)) word),
+    )
 
 returns : tie.Need-returns Inv-loop μ-loop
 returns c =
