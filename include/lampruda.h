@@ -112,6 +112,40 @@ typedef struct {
  */
 lampruda_right lampruda_operand(uint8_t opcode, uint64_t left, uint64_t wanted);
 
+/* What `kind` says of a short function's unit, and of its number. */
+enum {
+    LAMPRUDA_SHORT_UNIT = 0,    /* the unit stands at the buffer's front; number is its length in bytes, place is 0 */
+    LAMPRUDA_SHORT_REFUSED = 1, /* number is 2, place is 0: the buffer is too short */
+    LAMPRUDA_SHORT_PAST = 2     /* the number is past the last: no unit; number and place are 0 */
+};
+enum {
+    LAMPRUDA_SHORT_NUMBER = 0, /* these bytes are the unit of that number */
+    LAMPRUDA_SHORT_NONE = 1    /* they are the unit of none; number is 0 */
+};
+
+/* What is made of a number. */
+typedef struct {
+    uint32_t kind, number, place;
+} lampruda_made;
+
+/* What number bytes have. */
+typedef struct {
+    uint32_t kind, number;
+} lampruda_found;
+
+/* How many short functions there are. */
+#define LAMPRUDA_SHORT_COUNT 346176
+
+/*
+ * All short functions, for a run over a complete small world: those of 2, 3 and 4 instructions out of 24, over two
+ * Value slots. The 24 are LoadInt (a, then value 0 or 1), Copy (a, b), AddI (a, b, c), JumpIf (a, then distance -1
+ * or 1), Jump (-1 or 1), Return of slot 0 with count 0 or 1, in this order. Functions are numbered from 0, shorter
+ * first, then by the earliest differing instruction. The unit of a number is written to the front of the buffer,
+ * whose rest stays; where there is none the buffer stays whole. A unit has a number only if all its bytes are those.
+ */
+lampruda_made lampruda_short_unit(uint32_t number, uint8_t *out, size_t out_length);
+lampruda_found lampruda_short_number(const uint8_t *unit, size_t unit_length);
+
 /* Word i of a unit's header. */
 static inline uint32_t lampruda_word(const uint8_t *unit, size_t i)
 {

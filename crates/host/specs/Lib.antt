@@ -1,3 +1,4 @@
 pub mod Numbers
 pub mod OperandNumbers
+pub mod ShortNumbers
 pub mod laws

@@ -1,14 +1,19 @@
 // The entries for a host program in C or Rust: include/lampruda.h declares them. They hold no state: threads may call them at once,
 // each with buffers of its own.
 ghost use mathlib.Core.Path.{_≡_};
+ghost use lib.ListN.{length};
+ghost use Rattle.short.specs.Short.{madeOf, bufferAfter};
 ghost use Rattle.run.specs.Contract.{PassContract, CleanContract, buffers, spares};
 ghost use Rattle.host.specs.Numbers.{numbersOf, numbersOfOutcome, numbersOfCleaning};
 ghost use Rattle.host.specs.OperandNumbers.{OperandContract};
+ghost use Rattle.host.specs.ShortNumbers.{madeNumbersOf, FoundContract};
 use clean::clean;
 use operand::Operand;
 use operand::smallest;
 use optimize::Answer;
 use optimize::pass;
+use short::Found;
+use short::Made;
 
 // An answer in numbers: kind 0 unchanged; 1 refused, with number and place; 2 rewritten, with the number of instructions.
 #[repr(C)]
@@ -103,5 +108,62 @@ pub extern "C" fn lampruda_operand(opcode: u8, left: u64, wanted: u64) -> Operan
         Operand::Word(word) => OperandNumbers { kind: 0, word },
         Operand::None => OperandNumbers { kind: 1, word: 0 },
         Operand::NotCovered => OperandNumbers { kind: 2, word: 0 },
+    }
+}
+
+// What is made of a number: kind 0 a unit, `number` being its length in bytes; 1 refused, with number and place; 2 none.
+#[repr(C)]
+pub struct MadeNumbers {
+    pub kind: u32,
+    pub number: u32,
+    pub place: u32,
+}
+
+fn made_numbers(m: Made) -> MadeNumbers
+    ensures { λ r. ⌜ r ≡ madeNumbersOf m ⌝ }
+{
+    match m {
+        Made::Unit(size) => MadeNumbers {
+            kind: 0,
+            number: size,
+            place: 0,
+        },
+        Made::Refused(k, p) => MadeNumbers {
+            kind: 1,
+            number: k,
+            place: p,
+        },
+        Made::None => MadeNumbers {
+            kind: 2,
+            number: 0,
+            place: 0,
+        },
+    }
+}
+
+// The unit of a short function's number.
+#[no_mangle]
+pub extern "C" fn lampruda_short_unit(number: u32, out: &mut [u8]) -> MadeNumbers
+    ensures { λ r. ⌜ (r ≡ madeNumbersOf (madeOf number (length (now (out .entry))))) × (now (out .exit) ≡ bufferAfter number (now (out .entry))) ⌝ }
+{
+    made_numbers(short::make_unit(number, out))
+}
+
+// What number a unit has: kind 0 this one; 1 none.
+#[repr(C)]
+pub struct FoundNumbers {
+    pub kind: u32,
+    pub number: u32,
+}
+
+// The number of a short function's unit.
+#[no_mangle]
+pub extern "C" fn lampruda_short_number(unit: &[u8]) -> FoundNumbers
+    ensures { λ r. ⌜ FoundContract (now (unit .entry)) r ⌝ }
+{
+    let a = short::find_number(unit);
+    match a {
+        Found::At(number) => FoundNumbers { kind: 0, number },
+        Found::None => FoundNumbers { kind: 1, number: 0 },
     }
 }

@@ -22,7 +22,7 @@ const INSTRUCTIONS: u64 = 24;
 
 // What is made of a number: a unit of so many bytes, a refusal with number and place, or nothing.
 pub enum Made {
-    Unit(usize),
+    Unit(u32),
     Refused(u32, u32),
     None,
 }
@@ -227,7 +227,7 @@ pub fn make_unit(number: u32, out: &mut [u8]) -> Made
         out[i] = byte(rank, n, i);
         i += 1;
     }
-    Made::Unit(end)
+    Made::Unit(end as u32)
 }
 
 // How many instructions a unit of that length has, 0 where there is none.

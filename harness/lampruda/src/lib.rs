@@ -22,6 +22,7 @@ mod lengths;
 mod lent;
 mod operand;
 mod passes;
+mod short;
 pub mod sys;
 
 pub use fate::{fates, Fate};
@@ -29,6 +30,7 @@ pub use lengths::needed;
 pub use lent::Lent;
 pub use operand::{operand, Operand};
 pub use passes::{cleaned_fates, Pass};
+pub use short::{short_number, short_unit, SHORT_COUNT};
 
 use unit::Lengths;
 

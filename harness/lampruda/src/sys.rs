@@ -42,6 +42,30 @@ pub const WORD: u32 = 0;
 pub const NONE: u32 = 1;
 pub const NOT_COVERED: u32 = 2;
 
+/// `lampruda_made`
+#[repr(C)]
+#[derive(Clone, Copy, Debug, Eq, PartialEq)]
+pub struct Made {
+    pub kind: u32,
+    pub number: u32,
+    pub place: u32,
+}
+
+pub const SHORT_UNIT: u32 = 0;
+pub const SHORT_REFUSED: u32 = 1;
+pub const SHORT_PAST: u32 = 2;
+
+/// `lampruda_found`
+#[repr(C)]
+#[derive(Clone, Copy, Debug, Eq, PartialEq)]
+pub struct Found {
+    pub kind: u32,
+    pub number: u32,
+}
+
+pub const SHORT_NUMBER: u32 = 0;
+pub const SHORT_NONE: u32 = 1;
+
 extern "C" {
     pub fn lampruda_pass(
         unit: *const u8,
@@ -70,4 +94,8 @@ extern "C" {
     ) -> Cleaned;
 
     pub fn lampruda_operand(opcode: u8, left: u64, wanted: u64) -> Right;
+
+    pub fn lampruda_short_unit(number: u32, out: *mut u8, out_length: usize) -> Made;
+
+    pub fn lampruda_short_number(unit: *const u8, unit_length: usize) -> Found;
 }

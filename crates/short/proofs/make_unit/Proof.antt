@@ -50,6 +50,9 @@ slice-write-out c =
 loop-again : tie.Need-loop-again Inv-loop μ-loop
 loop-again c = written-more (c .before .before .loop .inv) (c .before .loop-test .taken) _ (c .byte .ensures)
 
+cast-result : tie.Need-cast-result Inv-loop μ-loop
+cast-result c = let d = known (c .before .before) in let n = few d in omega (arith, d .end-is)
+
 same-length : tie.Need-same-length Inv-loop μ-loop
 same-length c = written-long (c .before .loop .inv)
 
@@ -75,5 +78,6 @@ make-unit-spec =
     (λ c. search needs)
     (λ c. search needs)
     loop-again
+    cast-result
     same-length
     returns-3)

@@ -7,12 +7,13 @@ mod job;
 mod list;
 mod operand;
 mod pass;
+mod short;
 
 use crate::arguments::Arguments;
 use crate::Status;
 
 /// In the order in which they are listed.
-pub const COMMANDS: [&Command; 7] = [
+pub const COMMANDS: [&Command; 8] = [
     &pass::COMMAND,
     &clean::COMMAND,
     &list::COMMAND,
@@ -20,6 +21,7 @@ pub const COMMANDS: [&Command; 7] = [
     &disassemble::COMMAND,
     &job::COMMAND,
     &operand::COMMAND,
+    &short::COMMAND,
 ];
 
 /// A subcommand.
