@@ -101,7 +101,7 @@ fn header() -> String {
 # CLEAN, the cleaning: unchanged J | refused NUMBER PLACE J | rewritten N' J RESULT
 # J is the number of the last pass run; RESULT is the output's first 16 + 28 N' bytes in hexadecimal.
 # Made by the harness (seed {SEED}) from volang's optimize.rs, pc_map.rs, instruction.rs and
-# instruction_effects.rs, compiled unchanged. In this order: {} named examples
+# instruction_effects.rs with document 02's changes. In this order: {} named examples
 # (harness/generate/src/named.rs), {} damages of one unit, {} units that have every opcode,
 # and of the generator's profiles {}.
 # Made again by:         cargo run --release --manifest-path harness/Cargo.toml -- record

@@ -46,6 +46,7 @@ pub fn all() -> Vec<Named> {
     named.extend(readings());
     named.extend(refusals());
     named.extend(large());
+    named.extend(perhaps_written());
     named
 }
 
@@ -396,4 +397,114 @@ fn row_without_jumps(jumps: i32, kept: &[u32]) -> Stated {
     retained.push(((row + jumps) as u32, give_back(0, 1)));
     assert_eq!(retained.len() as i32, end + 1);
     Stated::Rewritten(retained)
+}
+
+/// Document 02, L5: what SelectExec's receive cases receive and MapIterNext's key and value are perhaps written.
+fn perhaps_written() -> Vec<Named> {
+    use Opcode::{MapGet, MapIterNext, QueueRecv, SelectExec};
+    let kept = |code: &[Instruction]| {
+        rewritten(&code.iter().enumerate().skip(1).map(|(place, &it)| (place as u32, it)).collect::<Vec<_>>())
+    };
+    let receive = |slot, elem_slots, has_ok| Case { kind: Case::RECEIVE, has_ok, queue: 2, slot, elem_slots };
+    let send = Case { kind: Case::SEND, queue: 2, slot: 0, elem_slots: 1, ..Case::default() };
+    // A store into slot `stored`, SelectExec 1 with these cases, a Return.
+    let select = |stored: u16, cases: &[Case], last: Instruction| {
+        let code = [load_int(stored, 0), op(SelectExec, 1, 0, 0), last];
+        let layout = Metadata { second: cases.len() as u32, ..Metadata::new(Kind::SelectExecLayout) };
+        Parts { cases: cases.to_vec(), ..with_metadata(function(5, &code), 1, layout) }
+    };
+    // A store, MapIterNext with its iterator in 2 to 8 and key and value from slot a on, a Return.
+    let next = |stored: u16, a: u16, flag: u16, last: Instruction| {
+        let code = [load_int(stored, 0), op(MapIterNext, a, 2, flag), last];
+        let layout = Metadata { first: 1, second: 1, ..Metadata::new(Kind::MapIterNext) };
+        with_metadata(function(11, &code), 1, layout)
+    };
+    let sure = |parts: Parts| {
+        let stated = kept(&parts.code);
+        (parts, stated)
+    };
+    let two_blocks = [load_int(0, 0), jump(1), op(SelectExec, 1, 0, 0), jump(1), give_back(0, 1)];
+    let two_blocks = Parts {
+        cases: vec![receive(0, 1, 0)],
+        ..with_metadata(
+            function(5, &two_blocks),
+            2,
+            Metadata { second: 1, ..Metadata::new(Kind::SelectExecLayout) },
+        )
+    };
+    let surely = |name, parts: Parts| {
+        let (parts, stated) = sure(parts);
+        Named::new(name, parts, stated)
+    };
+    vec![
+        Named::new(
+            "a store before a select that may receive into its slot",
+            select(0, &[receive(0, 1, 0)], give_back(0, 1)),
+            Stated::Unchanged,
+        ),
+        Named::new(
+            "an ok slot is perhaps written",
+            select(0, &[receive(3, 1, 1), receive(4, 0, 1)], give_back(4, 1)),
+            kept(&[HINT, op(SelectExec, 1, 0, 0), give_back(4, 1)]),
+        ),
+        Named::new(
+            "a store into an ok slot",
+            select(4, &[receive(3, 1, 1)], give_back(4, 1)),
+            Stated::Unchanged,
+        ),
+        Named::new(
+            "all cases receive into one slot",
+            select(0, &[receive(0, 1, 0), receive(0, 1, 0)], give_back(0, 1)),
+            Stated::Unchanged,
+        ),
+        surely("a perhaps written range is no read", select(0, &[receive(0, 1, 0)], give_back(2, 1))),
+        Named::new("what a send case sends is read", select(0, &[send], give_back(2, 1)), Stated::Unchanged),
+        surely("the chosen index is surely written", select(1, &[receive(0, 1, 0)], give_back(1, 1))),
+        surely(
+            "a slot that a select surely and perhaps writes",
+            select(1, &[receive(1, 1, 0)], give_back(1, 1)),
+        ),
+        Named::new(
+            "a store before a select in the next block",
+            two_blocks,
+            rewritten(&[(0, load_int(0, 0)), (2, op(SelectExec, 1, 0, 0)), (4, give_back(0, 1))]),
+        ),
+        Named::new(
+            "a receive destination outside the frame",
+            select(0, &[receive(4, 1, 1)], give_back(0, 1)),
+            refused(7, 1),
+        ),
+        Named::new(
+            "a receive destination past the slots",
+            select(0, &[receive(65_535, 1, 1)], give_back(0, 1)),
+            refused(6, 1),
+        ),
+        Named::new(
+            "a store before MapIterNext into its slot",
+            next(0, 0, 10, give_back(0, 1)),
+            Stated::Unchanged,
+        ),
+        Named::new("a store into a map's value slot", next(1, 0, 10, give_back(1, 1)), Stated::Unchanged),
+        surely("MapIterNext's range is no read", next(0, 0, 10, give_back(10, 1))),
+        surely("MapIterNext's flag is surely written", next(10, 0, 10, give_back(10, 1))),
+        surely("a slot that MapIterNext surely and perhaps writes", next(1, 0, 1, give_back(1, 1))),
+        Named::new("key and value outside the frame", next(0, 10, 0, give_back(0, 1)), refused(7, 1)),
+        Named::new("key and value past the slots", next(0, 65_535, 0, give_back(0, 1)), refused(6, 1)),
+        surely(
+            "QueueRecv surely writes",
+            with_metadata(
+                function(4, &[load_int(0, 0), op(QueueRecv, 0, 2, 0), give_back(0, 1)]),
+                1,
+                Metadata { first: 1, ..Metadata::new(Kind::QueueLayout) },
+            ),
+        ),
+        surely(
+            "MapGet's ok slot is surely written",
+            with_metadata(
+                function(4, &[load_int(1, 0), op(MapGet, 0, 2, 3), give_back(1, 1)]),
+                1,
+                Metadata { first: 1, second: 1, has_ok: 1, ..Metadata::new(Kind::MapGet) },
+            ),
+        ),
+    ]
 }

@@ -203,9 +203,10 @@ fn edge_instruction(draft: &mut Draft, len: usize) {
     };
 }
 
-/// SelectExec with ranges of cases, some empty, some overlapping.
+/// SelectExec with ranges of cases, some empty, some overlapping, and MapIterNext, between stores into the slots that
+/// they perhaps write and reads of them, in several blocks.
 pub(super) fn selects(rng: &mut Rng) -> Parts {
-    let n = rng.within(2..=7);
+    let n = rng.within(2..=9);
     let s = ROOM + rng.within(2..=6);
     let mut draft = Draft::new(rng, n, s).with_types();
     for _ in 0..draft.rng.within(0..=4) {
@@ -213,13 +214,19 @@ pub(super) fn selects(rng: &mut Rng) -> Parts {
         draft.parts.cases.push(case);
     }
     while !draft.is_full() {
-        match draft.rng.below(6) {
+        match draft.rng.below(12) {
             0 | 1 => draft.any_opcode(Opcode::SelectExec as u8),
-            2 => {
+            2 => draft.any_opcode(Opcode::MapIterNext as u8),
+            3 => {
                 let opcode = draft.rng.pick(&[Opcode::SelectBegin, Opcode::SelectSend, Opcode::SelectRecv]);
                 draft.any_opcode(opcode as u8);
             }
-            3 => draft.give_back(),
+            4 | 5 => draft.give_back(),
+            6 => draft.any_branch(),
+            7 | 8 => {
+                let (slot, value) = (draft.slot(), draft.rng.below(3) as i32);
+                draft.load_int(slot, value);
+            }
             _ => draft.pure(20),
         }
     }
