@@ -48,11 +48,11 @@ unfolding ofUnit1 unitResult.metadataBytesAll unitResult.placeBytes unitResult.r
 ofUnit = tt
 
 unfoldable ofEffects1 : Unit {0}
-unfolding effectsShape.isThere effectsShape.paramSlots effectsShape.returnSlots effectsShape.isKnown effectsShape.externSlots effectsShape.isKind effectsShape.met effectsShape.value effectsShape.applies effectsShape.rangeOf effectsTable.shapeIn effectsTable.readShape effectsTable.writeShape effectsTable.arrayShape effectsEffects.caseReads effectsEffects.caseWrites effectsEffects.reads effectsEffects.arrays
+unfolding effectsShape.isThere effectsShape.paramSlots effectsShape.returnSlots effectsShape.isKnown effectsShape.externSlots effectsShape.isKind effectsShape.met effectsShape.value effectsShape.applies effectsShape.rangeOf effectsTable.shapeIn effectsTable.readShape effectsTable.writeShape effectsTable.perhapsShape effectsTable.arrayShape effectsEffects.caseReads effectsEffects.caseWrites effectsEffects.reads effectsEffects.arrays
 ofEffects1 = tt
 
 unfoldable pub ofEffects : Unit {0}
-unfolding ofEffects1 effectsEffects.writes effectsEffects.allReads effectsEffects.demandsMet effectsEffects.rangeFits effectsEffects.rangeWithin effectsEffects.rangeHas effectsEffects.allOf effectsEffects.anyOf effectsCheck.lowest effectsCheck.effectsSound effectsCheck.operandRefusal effectsCheck.operandCheck
+unfolding ofEffects1 effectsEffects.sureWrites effectsEffects.perhapsWrites effectsEffects.writes effectsEffects.allReads effectsEffects.demandsMet effectsEffects.rangeFits effectsEffects.rangeWithin effectsEffects.rangeHas effectsEffects.allOf effectsEffects.anyOf effectsCheck.lowest effectsCheck.effectsSound effectsCheck.operandRefusal effectsCheck.operandCheck
 ofEffects = tt
 
 unfoldable pub ofFlow : Unit {0}
@@ -88,7 +88,7 @@ unfolding ofAnswer1 answerAnswer.roomFor answerAnswer.isSkipped answerAnswer.aft
 ofAnswer = tt
 
 unfoldable ofRun1 : Unit {0}
-unfolding runSystem.after runMachine.put runMachine.goto runMachine.answered runMachine.perform runMachine.step runMachine.wayOf runMachine.logOf runProgram.slotsFrom runProgram.slotsOf runProgram.givenRanges runProgram.constantWord runProgram.unaryWord runProgram.binaryWord runProgram.recordedMetadata runProgram.event runProgram.actBy runProgram.hasMeaning runProgram.classIn runProgram.nodeBy runProgram.programOf
+unfolding runSystem.after runMachine.put runMachine.goto runMachine.isStored runMachine.replied runMachine.answered runMachine.perform runMachine.step runMachine.wayOf runMachine.logOf runProgram.slotsFrom runProgram.slotsOf runProgram.givenRanges runProgram.perhapsSlots runProgram.constantWord runProgram.unaryWord runProgram.binaryWord runProgram.recordedMetadata runProgram.event runProgram.actBy runProgram.hasMeaning runProgram.classIn runProgram.nodeBy runProgram.programOf
 ofRun1 = tt
 
 unfoldable pub ofRun : Unit {0}

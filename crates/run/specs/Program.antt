@@ -36,6 +36,10 @@ slotsOf (r ∷ rs) = slotsFrom (r .start) (r .count) ++ slotsOf rs
 unfoldable pub givenRanges : Tables → Cell → List Range
 givenRanges T x = sureWrites T x ++ cond (isIn (x .instruction .op) (op.SlotSet ∷ op.SlotSetN ∷ [])) (arrays T x) []
 
+-- the slots of each range that it perhaps writes
+unfoldable pub perhapsSlots : Tables → Cell → List (ℕ → Bool)
+perhapsSlots T x = map (λ r t. rangeHas t r) (perhapsWrites T x)
+
 -- "LoadConst its constant's word (Nil 0)"; "of a String or a missing constant gives some word fixed by b"
 unfoldable pub constantWord : World → ℕ → Constant → ℕ
 constantWord W b Nil = 0
@@ -108,7 +112,7 @@ nodeBy F k W p x =
     record {
       act = actBy (F .sections) W x k;
       gives = λ t. anyOf (rangeHas t) (givenRanges (F .sections .tables) x);
-      perhaps = map (λ r t. rangeHas t r) (perhapsWrites (F .sections .tables) x);
+      perhaps = perhapsSlots (F .sections .tables) x;
       target = targetBy k p (x .instruction);
     }
 

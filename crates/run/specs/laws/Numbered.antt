@@ -154,7 +154,7 @@ module _ (F : Function) (leaders : List ℕ) (N : Numberable F leaders) where
     holds-answered : (M : Node) (p : ℕ) (σ : Words) (R : List Event) (r : Reply) → ((j : Bool) → goto M p j < length (F .cells) → table (goto M p j) ≡ empty)
         → Holds Inv (answered M p σ R r)
     unfolding answered
-    holds-answered M p σ R (words w j) f = held (inv-empty _ _ (f j))
+    holds-answered M p σ R (words w stored j) f = held (inv-empty _ _ (f j))
     holds-answered M p σ R finish f = past
 
     holds-perform : (M : Node) (p : ℕ) (σ : Words) (R : List Event) (A : Act) → ((j : Bool) → Goes A j → goto M p j < length (F .cells) → table (goto M p j) ≡ empty)
