@@ -79,7 +79,12 @@ typedef struct {
     uint32_t kind, number, place, passes;
 } lampruda_cleaned;
 
-/* One pass over a unit. */
+/*
+ * One pass over a unit. What is returned runs as what was given. A host's machine need not store all that an
+ * instruction may write: SelectExec may store into the destinations of any of its receive cases and leave the others,
+ * and MapIterNext may leave key and value. What a slot held before such an instruction is then still there, and a
+ * store of it stays.
+ */
 lampruda_answer lampruda_pass(const uint8_t *unit, size_t unit_length, uint8_t *out, size_t out_length,
                               uint32_t *work32, size_t work32_length, uint64_t *work64, size_t work64_length);
 
