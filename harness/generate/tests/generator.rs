@@ -17,7 +17,7 @@ fn same_units_everywhere() {
     assert_eq!(hashed, EXPECTED);
 }
 
-const EXPECTED: u64 = 2_805_933_748_324_667_429;
+const EXPECTED: u64 = 6_432_502_460_812_460_563;
 
 #[test]
 fn profiles_draw_units() {

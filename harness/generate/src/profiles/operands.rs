@@ -210,25 +210,43 @@ pub(super) fn selects(rng: &mut Rng) -> Parts {
     let s = ROOM + rng.within(2..=6);
     let mut draft = Draft::new(rng, n, s).with_types();
     for _ in 0..draft.rng.within(0..=4) {
-        let case = draft.case();
+        let mut case = draft.case();
+        if draft.rng.percent(50) {
+            case.slot = draft.slot();
+            case.elem_slots = 1;
+        }
         draft.parts.cases.push(case);
     }
-    while !draft.is_full() {
-        match draft.rng.below(12) {
-            0 | 1 => draft.any_opcode(Opcode::SelectExec as u8),
-            2 => draft.any_opcode(Opcode::MapIterNext as u8),
-            3 => {
-                let opcode = draft.rng.pick(&[Opcode::SelectBegin, Opcode::SelectSend, Opcode::SelectRecv]);
+    while draft.place() + 1 < n {
+        match draft.rng.below(16) {
+            0..=2 => draft.any_opcode(Opcode::SelectExec as u8),
+            3..=5 => map_iter_next(&mut draft),
+            6 => {
+                let opcode = draft.rng.pick(&[
+                    Opcode::SelectBegin,
+                    Opcode::SelectSend,
+                    Opcode::SelectRecv,
+                    Opcode::MapIterNext,
+                ]);
                 draft.any_opcode(opcode as u8);
             }
-            4 | 5 => draft.give_back(),
-            6 => draft.any_branch(),
-            7 | 8 => {
+            7 => draft.give_back(),
+            8 => draft.any_branch(),
+            9..=12 => {
                 let (slot, value) = (draft.slot(), draft.rng.below(3) as i32);
                 draft.load_int(slot, value);
             }
             _ => draft.pure(20),
         }
     }
+    draft.give_back();
     draft.finish()
+}
+
+/// MapIterNext with its iterator in the frame's last slots, so that key and value are seldom among them.
+fn map_iter_next(draft: &mut Draft) {
+    let (a, c) = (draft.slot().min(3), draft.slot());
+    let b = (draft.parts.types.len() - 7) as u16;
+    let metadata = draft.short_metadata(Kind::MapIterNext);
+    draft.push(Instruction { op: Opcode::MapIterNext as u8, flags: 0, a, b, c }, metadata);
 }
