@@ -399,71 +399,44 @@ fn row_without_jumps(jumps: i32, kept: &[u32]) -> Stated {
     Stated::Rewritten(retained)
 }
 
-/// Document 02, L5: what SelectExec's receive cases receive and MapIterNext's key and value are perhaps written.
+/// Document 02, L5: what SelectExec's receive cases receive and MapIterNext's key and value are perhaps written. Each
+/// starts with a store, which stays exactly if its slot is read after it.
 fn perhaps_written() -> Vec<Named> {
     use Opcode::{MapGet, MapIterNext, QueueRecv, SelectExec};
-    let kept = |code: &[Instruction]| {
-        rewritten(&code.iter().enumerate().skip(1).map(|(place, &it)| (place as u32, it)).collect::<Vec<_>>())
-    };
     let receive = |slot, elem_slots, has_ok| Case { kind: Case::RECEIVE, has_ok, queue: 2, slot, elem_slots };
-    let send = Case { kind: Case::SEND, queue: 2, slot: 0, elem_slots: 1, ..Case::default() };
-    // A store into slot `stored`, SelectExec 1 with these cases, a Return.
-    let select = |stored: u16, cases: &[Case], last: Instruction| {
-        let code = [load_int(stored, 0), op(SelectExec, 1, 0, 0), last];
-        let layout = Metadata { second: cases.len() as u32, ..Metadata::new(Kind::SelectExecLayout) };
-        Parts { cases: cases.to_vec(), ..with_metadata(function(5, &code), 1, layout) }
+    let send = |slot| Case { kind: Case::SEND, queue: 2, slot, elem_slots: 1, ..Case::default() };
+    let layout = |cases: usize| Metadata { second: cases as u32, ..Metadata::new(Kind::SelectExecLayout) };
+    // SelectExec 1 with these cases, in five slots.
+    let select = |stored: u16, cases: &[Case], returned: u16| {
+        let code = [load_int(stored, 0), op(SelectExec, 1, 0, 0), give_back(returned, 1)];
+        Parts { cases: cases.to_vec(), ..with_metadata(function(5, &code), 1, layout(cases.len())) }
     };
-    // A store, MapIterNext with its iterator in 2 to 8 and key and value from slot a on, a Return.
-    let next = |stored: u16, a: u16, flag: u16, last: Instruction| {
-        let code = [load_int(stored, 0), op(MapIterNext, a, 2, flag), last];
+    // MapIterNext with its iterator in 2 to 8, key and value from slot a on, in eleven slots.
+    let next = |stored: u16, a: u16, flag: u16, returned: u16| {
+        let code = [load_int(stored, 0), op(MapIterNext, a, 2, flag), give_back(returned, 1)];
         let layout = Metadata { first: 1, second: 1, ..Metadata::new(Kind::MapIterNext) };
         with_metadata(function(11, &code), 1, layout)
     };
-    let sure = |parts: Parts| {
-        let stated = kept(&parts.code);
-        (parts, stated)
+    let between = |stored: u16, instruction: Instruction, metadata: Metadata| {
+        with_metadata(function(4, &[load_int(stored, 0), instruction, give_back(stored, 1)]), 1, metadata)
     };
     let two_blocks = [load_int(0, 0), jump(1), op(SelectExec, 1, 0, 0), jump(1), give_back(0, 1)];
-    let two_blocks = Parts {
-        cases: vec![receive(0, 1, 0)],
-        ..with_metadata(
-            function(5, &two_blocks),
-            2,
-            Metadata { second: 1, ..Metadata::new(Kind::SelectExecLayout) },
-        )
-    };
-    let surely = |name, parts: Parts| {
-        let (parts, stated) = sure(parts);
+    let two_blocks =
+        Parts { cases: vec![receive(0, 1, 0)], ..with_metadata(function(5, &two_blocks), 2, layout(1)) };
+    let stays = |name, parts: Parts| Named::new(name, parts, Stated::Unchanged);
+    let goes = |name, parts: Parts| {
+        let stated = rewritten(&[(1, parts.code[1]), (2, parts.code[2])]);
         Named::new(name, parts, stated)
     };
     vec![
-        Named::new(
-            "a store before a select that may receive into its slot",
-            select(0, &[receive(0, 1, 0)], give_back(0, 1)),
-            Stated::Unchanged,
-        ),
-        Named::new(
-            "an ok slot is perhaps written",
-            select(0, &[receive(3, 1, 1), receive(4, 0, 1)], give_back(4, 1)),
-            kept(&[HINT, op(SelectExec, 1, 0, 0), give_back(4, 1)]),
-        ),
-        Named::new(
-            "a store into an ok slot",
-            select(4, &[receive(3, 1, 1)], give_back(4, 1)),
-            Stated::Unchanged,
-        ),
-        Named::new(
-            "all cases receive into one slot",
-            select(0, &[receive(0, 1, 0), receive(0, 1, 0)], give_back(0, 1)),
-            Stated::Unchanged,
-        ),
-        surely("a perhaps written range is no read", select(0, &[receive(0, 1, 0)], give_back(2, 1))),
-        Named::new("what a send case sends is read", select(0, &[send], give_back(2, 1)), Stated::Unchanged),
-        surely("the chosen index is surely written", select(1, &[receive(0, 1, 0)], give_back(1, 1))),
-        surely(
-            "a slot that a select surely and perhaps writes",
-            select(1, &[receive(1, 1, 0)], give_back(1, 1)),
-        ),
+        stays("a store before a select that may receive into its slot", select(0, &[receive(0, 1, 0)], 0)),
+        stays("a store into the slot of has_ok", select(4, &[receive(3, 1, 1)], 4)),
+        stays("all cases receive into one slot", select(0, &[receive(0, 1, 0), receive(0, 1, 0)], 0)),
+        stays("a send case and a receive case", select(0, &[send(3), receive(0, 1, 0)], 0)),
+        stays("what a send case sends is read", select(0, &[send(0)], 2)),
+        goes("a receive destination is no read", select(0, &[receive(0, 1, 0)], 2)),
+        goes("the chosen index is surely written", select(1, &[receive(0, 1, 0)], 1)),
+        goes("a slot that a select surely and perhaps writes", select(1, &[receive(1, 1, 0)], 1)),
         Named::new(
             "a store before a select in the next block",
             two_blocks,
@@ -471,38 +444,34 @@ fn perhaps_written() -> Vec<Named> {
         ),
         Named::new(
             "a receive destination outside the frame",
-            select(0, &[receive(4, 1, 1)], give_back(0, 1)),
+            select(0, &[receive(4, 1, 1)], 0),
             refused(7, 1),
         ),
         Named::new(
             "a receive destination past the slots",
-            select(0, &[receive(65_535, 1, 1)], give_back(0, 1)),
+            select(0, &[receive(65_535, 1, 1)], 0),
             refused(6, 1),
         ),
+        stays("a store before MapIterNext into its slot", next(0, 0, 10, 0)),
+        stays("a store into a map's value slot", next(1, 0, 10, 1)),
+        goes("MapIterNext's key and value are no read", next(0, 0, 10, 10)),
+        goes("MapIterNext's flag is surely written", next(10, 0, 10, 10)),
+        goes("a slot that MapIterNext surely and perhaps writes", next(1, 0, 1, 1)),
+        Named::new("key and value outside the frame", next(0, 10, 0, 0), refused(7, 1)),
         Named::new(
-            "a store before MapIterNext into its slot",
-            next(0, 0, 10, give_back(0, 1)),
-            Stated::Unchanged,
+            "key and value past the slots, the flag outside the frame",
+            next(0, 65_535, 11, 0),
+            refused(6, 1),
         ),
-        Named::new("a store into a map's value slot", next(1, 0, 10, give_back(1, 1)), Stated::Unchanged),
-        surely("MapIterNext's range is no read", next(0, 0, 10, give_back(10, 1))),
-        surely("MapIterNext's flag is surely written", next(10, 0, 10, give_back(10, 1))),
-        surely("a slot that MapIterNext surely and perhaps writes", next(1, 0, 1, give_back(1, 1))),
-        Named::new("key and value outside the frame", next(0, 10, 0, give_back(0, 1)), refused(7, 1)),
-        Named::new("key and value past the slots", next(0, 65_535, 0, give_back(0, 1)), refused(6, 1)),
-        surely(
+        goes(
             "QueueRecv surely writes",
-            with_metadata(
-                function(4, &[load_int(0, 0), op(QueueRecv, 0, 2, 0), give_back(0, 1)]),
-                1,
-                Metadata { first: 1, ..Metadata::new(Kind::QueueLayout) },
-            ),
+            between(0, op(QueueRecv, 0, 2, 0), Metadata { first: 1, ..Metadata::new(Kind::QueueLayout) }),
         ),
-        surely(
+        goes(
             "MapGet's ok slot is surely written",
-            with_metadata(
-                function(4, &[load_int(1, 0), op(MapGet, 0, 2, 3), give_back(1, 1)]),
+            between(
                 1,
+                op(MapGet, 0, 2, 3),
                 Metadata { first: 1, second: 1, has_ok: 1, ..Metadata::new(Kind::MapGet) },
             ),
         ),
