@@ -1,13 +1,14 @@
 // The unit's header, and the check that bytes are a unit.
 ghost use mathlib.Core.Path.{_≡_};
-ghost use Prim.Native.Nat.{_+_, _*_, _/_, _≤_};
+ghost use mathlib.Core.Bool.{cond};
+ghost use Prim.Native.Nat.{suc, _+_, _*_, _/_, _^_, _≤_, _<_};
 ghost use lib.Dec.{eqb};
 ghost use lib.ListN.{length};
 ghost use Rattle.words.specs.Le.{u32At};
-ghost use Rattle.words.specs.Lists.{every};
+ghost use Rattle.words.specs.Lists.{every, lowestBelow};
 ghost use Rattle.unit.specs.Size.{headerSize, metadataSize, constantSize, caseSize};
-ghost use Rattle.unit.specs.Entry.{metadataAt, goodMetadata, typeAt, goodType, goodConstant, caseAt, goodCase};
-ghost use Rattle.unit.specs.Layout.{headerOf, sectionsFollow, goodCounts, goodEntries, isUnit, layoutOf};
+ghost use Rattle.unit.specs.Entry.{metadataAt, goodMetadata, isWideSelect, typeAt, goodType, goodConstant, caseAt, goodCase};
+ghost use Rattle.unit.specs.Layout.{headerOf, sectionsFollow, goodCounts, goodEntries, hasSections, wideSelect, layoutOf};
 ghost use Rattle.unit.specs.laws.UnitLaws.{Sections};
 use unit::Counts;
 use unit::Header;
@@ -21,6 +22,13 @@ use unit::refusal;
 use unit::section;
 use unit::size;
 use words::le;
+
+// What the sweep over the entries finds: is each as "Entries" says, and the lowest metadata entry that is a select of too many
+// cases, or the number of entries.
+struct Entries {
+    good: bool,
+    wide: usize,
+}
 
 fn counts(unit: &[u8]) -> Counts
     requires { ⌜ headerSize ≤ length (now unit) ⌝ }
@@ -147,18 +155,42 @@ fn good_metadata(d: Metadata, cases: usize) -> bool
     }
 }
 
-fn every_metadata(section: &[u8], cases: usize) -> bool
-    ensures { λ r. ⌜ r ≡ every (length (now (section .entry)) / metadataSize) (λ k. goodMetadata cases (metadataAt (now (section .entry)) k)) ⌝ }
+// A select of more cases than the limit.
+fn is_wide_select(d: Metadata) -> bool
+    ensures { λ r. ⌜ r ≡ isWideSelect d ⌝ }
+{
+    (d.kind == 12) & (d.second > size::MAX_SELECT_CASES)
+}
+
+// The lowest number up to k that passes, or the next, where `found` is the lowest below k, or k.
+fn lowest(found: usize, k: usize, passes: bool) -> usize
+    requires { ⌜ k < 2 ^ 63 ⌝ }
+    ensures { λ r. ⌜ r ≡ cond (eqb found k) (cond passes k (suc k)) found ⌝ }
+{
+    if found != k {
+        return found;
+    }
+    if passes {
+        return k;
+    }
+    k + 1
+}
+
+// One sweep finds both. It ends at the section's end alone, so that both are told of all entries.
+fn sweep_metadata(section: &[u8], cases: usize) -> Entries
+    ensures { λ r. ⌜ (r .good ≡ every (length (now (section .entry)) / metadataSize) (λ k. goodMetadata cases (metadataAt (now (section .entry)) k))) × (r .wide ≡ lowestBelow (length (now (section .entry)) / metadataSize) (λ k. isWideSelect (metadataAt (now (section .entry)) k))) ⌝ }
 {
     let n = section.len() / 16;
+    let mut good = true;
+    let mut wide = 0;
     let mut k = 0;
     while k < n {
-        if !good_metadata(entry::metadata(section, k), cases) {
-            return false;
-        }
+        let d = entry::metadata(section, k);
+        good = good & good_metadata(d, cases);
+        wide = lowest(wide, k, is_wide_select(d));
         k += 1;
     }
-    true
+    Entries { good, wide }
 }
 
 // The loop ends at the section's end alone, so that the processor tests many types at once.
@@ -227,42 +259,47 @@ fn every_case(section: &[u8]) -> bool
     true
 }
 
-fn good_entries(unit: &[u8]) -> bool
+fn sweep(unit: &[u8]) -> Entries
     requires { ⌜ Sections (headerOf (now unit)) (length (now unit)) ⌝ }
-    ensures { λ r. ⌜ r ≡ goodEntries (now (unit .entry)) ⌝ }
+    ensures { λ r. ⌜ (r .good ≡ goodEntries (now (unit .entry))) × (r .wide ≡ wideSelect (now (unit .entry))) ⌝ }
 {
-    let cases = section::word(unit, field::CASES);
-    every_metadata(
+    let metadata = sweep_metadata(
         section::part(unit, field::METADATA_AT, field::METADATA, size::METADATA),
-        cases,
-    )
+        section::word(unit, field::CASES),
+    );
+    let good = metadata.good
         & every_type(section::part(unit, field::TYPES_AT, field::TYPES, size::TYPE))
         & every_constant(section::part(unit, field::CONSTANTS_AT, field::CONSTANTS, size::CONSTANT))
-        & every_case(section::part(unit, field::CASES_AT, field::CASES, size::CASE))
+        & every_case(section::part(unit, field::CASES_AT, field::CASES, size::CASE));
+    Entries {
+        good,
+        wide: metadata.wide,
+    }
 }
 
-fn is_unit(unit: &[u8]) -> bool
-    ensures { λ r. ⌜ r ≡ isUnit (now (unit .entry)) ⌝ }
+fn has_sections(unit: &[u8]) -> bool
+    ensures { λ r. ⌜ r ≡ hasSections (now (unit .entry)) ⌝ }
 {
     if unit.len() < size::HEADER {
         return false;
     }
-    if !sections_follow(unit) {
-        return false;
-    }
-    if !good_counts(unit) {
-        return false;
-    }
-    good_entries(unit)
+    sections_follow(unit) & good_counts(unit)
 }
 
-// The header of a unit, or refusal 1 at place 0.
+// The header of a unit, or the refusal of its bytes: 1 at place 0, or 13 at the lowest select of too many cases.
 pub fn check(unit: &[u8]) -> Layout
     ensures { λ r. ⌜ r ≡ layoutOf (now (unit .entry)) ⌝ }
 {
-    if is_unit(unit) {
-        Layout::Unit(header(unit))
-    } else {
-        Layout::Refused(refusal::NOT_UNIT, 0)
+    if !has_sections(unit) {
+        return Layout::Refused(refusal::NOT_UNIT, 0);
     }
+    let entries = sweep(unit);
+    if !entries.good {
+        return Layout::Refused(refusal::NOT_UNIT, 0);
+    }
+    let wide = entries.wide;
+    if wide < section::word(unit, field::METADATA) {
+        return Layout::Refused(refusal::TOO_MANY_CASES, wide as u32);
+    }
+    Layout::Unit(header(unit))
 }

@@ -1,12 +1,12 @@
 -- Definitions. The entries of the unit's sections, each read from its section's bytes.
 -- Assumes nothing.
-use mathlib.Core.Bool.{Bool, true, false, cond}
+use mathlib.Core.Bool.{Bool, true, false, cond, _&&_}
 use mathlib.Core.List.{List, _∷_, _++_}
 use Prim.Native.Nat.{ℕ, _+_, _*_, _/_}
 use lib.Dec.{eqb, leb, ltb}
 use lib.ListN.{length, getD}
 use Rattle.words.specs.Le.{u16At, u32At, u64At, toLe}
-use Rattle.unit.specs.Size.{metadataSize, constantSize, functionSize, externSize, caseSize}
+use Rattle.unit.specs.Size.{metadataSize, constantSize, functionSize, externSize, caseSize, maxSelectCases}
 use Rattle.unit.specs.declared.Metadata.{Metadata}
 use Rattle.unit.specs.declared.Constant.{Constant}
 use Rattle.unit.specs.declared.Constant.the-variants.{Nil, Bool as BoolConstant, Int, Float, String, Missing as MissingConstant}
@@ -87,6 +87,10 @@ goodMetadata cases d =
     cond (leb (d .kind) kindLoopEnd)
     (cond (leb (d .ok) 1) (cond (eqb (d .kind) kindSelectExecLayout) (leb (d .first + d .second) cases) true) false)
     false
+
+-- document 02, L9: "a SelectExecLayout of more than 24"
+unfoldable pub isWideSelect : Metadata → Bool
+isWideSelect d = eqb (d .kind) kindSelectExecLayout && ltb maxSelectCases (d .second)
 
 -- "Type: one byte 0 to 5": Value 0, GcBase 1, GcRef 2, Interface0 3, Interface1 4, Float 5
 abbrev pub typeValue : ℕ

@@ -1,4 +1,4 @@
--- Definitions. The refusal numbers of document 01's table of answers.
+-- Definitions. The refusal numbers of document 01's table of answers, and those of document 02.
 -- Assumes nothing.
 use Prim.Native.Nat.{ℕ}
 
@@ -39,3 +39,7 @@ unsoundLoop = 9
 -- "lowest kept loop hint whose end was removed or whose exit exceeds n"
 abbrev pub lostLoop : ℕ
 lostLoop = 10
+
+-- document 02, L9: "a SelectExecLayout of more than 24"
+abbrev pub tooManyCases : ℕ
+tooManyCases = 13

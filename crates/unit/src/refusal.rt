@@ -18,3 +18,5 @@ pub const BRANCH_OUTSIDE: u32 = 8;
 pub const UNSOUND_LOOP: u32 = 9;
 
 pub const LOST_LOOP: u32 = 10;
+
+pub const TOO_MANY_CASES: u32 = 13;

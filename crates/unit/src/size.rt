@@ -34,6 +34,9 @@ pub const MAX_LOCALS: usize = 65535;
 
 pub const MAX_SET_WORDS: usize = 2097152;
 
+// The most cases of a select.
+pub const MAX_SELECT_CASES: u32 = 24;
+
 pub fn output_room(n: usize) -> usize
     requires { ⌜ n < 2 ^ 32 ⌝ }
     ensures { λ r. ⌜ r ≡ outputRoom n ⌝ }

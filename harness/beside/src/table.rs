@@ -10,7 +10,9 @@ pub fn first_rows(call: Call, bytes: &[u8], lent: Lengths) -> Option<Answer> {
         return Some(Answer::NO_UNIT);
     };
     let header = unit.header();
-    if !unit.is_worked_on() {
+    if let Some(refusal) = unit.refusal() {
+        Some(refusal)
+    } else if !unit.is_worked_on() {
         Some(Answer::Unchanged)
     } else if !lent.suffice(&call.lent(unit.stated_lengths())) {
         Some(Answer::SHORT_BUFFER)

@@ -17,7 +17,7 @@ fn same_units_everywhere() {
     assert_eq!(hashed, EXPECTED);
 }
 
-const EXPECTED: u64 = 6_432_502_460_812_460_563;
+const EXPECTED: u64 = 7_427_050_154_132_328_410;
 
 #[test]
 fn profiles_draw_units() {
