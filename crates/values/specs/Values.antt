@@ -65,6 +65,11 @@ expressionIn (e ∷ es) d = let rest = expressionIn es d in cond (sameExpression
 abbrev pub valueOf : Values → ℕ → Atom
 valueOf t s = valueIn (t .slots) s
 
+-- the slot that is found, or slot s
+unfoldable pub orItself : ℕ → Option ℕ → ℕ
+orItself s (some r) = r
+orItself s none = s
+
 -- Document 02: "among slots of the same type that hold the value at that point, the lowest-numbered is used; a slot not stored since
 -- the block's start or the last clearing counts as holding the word it had there". The slots from s on have the types listed. The
 -- tie rule is here alone.
@@ -76,10 +81,6 @@ lowestFrom t v type s (k ∷ ks) =
 
 abbrev pub lowestSlot : List ℕ → Values → Atom → ℕ → Option ℕ
 lowestSlot types t v type = lowestFrom t v type 0 types
-
-unfoldable pub orItself : ℕ → Option ℕ → ℕ
-orItself s (some r) = r
-orItself s none = s
 
 -- the slot that stands for slot s
 unfoldable pub representative : List ℕ → Values → ℕ → ℕ
