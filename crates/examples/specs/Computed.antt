@@ -60,7 +60,7 @@ unfolding flowBranch.falls flowBranch.branches flowBranch.targetBy flowBranch.br
 ofFlow = tt
 
 unfoldable ofValues1 : Unit {0}
-unfolding valuesFold.bitwise valuesFold.differ valuesFold.lowBits valuesFold.trunc valuesFold.bitWord valuesFold.foldWord valuesFold.fitsImm32 valuesValues.sameAtom valuesValues.sameExpression valuesValues.valueIn valuesValues.slotIn valuesValues.expressionIn valuesValues.usable valuesValues.recordedSlot valuesValues.orItself valuesValues.representative valuesValues.store valuesValues.learn
+unfolding valuesFold.bitwise valuesFold.differ valuesFold.lowBits valuesFold.trunc valuesFold.bitWord valuesFold.foldWord valuesFold.fitsImm32 valuesValues.sameAtom valuesValues.sameExpression valuesValues.valueIn valuesValues.expressionIn valuesValues.lowestFrom valuesValues.orItself valuesValues.representative valuesValues.store valuesValues.learn
 ofValues1 = tt
 
 unfoldable ofValues2 : Unit {0}

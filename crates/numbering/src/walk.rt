@@ -8,7 +8,7 @@ ghost use borrow.Rule.Slice.PartMut.{midOf};
 ghost use Rattle.instruction.specs.Instruction.{class, ofWord, toWord};
 ghost use Rattle.effects.specs.Shape.{Cell, Tables};
 ghost use Rattle.effects.specs.laws.Cells.{cellsBy};
-ghost use Rattle.values.specs.Values.{valueOf, expressionIn, recordedSlot, learn};
+ghost use Rattle.values.specs.Values.{valueOf, expressionIn, lowestSlot, learn};
 ghost use Rattle.values.specs.Number.{loadOrStay, copyOrStay, constantAtom, stored as storedBy, byExpression, byValue, numberCopy, numberConstant, numberRead, numberJump, numberBy, number, numberCode};
 ghost use Rattle.values.specs.laws.Folded.{expressionOf};
 ghost use Rattle.values.specs.laws.Memory.{memoryOf, keyAtom, constantKey, expressionKey, limit, expressionAt, atomIn, endAt, Ready};
@@ -75,17 +75,18 @@ fn expression_word(op: u8, flags: u8, left: u64, right: u64) -> u64
     (op as u64) + 256 * (flags as u64) + 65536 * left + 1099511627776 * right
 }
 
-// An equal expression, whose value has the number d: "becomes Copy from the recorded slot under the same two conditions, the type
-// being the destination's; otherwise it stays"
+// An equal expression, whose value has the number d: "becomes Copy from" the lowest slot that holds it, "the type being the
+// destination's; otherwise it stays"
 fn copy_or_stay(t: &mut [u64], types: &[u8], n: usize, i: Instruction, d: u64) -> Instruction
     requires { ⌜ Ready n (length (now types)) (now t) × (i .a < length (now types)) × (d < limit n (length (now types)) (memoryOf n (length (now types)) (now t))) ⌝ }
-    ensures { λ r. ⌜ Becomes n (now (types .entry)) 0 0 0 (now (t .entry)) r (now (t .exit)) (λ dest constants. Unit {0}) (λ dest S x. storedBy S (copyOrStay S i (recordedSlot (S .types) x (atomIn n (length (now (types .entry))) dest (memoryOf n (length (now (types .entry))) (now (t .entry))) d) (getD (S .types) (i .a) 0))) x (atomIn n (length (now (types .entry))) dest (memoryOf n (length (now (types .entry))) (now (t .entry))) d)) ⌝ }
+    ensures { λ r. ⌜ Becomes n (now (types .entry)) 0 0 0 (now (t .entry)) r (now (t .exit)) (λ dest constants. Unit {0}) (λ dest S x. storedBy S (copyOrStay S i (lowestSlot (S .types) x (atomIn n (length (now (types .entry))) dest (memoryOf n (length (now (types .entry))) (now (t .entry))) d) (getD (S .types) (i .a) 0))) x (atomIn n (length (now (types .entry))) dest (memoryOf n (length (now (types .entry))) (now (t .entry))) d)) ⌝ }
 {
     let a = i.a;
-    match table::store(t, types, n, a, d) {
-        Found::At(r) => Instruction::new(opcode::COPY, i.a, r as u16, 0),
-        Found::Nothing => i,
+    let r = table::share(t, types, n, a, d);
+    if r < types.len() {
+        return Instruction::new(opcode::COPY, i.a, r as u16, 0);
     }
+    i
 }
 
 // A new expression: its value is what this place defines.
@@ -164,7 +165,7 @@ fn second_number(t: &[u64], n: usize, locals: usize, s: u16, binary: bool) -> u6
 // The second operand of a binary opcode; a unary one has none.
 fn second(t: &mut [u64], types: &[u8], n: usize, s: u16, d: u64, binary: bool) -> u16
     requires { ⌜ Ready n (length (now types)) (now t) × (binary ≡ true → s < length (now types)) × (d ≡ secondNumber n (length (now types)) (memoryOf n (length (now types)) (now t)) s binary) ⌝ }
-    ensures { λ r. ⌜ Second n (length (now (types .entry))) (now (types .entry)) (now (t .entry)) s d binary r (now (t .exit)) ⌝ }
+    ensures { λ r. ⌜ Second n (length (now (types .entry))) (now (types .entry)) (now (t .entry)) s binary r (now (t .exit)) ⌝ }
 {
     if binary {
         return table::representative(t, types, n, s, d);
@@ -464,9 +465,9 @@ fn begin(t: &mut [u64], n: usize, locals: usize)
     requires { ⌜ (0 < n) × (n ≤ 65536) × (locals ≤ 65536) × (endAt n locals ≤ length (now t)) ⌝ }
     ensures { λ _. ⌜ Begins n locals (now (t .entry)) (now (t .exit)) ⌝ }
 {
-    let heads = 4 + 2 * locals + 3 * n;
+    let heads = 5 + 3 * locals + 5 * n;
     words::fill::zero_u64(&mut t[0..heads]);
-    let expressions = 4 + 2 * locals + 7 * n;
+    let expressions = 5 + 3 * locals + 9 * n;
     words::fill::zero_u64(&mut t[expressions..expressions + n]);
     t[0] = 1;
 }
@@ -493,7 +494,7 @@ fn turn(t: &mut [u64], types: &[u8], constants: &[u8], n: usize, leader: u32, w:
 }
 
 // Value numbering of a whole function: its code, one word an instruction at the memory's start, is rewritten. `leaders` has 1 where
-// a block starts. The table of values takes 12 numbers of the memory after the code for each instruction, 2 for each slot and 4
+// a block starts. The table of values takes 14 numbers of the memory after the code for each instruction, 3 for each slot and 5
 // more; what they hold, before and after, is free.
 pub fn number_code(memory: &mut [u64], leaders: &[u32], types: &[u8], constants: &[u8])
     requires { ⌜ Numberable (midOf 0 (length (now leaders)) (now memory)) (now leaders) (now types) (now memory) ⌝ }

@@ -1,6 +1,6 @@
 -- Demand 3 for whole units: what one pass or the cleaning returns runs as the unit's function does.
 -- Assumes nothing.
-use mathlib.Core.Path.{_≡_, refl, ap}
+use mathlib.Core.Path.{_≡_, refl, ap, _∙_}
 use mathlib.Core.Bool.{Bool, true, false, cond, not, _&&_, _||_, true≢false}
 use mathlib.Core.List.{List, [], _∷_, _++_}
 use mathlib.Core.Option.{some}
@@ -91,12 +91,14 @@ pub cells-long : (u : List ℕ) → length (cellsOf u) ≡ headerOf u .counts .i
 unfolding cellsOf
 cells-long u = length-tabulate (headerOf u .counts .instructions) _
 
-pub given-well : (u : List ℕ) → Bytes u → isUnit u ≡ true → headerOf u .counts .metadata ≡ headerOf u .counts .instructions → Well (givenFunction u)
+pub given-well : (u : List ℕ) → Bytes u → isUnit u ≡ true → headerOf u .counts .metadata ≡ headerOf u .counts .instructions
+    → headerOf u .counts .types ≡ headerOf u .counts .locals → Well (givenFunction u)
 unfolding givenFunction sectionsOf
-given-well u b e m =
+given-well u b e m t =
     record {
       locals = unit-laid u e .locals;
       described = rw (cells-long u, m) (omega arith);
+      typed = rw (unit-laid u e .lengths .types ∙ t) (omega arith);
       fields = λ p h. let k : p < headerOf u .counts .instructions = rw cells-long at h in rw (cell-given u p k) (instruction-fields (codeOf u) p (bytes-mid (headerOf u .offsets .code) (instructionSize * headerOf u .counts .instructions) u b));
       constants = constants-below (constantsOf u) (bytes-mid (headerOf u .offsets .constants) (constantSize * headerOf u .counts .constants) u b);
     }
@@ -177,7 +179,7 @@ module _ (u : List ℕ) (b : Bytes u) (room : Bool) where
       let typed = outcome-kept (eqb (headerOf u .counts .types) (headerOf u .counts .locals)) _ (refused typeCount 0) kept (not-refused typeCount 0) (described .1) in
       let same = eqb-true (headerOf u .counts .metadata) (headerOf u .counts .instructions) (described .0) in
       let on : isWorkedOn (length (cellsOf u)) ≡ true = rw (cells-long u) (go (isWorkedOn (headerOf u .counts .instructions)) _ (worked .0)) in
-      optimized-returnable (givenFunction u) (headerOf u .counts .cases) (given-well u b (laid .0) same) (given-sound u b (laid .0) same) on kept (typed .1)
+      optimized-returnable (givenFunction u) (headerOf u .counts .cases) (given-well u b (laid .0) same (eqb-true (headerOf u .counts .types) (headerOf u .counts .locals) (typed .0))) (given-sound u b (laid .0) same) on kept (typed .1)
     where
       go : (s t : Bool) → (not s || t) ≡ false → s ≡ true
       go true t e = refl

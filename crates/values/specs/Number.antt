@@ -19,7 +19,7 @@ use Rattle.effects.specs.Shape.{Sections, Cell}
 use Rattle.values.specs.declared.Atom.{Atom}
 use Rattle.values.specs.declared.Atom.the-variants.{Integer, Float, Definition}
 use Rattle.values.specs.Fold.{foldingUnary, foldingBinary, foldWord, fitsImm32}
-use Rattle.values.specs.Values.{Values, Expression, empty, valueOf, recordedSlot, representative, store, learn, expressionIn}
+use Rattle.values.specs.Values.{Values, Expression, empty, valueOf, lowestSlot, representative, store, learn, expressionIn}
 
 -- an instruction as it becomes, and the table after it
 pub record Numbered : Type 0 where
@@ -68,16 +68,16 @@ module _ (S : Sections) where
 
   -- a store of a known value: the instruction and the value of its destination
   unfoldable pub stored : Instruction → Values → Atom → Numbered
-  stored i t v = record { instruction = i; table = store (S .types) t (i .a) v }
+  stored i t v = record { instruction = i; table = store t (i .a) v }
 
-  -- "An equal expression .. becomes Copy from the recorded slot under the same two conditions, the type being the destination's;
-  -- otherwise it stays, with the same value"
+  -- "An equal expression .. becomes Copy from" the lowest slot that holds the value, "the type being the destination's; otherwise it
+  -- stays, with the same value"
   unfoldable pub copyOrStay : Instruction → Option ℕ → Instruction
   copyOrStay i (some r) = plain op.Copy (i .a) r 0
   copyOrStay i none = i
 
   unfoldable pub byExpression : ℕ → Instruction → Values → Expression → Option Atom → Numbered
-  byExpression p i t e (some v) = stored (copyOrStay i (recordedSlot (S .types) t v (getD (S .types) (i .a) 0))) t v
+  byExpression p i t e (some v) = stored (copyOrStay i (lowestSlot (S .types) t v (getD (S .types) (i .a) 0))) t v
   byExpression p i t e none = stored i (learn t e (Definition p (i .a))) (Definition p (i .a))
 
   -- folded, or looked up
@@ -85,27 +85,19 @@ module _ (S : Sections) where
   byValue p i t e (some v) = stored (loadOrStay i v) t (Integer v)
   byValue p i t e none = byExpression p i t e (expressionIn (t .expressions) e)
 
+  -- "Operands of .. unary and binary opcodes .. become" the slots that stand for them
   unfoldable pub numberUnary : ℕ → Instruction → Values → Numbered
   numberUnary p i t =
-      let r = representative (S .types) t (i .b) in
-      let left = valueOf (r .table) (r .slot) in
-      let e : Expression = record { opcode = i .op; flags = i .flags; left = left; right = Integer 0 } in
-      byValue p (setB i (r .slot)) (r .table) e (foldUnary e left)
+      let e : Expression = record { opcode = i .op; flags = i .flags; left = valueOf t (i .b); right = Integer 0 } in
+      byValue p (setB i (representative (S .types) t (i .b))) t e (foldUnary e (e .left))
 
-  -- "(left first)"
   unfoldable pub numberBinary : ℕ → Instruction → Values → Numbered
   numberBinary p i t =
-      let l = representative (S .types) t (i .b) in
-      let r = representative (S .types) (l .table) (i .c) in
-      let left = valueOf (r .table) (l .slot) in
-      let right = valueOf (r .table) (r .slot) in
-      let e : Expression = record { opcode = i .op; flags = i .flags; left = left; right = right } in
-      byValue p (setBC i (l .slot) (r .slot)) (r .table) e (foldBinary e left right)
+      let e : Expression = record { opcode = i .op; flags = i .flags; left = valueOf t (i .b); right = valueOf t (i .c) } in
+      byValue p (setBC i (representative (S .types) t (i .b)) (representative (S .types) t (i .c))) t e (foldBinary e (e .left) (e .right))
 
   unfoldable pub numberCopy : Instruction → Values → Numbered
-  numberCopy i t =
-      let r = representative (S .types) t (i .b) in
-      stored (setB i (r .slot)) (r .table) (valueOf (r .table) (r .slot))
+  numberCopy i t = stored (setB i (representative (S .types) t (i .b))) t (valueOf t (i .b))
 
   unfoldable pub numberConstant : Instruction → Values → Option Atom → Numbered
   numberConstant i t (some v) = stored i t v
@@ -113,9 +105,7 @@ module _ (S : Sections) where
 
   -- an operand a that is read: of "an undecided conditional jump on a scalar and of a one-scalar Return"
   unfoldable pub numberRead : Instruction → Values → Numbered
-  numberRead i t =
-      let r = representative (S .types) t (i .a) in
-      record { instruction = setA i (r .slot); table = r .table }
+  numberRead i t = record { instruction = setA i (representative (S .types) t (i .a)); table = t }
 
   -- "JumpIf and JumpIfNot on a known integer become Jump or plain Hint"
   unfoldable pub decided : Instruction → Bool → Instruction

@@ -1,5 +1,6 @@
 pub mod Bitwise
 pub mod Folded
+pub mod Lowest
 pub mod Entries
 pub mod Search
 pub mod Attaching

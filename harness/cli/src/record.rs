@@ -14,8 +14,9 @@ const SEED: u64 = 2;
 const MAX_LEN: usize = 480;
 
 /// How many units the list has of each profile whose units are small.
-const SHARES: [(&str, usize); 14] = [
+const SHARES: [(&str, usize); 15] = [
     ("straight", 180),
+    ("holders", 120),
     ("branches", 180),
     ("loops", 200),
     ("jumps", 80),

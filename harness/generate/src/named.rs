@@ -1,8 +1,8 @@
-//! Named examples: those of document 01's notebook, and the smallest units on which its readings part.
+//! Named examples: those of document 01's notebook, and the smallest units on which the documents' readings part.
 
 use reference::Opcode;
 use unit::{Case, Constant, Function, Instruction, Kind, Metadata, Parts};
-use unit::{CONSTANT_FLOAT, CONSTANT_INT, TYPE_GC_BASE, TYPE_VALUE};
+use unit::{CONSTANT_FLOAT, CONSTANT_INT, TYPE_FLOAT, TYPE_GC_BASE, TYPE_VALUE};
 
 /// What the papers state of an example's answer.
 #[derive(Clone, Debug)]
@@ -44,6 +44,7 @@ pub fn all() -> Vec<Named> {
     let mut named = notebook();
     named.extend(wrong_turns());
     named.extend(readings());
+    named.extend(lowest_slots());
     named.extend(refusals());
     named.extend(many_cases());
     named.extend(large());
@@ -104,6 +105,12 @@ fn function(s: u32, code: &[Instruction]) -> Parts {
         types: vec![TYPE_VALUE; s as usize],
         ..Parts::default()
     }
+}
+
+/// The same with a slot of another type.
+fn with_type(mut parts: Parts, slot: usize, slot_type: u8) -> Parts {
+    parts.types[slot] = slot_type;
+    parts
 }
 
 fn with_metadata(mut parts: Parts, place: usize, metadata: Metadata) -> Parts {
@@ -306,6 +313,82 @@ fn readings() -> Vec<Named> {
                 ..function(1, &[op(Call, 1, 0, 0), give_back(0, 1)])
             },
             refused(6, 0),
+        ),
+    ]
+}
+
+/// Document 02, L1: "the lowest-numbered is used".
+fn lowest_slots() -> Vec<Named> {
+    use Opcode::AddF;
+    let add_f = |to| op(AddF, to, 0, 1);
+    let all = give_back(0, 5);
+    let moved = [add_f(2), copy(3, 2), load_int(2, 0), add_f(4), all];
+    let loop_back = [copy(0, 1), jump_if(1, -1), give_back(1, 1)];
+    vec![
+        Named::new(
+            "a higher slot's copy is read from the lower",
+            function(2, &[copy(1, 0), give_back(1, 1)]),
+            rewritten(&[(1, give_back(0, 1))]),
+        ),
+        Named::new(
+            "the lower slot is the operand's own",
+            function(2, &[copy(0, 1), give_back(0, 1)]),
+            Stated::Unchanged,
+        ),
+        Named::new(
+            "an operand that was never stored is replaced",
+            function(2, &[copy(0, 1), give_back(1, 1)]),
+            rewritten(&[(0, copy(0, 1)), (1, give_back(0, 1))]),
+        ),
+        Named::new(
+            "the lowest was overwritten",
+            function(4, &[copy(0, 3), copy(1, 3), load_int(0, 5), give_back(3, 1)]),
+            rewritten(&[(0, copy(0, 3)), (1, copy(1, 0)), (3, give_back(1, 1))]),
+        ),
+        Named::new(
+            "the lowest was overwritten and restored",
+            function(4, &[copy(0, 3), load_int(0, 5), copy(0, 3), give_back(3, 1)]),
+            rewritten(&[(2, copy(0, 3)), (3, give_back(0, 1))]),
+        ),
+        Named::new(
+            "a lower slot of another type",
+            with_type(function(3, &[copy(0, 2), copy(1, 2), give_back(2, 1)]), 0, TYPE_FLOAT),
+            rewritten(&[(1, copy(1, 2)), (2, give_back(1, 1))]),
+        ),
+        Named::new(
+            "a slot that is no scalar stands for itself",
+            with_type(function(3, &[copy(0, 1), copy(2, 1), give_back(0, 3)]), 1, TYPE_GC_BASE),
+            Stated::Unchanged,
+        ),
+        Named::new(
+            "an equal expression goes by its destination's type",
+            with_type(function(5, &[add_f(2), add_f(3), add_f(4), all]), 2, TYPE_FLOAT),
+            rewritten(&[(0, add_f(2)), (1, add_f(3)), (2, copy(4, 3)), (3, all)]),
+        ),
+        Named::new(
+            "an equal expression whose first slot was overwritten",
+            function(5, &moved),
+            rewritten(&[(0, add_f(2)), (1, copy(3, 2)), (2, load_int(2, 0)), (3, copy(4, 3)), (4, all)]),
+        ),
+        Named::new(
+            "an equal expression that its destination holds",
+            function(3, &[add_f(2), add_f(2), give_back(2, 1)]),
+            rewritten(&[(0, add_f(2)), (1, copy(2, 2)), (2, give_back(2, 1))]),
+        ),
+        Named::new(
+            "LoadInt of a value that is held",
+            function(2, &[load_int(0, 5), load_int(1, 5), give_back(0, 2)]),
+            Stated::Unchanged,
+        ),
+        Named::new(
+            "a conditional jump goes by the lowest slot",
+            function(2, &loop_back),
+            rewritten(&[(0, copy(0, 1)), (1, jump_if(0, -1)), (2, give_back(1, 1))]),
+        ),
+        Named::new(
+            "a clearing between",
+            function(2, &[copy(0, 1), HINT, give_back(1, 1)]),
+            rewritten(&[(2, give_back(1, 1))]),
         ),
     ]
 }

@@ -17,7 +17,7 @@ fn same_units_everywhere() {
     assert_eq!(hashed, EXPECTED);
 }
 
-const EXPECTED: u64 = 7_427_050_154_132_328_410;
+const EXPECTED: u64 = 15_439_048_077_075_343_451;
 
 #[test]
 fn profiles_draw_units() {

@@ -160,7 +160,7 @@ module _ (u : List ℕ) (b : Bytes u) (out work32 work64 first second : ℕ) (la
       again : Again (casesIn u) n kept
       unfolding givenFunction
       again =
-          let w = given-well u b laid (counts .0) in
+          let w = given-well u b laid (counts .0) (counts .1) in
           let on = worked-on n (sizes .0) (sizes .1) in
           rw (cells-long u) at (optimized-again (givenFunction u) w (casesIn u) sound (rw (cells-long u) on) kept (counts .2))
 

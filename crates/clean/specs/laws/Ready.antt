@@ -120,6 +120,7 @@ module _ {u from : List ℕ} {k to work32 work64 : ℕ} (r : Ready u from k to w
       record {
         locals = unit-laid u (r .laid) .locals;
         described = rw (length-map before retainedCell) (omega arith);
+        typed = rw (unit-laid u (r .laid) .lengths .types ∙ r .typed) (omega arith);
         fields = λ p h.
             let l : p < k = rw (cells-before-long k from) at h in
             rw (cell-before k from p l) (instruction-fields (codeIn k from) p (bytes-mid 16 (instructionSize * k) from bf));
@@ -150,6 +151,7 @@ module _ {u from : List ℕ} {k to work32 work64 : ℕ} (r : Ready u from k to w
         code-long = omega (arith, code);
         metadata-long = mid-long from (resultMetadataAt k) (metadataSize * k) (omega arith);
         slots = rw (unit-laid u (r .laid) .lengths .types ∙ r .typed) (unit-laid u (r .laid) .locals);
+        typed = omega arith;
         good = r .good;
         code-bytes = bytes-mid 16 (instructionSize * k) from bf;
         constant-bytes = bytes-mid (headerOf u .offsets .constants) (constantSize * headerOf u .counts .constants) u bu;

@@ -81,6 +81,7 @@ pub record Given (n : ℕ) (code metadata : List ℕ) (S : Sections) : Type 0 wh
   pub code-long : instructionSize * n ≤ length code
   pub metadata-long : length metadata ≡ metadataSize * n
   pub slots : S .locals ≤ maxLocalSlots
+  pub typed : length (S .types) ≤ S .locals
   pub good : (p : ℕ) → p < n → goodMetadata (length (S .tables .cases) / caseSize) (metadataAt metadata p) ≡ true
   pub code-bytes : Bytes code
   pub constant-bytes : Bytes (S .constants)

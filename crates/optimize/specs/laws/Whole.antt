@@ -84,6 +84,7 @@ module _ (u : List ℕ) (l : Lent) (laid : isUnit u ≡ true) (worked : isSkippe
         code-long = let e = u-laid .lengths .code in omega arith;
         metadata-long = rw (← described) (u-laid .lengths .metadata);
         slots = rw long-types (u-laid .locals);
+        typed = omega arith;
         good = λ p h. rw cases (u-laid .entries .metadata p (rw described h));
         code-bytes = bytes-mid (headerOf u .offsets .code) (instructionSize * n) u b;
         constant-bytes = bytes-mid (headerOf u .offsets .constants) (constantSize * headerOf u .counts .constants) u b;

@@ -70,6 +70,7 @@ pub record Numberable (F : Function) (leaders : List ℕ) : Type 0 where
   pub locals : F .sections .locals ≤ 65535
   pub few : length (F .cells) ≤ 65536
   pub described : length (F .cells) ≤ F .described
+  pub typed : length (F .sections .types) ≤ F .sections .locals
   -- the operands are not refused
   pub operands : (p : ℕ) → p < length (F .cells) → operandRefusal (F .sections .locals) (F .sections .tables) (cellAt (F .cells) p) ≡ 0
   pub fields : (p : ℕ) → p < length (F .cells) → Fields (cellAt (F .cells) p .instruction)
@@ -128,19 +129,19 @@ module _ (F : Function) (leaders : List ℕ) (N : Numberable F leaders) where
     meant-at : (p : ℕ) (σ : Words) (R : List Event) → p < length (F .cells) → Meant F W p σ R (cell p)
     meant-at p σ R h = let d = N .described in (omega arith, N .operands p h)
 
-    sound-at : (p : ℕ) (σ : Words) (R : List Event) (h : p < length (F .cells)) (Q : Static (S .locals) (table p) p)
-        → Sound F W p σ R (cell p) (meant-at p σ R h) (let f = N .few in omega arith) (table p) Q (result p)
-    sound-at p σ R h Q = number-sound F W p σ R (cell p) (meant-at p σ R h) _ (table p) Q _ refl (N .fields p h) (λ v q. N .constants _ v q p)
+    sound-at : (p : ℕ) (σ : Words) (R : List Event) (h : p < length (F .cells)) (Q : Static (table p) p)
+        → Sound F W p σ R (cell p) (meant-at p σ R h) (let f = N .few in omega arith) (N .typed) (table p) Q (result p)
+    sound-at p σ R h Q = number-sound F W p σ R (cell p) (meant-at p σ R h) _ (N .typed) (table p) Q _ refl (N .fields p h) (λ v q. N .constants _ v q p)
 
     -- the tables are sound by themselves, at every place
-    pub static-at : (p : ℕ) → p < length (F .cells) → Static (S .locals) (table p) p
+    pub static-at : (p : ℕ) → p < length (F .cells) → Static (table p) p
     static-at zero h = rw table-first (static-empty 0)
     static-at (suc p) h =
         let l : p < length (F .cells) = omega arith in
         let s = sound-at p (λ t. 0) [] l (static-at p l) .static in
         rw (table-next p h) (go (eqb (getD leaders (suc p) 0) 1) s)
       where
-        go : (b : Bool) → Static (S .locals) (result p .table) (suc p) → Static (S .locals) (cond b empty (result p .table)) (suc p)
+        go : (b : Bool) → Static (result p .table) (suc p) → Static (cond b empty (result p .table)) (suc p)
         go true s = static-empty (suc p)
         go false s = s
 

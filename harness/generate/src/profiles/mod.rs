@@ -36,9 +36,10 @@ fn name_hash(name: &str) -> u64 {
         .fold(0xcbf2_9ce4_8422_2325, |hash, byte| (hash ^ u64::from(byte)).wrapping_mul(0x0100_0000_01b3))
 }
 
-pub const PROFILES: [Profile; 17] = [
-    Profile { name: "straight", weight: 1_200, draw: |rng| straight::straight(rng).encode() },
-    Profile { name: "branches", weight: 1_200, draw: |rng| flow::branches(rng).encode() },
+pub const PROFILES: [Profile; 18] = [
+    Profile { name: "straight", weight: 1_000, draw: |rng| straight::straight(rng).encode() },
+    Profile { name: "holders", weight: 400, draw: |rng| straight::holders(rng).encode() },
+    Profile { name: "branches", weight: 1_000, draw: |rng| flow::branches(rng).encode() },
     Profile { name: "loops", weight: 1_400, draw: |rng| flow::loops(rng).encode() },
     Profile { name: "jumps", weight: 800, draw: |rng| flow::jumps(rng).encode() },
     Profile { name: "stages", weight: 800, draw: |rng| stages::stages(rng).encode() },
