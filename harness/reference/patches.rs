@@ -8,7 +8,7 @@ pub struct Patch {
     pub new: &'static str,
 }
 
-pub const PATCHES: [Patch; 5] = [
+pub const PATCHES: [Patch; 6] = [
     // L1: nothing is recorded, and the lowest slot of the type that holds the value stands for it.
     Patch { file: OPTIMIZE, old: "    representatives: HashMap<Atom, u16>,\n", new: "" },
     Patch {
@@ -64,6 +64,22 @@ pub const PATCHES: [Patch; 5] = [
         new: "                        let types = &function.slot_types;
                         if let Some(slot) = values.lowest(value, types[instruction.a as usize], types) {
                             *instruction = Instruction::new(Opcode::Copy, instruction.a, slot, 0);
+                        }
+",
+    },
+    // L2: a folded value that does not fit is copied from the lowest slot of the type that holds it.
+    Patch {
+        file: OPTIMIZE,
+        old: "                            set_imm32(instruction, immediate as u32);
+                        }
+",
+        new: "                            set_imm32(instruction, immediate as u32);
+                        } else {
+                            let types = &function.slot_types;
+                            let held = Atom::Integer(value);
+                            if let Some(slot) = values.lowest(held, types[instruction.a as usize], types) {
+                                *instruction = Instruction::new(Opcode::Copy, instruction.a, slot, 0);
+                            }
                         }
 ",
     },
