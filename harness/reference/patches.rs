@@ -8,7 +8,7 @@ pub struct Patch {
     pub new: &'static str,
 }
 
-pub const PATCHES: [Patch; 10] = [
+pub const PATCHES: [Patch; 11] = [
     // L5: surely written ranges. SelectExec perhaps writes what its receive cases receive, MapIterNext key and value.
     Patch {
         file: "instruction_effects.rs",
@@ -135,6 +135,22 @@ fn bit(bits: &[u64], slot: u16) -> bool {",
         new: "                        let types = &function.slot_types;
                         if let Some(slot) = values.lowest(value, types[instruction.a as usize], types) {
                             *instruction = Instruction::new(Opcode::Copy, instruction.a, slot, 0);
+                        }
+",
+    },
+    // L2: a folded value that does not fit is copied from the lowest slot of the type that holds it.
+    Patch {
+        file: OPTIMIZE,
+        old: "                            set_imm32(instruction, immediate as u32);
+                        }
+",
+        new: "                            set_imm32(instruction, immediate as u32);
+                        } else {
+                            let types = &function.slot_types;
+                            let held = Atom::Integer(value);
+                            if let Some(slot) = values.lowest(held, types[instruction.a as usize], types) {
+                                *instruction = Instruction::new(Opcode::Copy, instruction.a, slot, 0);
+                            }
                         }
 ",
     },

@@ -64,11 +64,11 @@ unfolding valuesFold.bitwise valuesFold.differ valuesFold.lowBits valuesFold.tru
 ofValues1 = tt
 
 unfoldable ofValues2 : Unit {0}
-unfolding valuesNumber.constantAtom valuesNumber.foldUnary valuesNumber.foldBinary valuesNumber.loadOrStay valuesNumber.stored valuesNumber.copyOrStay valuesNumber.byExpression valuesNumber.byValue valuesNumber.numberUnary valuesNumber.numberBinary valuesNumber.numberCopy valuesNumber.numberConstant valuesNumber.numberRead valuesNumber.decided valuesNumber.numberJump valuesNumber.numberBy
+unfolding valuesNumber.constantAtom valuesNumber.foldUnary valuesNumber.foldBinary valuesNumber.stored valuesNumber.copyOrStay valuesNumber.copied valuesNumber.byExpression valuesNumber.folded valuesNumber.byValueWith valuesNumber.numberUnaryWith valuesNumber.numberBinaryWith valuesNumber.numberCopy valuesNumber.numberConstant valuesNumber.numberRead valuesNumber.decided valuesNumber.numberJump valuesNumber.numberByWith
 ofValues2 = tt
 
 unfoldable pub ofValues : Unit {0}
-unfolding ofValues1 ofValues2 valuesNumber.numberFrom valuesNumber.numberCode
+unfolding ofValues1 ofValues2 valuesNumber.numberFromWith valuesNumber.numberCodeWith
 ofValues = tt
 
 unfoldable pub ofPcMap : Unit {0}

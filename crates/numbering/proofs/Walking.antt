@@ -18,12 +18,12 @@ use Rattle.instruction.specs.Instruction.{plain, withImm32}
 use Rattle.values.specs.Fold.{fitsImm32}
 use Rattle.effects.specs.Shape.{Sections, Tables}
 use Rattle.values.specs.Values.{Values, Expression, valueOf, expressionIn, lowestSlot, representative, learn}
-use Rattle.values.specs.Number.{Numbered, setA, setB, setBC, loadOrStay, stored as storedBy, copyOrStay, byExpression, byValue, numberCopy, numberConstant, numberRead, decided, numberJump, cleared as clearedBy, numberBy}
+use Rattle.values.specs.Number.{Numbered, setA, setB, setBC, heldOrStays, folded, stored as storedBy, copyOrStay, copied, byExpression, byValue, byValueWith, numberCopy, numberConstant, numberRead, decided, numberJump, cleared as clearedBy, numberBy, numberByWith}
 use Rattle.values.specs.laws.Folded.{integerOf, expressionOf}
 use Rattle.values.specs.laws.Entries.{Key}
 use Rattle.values.specs.laws.Memory.{memoryOf, numberAt, keyAtom, constantKey, expressionKey, limit, integerAt, expressionAt, Ready, atomIn, atomFound, Holds}
 use Rattle.values.specs.laws.Promises.{Kept, Clears, Represents, Stores, Shares, Interns, Learns}
-use Rattle.numbering.specs.laws.Walk.{sectionsWith, wordOf, Stands, Becomes, Second, secondNumber, foldBy, secondOf, atomOf, KindOf, operated, scalarIn, undecidedBy, pureBy, otherBy}
+use Rattle.numbering.specs.laws.Walk.{sectionsWith, loadOf, wordOf, Stands, Becomes, Second, secondNumber, foldBy, secondOf, atomOf, KindOf, operated, scalarIn, undecidedBy, pureBy, otherBy}
 use Rattle.values.specs.declared.Atom.{Atom}
 use Rattle.values.specs.declared.Atom.the-variants.{Integer, Float, Definition}
 use Rattle.values.specs.declared.Found.{Found}
@@ -98,9 +98,9 @@ module _ {n : ℕ} {types : List ℕ} {t : List ℕ} where
   -- a store, and a copy of the lowest slot that held the value
   copied-becomes : (i : Instruction) {d r : ℕ} {j : Instruction} {t′ : List ℕ} → Shares n (length types) types t (i .a) d r t′ → j .a ≡ i .a
       → ((dest : ℕ → ℕ) (z : List ℕ) (l : ℕ) (T : Tables) (v : Values) → Knows n types t dest v
-      → j ≡ copyOrStay (sectionsWith types z l T) i (lowestSlot types v (valueAt n types t dest d) (getD types (i .a) 0)))
+      → j ≡ copied (sectionsWith types z l T) i v (valueAt n types t dest d))
       → Becomes n types 0 0 0 t j t′ (λ dest z. Unit {0})
-      (λ dest S v. storedBy S (copyOrStay S i (lowestSlot (S .types) v (valueAt n types t dest d) (getD (S .types) (i .a) 0))) v (valueAt n types t dest d))
+      (λ dest S v. storedBy S (copied S i v (valueAt n types t dest d)) v (valueAt n types t dest d))
   copied-becomes i {d} {t′ = t′} w a g =
       let b : Stores n (length types) types t (i .a) d t′ = w .stores in
       as-becomes (omega arith) (omega arith) (omega arith)
@@ -108,14 +108,14 @@ module _ {n : ℕ} {types : List ℕ} {t : List ℕ} where
 
   pub copy-found : (i : Instruction) {d r : ℕ} {j : Instruction} {t′ : List ℕ} → Shares n (length types) types t (i .a) d r t′ → r < length types → j ≡ plain 3 (i .a) r 0
       → Becomes n types 0 0 0 t j t′ (λ dest z. Unit {0})
-      (λ dest S v. storedBy S (copyOrStay S i (lowestSlot (S .types) v (valueAt n types t dest d) (getD (S .types) (i .a) 0))) v (valueAt n types t dest d))
-  unfolding copyOrStay
+      (λ dest S v. storedBy S (copied S i v (valueAt n types t dest d)) v (valueAt n types t dest d))
+  unfolding copied copyOrStay
   copy-found i w l e = copied-becomes i w (rw e) (λ dest z k T v h. rw (shared-slot w dest v h l) e)
 
   pub copy-none : (i : Instruction) {d r : ℕ} {t′ : List ℕ} → Shares n (length types) types t (i .a) d r t′ → length types ≤ r
       → Becomes n types 0 0 0 t i t′ (λ dest z. Unit {0})
-      (λ dest S v. storedBy S (copyOrStay S i (lowestSlot (S .types) v (valueAt n types t dest d) (getD (S .types) (i .a) 0))) v (valueAt n types t dest d))
-  unfolding copyOrStay
+      (λ dest S v. storedBy S (copied S i v (valueAt n types t dest d)) v (valueAt n types t dest d))
+  unfolding copied copyOrStay
   copy-none i w l = copied-becomes i w refl (λ dest z k T v h. rw (shared-none w dest v h l))
 
   -- a new expression, whose value is what place p defines
@@ -142,7 +142,7 @@ module _ {n : ℕ} {types : List ℕ} {t : List ℕ} where
       (q : k ≡ expressionKey (i .op) (i .flags) left right) where
     pub expression-found : {f : Found} (d : ℕ) → f ≡ expressionAt n (length types) (memoryOf n (length types) t) k → f ≡ At d
         → Becomes n types 0 0 0 t x t′ (λ dest z. Unit {0})
-        (λ dest S v. storedBy S (copyOrStay S i (lowestSlot (S .types) v (valueAt n types t dest d) (getD (S .types) (i .a) 0))) v (valueAt n types t dest d))
+        (λ dest S v. storedBy S (copied S i v (valueAt n types t dest d)) v (valueAt n types t dest d))
         → Becomes n types 0 0 1 t x t′ (λ dest z. Stands n p i dest)
         (λ dest S v. byExpression S p i v (expressionOf (i .op) (i .flags) (valueAt n types t dest left) (valueAt n types t dest right)) (expressionIn (v .expressions) (expressionOf (i .op) (i .flags) (valueAt n types t dest left) (valueAt n types t dest right))))
     unfolding byExpression atomFound
@@ -169,27 +169,35 @@ module _ {n : ℕ} {types : List ℕ} {t : List ℕ} where
         (y, rw (sym known)))
         (b (i .op) (i .flags) left right a c lowl lowr q)
 
-  -- folded, or looked up
-  pub folded-word : (i : Instruction) (p : ℕ) (g : (ℕ → ℕ) → Expression) {f : Folded} {j : Instruction} {w : ℕ} {x : Instruction} {t′ : List ℕ} → f ≡ Word w → j ≡ loadOrStay i w
+  -- a folded value that fits, and one that does not
+  pub word-fits : (i : Instruction) (w : ℕ) {b : Bool} {x j : Instruction} {t′ : List ℕ} → b ≡ fitsImm32 w → b ≡ true → j ≡ loadOf i w
       → Becomes n types 0 1 0 t x t′ (λ dest z. Unit {0}) (λ dest S v. storedBy S j v (keyAtom (constantKey 0 w)))
+      → Becomes n types 0 1 0 t x t′ (λ dest z. Unit {0}) (λ dest S v. storedBy S (folded S (heldOrStays S) i v w) v (Integer w))
+  unfolding folded keyAtom
+  word-fits i w e q s b =
+      let fits = sym e ∙ q in
+      as-becomes (omega arith) (omega arith) (omega arith) (λ dest z l T v y h. (tt, rw (fits, s))) b
+
+  pub word-wide : (i : Instruction) (w : ℕ) {d : ℕ} {b : Bool} {x : Instruction} {t₁ t′ : List ℕ} → b ≡ fitsImm32 w → b ≡ false → Interns n (length types) t 0 w d t₁
+      → Becomes n types 0 0 0 t₁ x t′ (λ dest z. Unit {0}) (λ dest S v. storedBy S (copied S i v (valueAt n types t₁ dest d)) v (valueAt n types t₁ dest d))
+      → Becomes n types 0 1 0 t x t′ (λ dest z. Unit {0}) (λ dest S v. storedBy S (folded S (heldOrStays S) i v w) v (Integer w))
+  unfolding folded keyAtom
+  word-wide i w e q d b =
+      let wide = sym e ∙ q in
+      after (λ dest v. v) (d .kept) (d .holds types) (λ dest z l T v y h. (tt, rw (d .is dest, wide))) b
+
+  -- folded, or looked up
+  pub folded-word : (i : Instruction) (p : ℕ) (g : (ℕ → ℕ) → Expression) {f : Folded} {w : ℕ} {x : Instruction} {t′ : List ℕ} → f ≡ Word w
+      → Becomes n types 0 1 0 t x t′ (λ dest z. Unit {0}) (λ dest S v. storedBy S (folded S (heldOrStays S) i v w) v (Integer w))
       → Becomes n types 0 1 1 t x t′ (λ dest z. Stands n p i dest) (λ dest S v. byValue S p i v (g dest) (wordOf f))
-  unfolding byValue wordOf keyAtom
-  folded-word i p g q s b = as-becomes (omega arith) (omega arith) (omega arith) (λ dest z l T v y h. (tt, rw (q, s))) b
+  unfolding byValueWith wordOf
+  folded-word i p g q b = as-becomes (omega arith) (omega arith) (omega arith) (λ dest z l T v y h. (tt, rw q)) b
 
   pub folded-not : (i : Instruction) (p : ℕ) (g : (ℕ → ℕ) → Expression) {f : Folded} {x : Instruction} {t′ : List ℕ} → f ≡ Not
       → Becomes n types 0 0 1 t x t′ (λ dest z. Stands n p i dest) (λ dest S v. byExpression S p i v (g dest) (expressionIn (v .expressions) (g dest)))
       → Becomes n types 0 1 1 t x t′ (λ dest z. Stands n p i dest) (λ dest S v. byValue S p i v (g dest) (wordOf f))
-  unfolding byValue wordOf
+  unfolding byValueWith wordOf
   folded-not i p g q b = as-becomes (omega arith) (omega arith) (omega arith) (λ dest z l T v y h. (y, rw q)) b
-
--- an instruction that becomes LoadInt keeps its destination
-pub load-a : (i : Instruction) (v : ℕ) → loadOrStay i v .a ≡ i .a
-unfolding loadOrStay
-load-a i v = go (fitsImm32 v)
-  where
-    go : (t : Bool) → cond t (withImm32 (plain 1 (i .a) 0 0) (v % 2 ^ 32)) i .a ≡ i .a
-    go true = refl
-    go false = refl
 
 -- other operands, the same destination
 other-operands : {n p : ℕ} {i : Instruction} {dest : ℕ → ℕ} (b c : ℕ) → Stands n p i dest → Stands n p (setBC i b c) dest
@@ -222,7 +230,7 @@ known-integer n types t dest v h s d w low e q =
 
 pub return-other : (types : List ℕ) (i : Instruction) (z : List ℕ) (l : ℕ) (T : Tables) (v : Values) → (eqb (i .b) 1 && scalarIn types (i .a)) ≡ false
     → numberBy (sectionsWith types z l T) Return 0 i v ≡ clearedBy (sectionsWith types z l T) i
-unfolding numberBy
+unfolding numberByWith
 return-other types i z l T v e = rw e
 
 -- no store to a scalar
@@ -351,7 +359,7 @@ module _ {n : ℕ} {types : List ℕ} {t : List ℕ} where
   -- a return
   pub return-read : (i : Instruction) {s : Bool} {x : Instruction} {t′ : List ℕ} → i .b ≡ 1 → s ≡ scalarIn types (i .a) → s ≡ true
       → Becomes n types 0 0 0 t x t′ (λ dest z. Unit {0}) (λ dest S v. numberRead S i v) → Becomes n types 1 0 0 t x t′ (λ dest z. Unit {0}) (λ dest S v. numberBy S Return 0 i v)
-  unfolding numberBy
+  unfolding numberByWith
   return-read i r e q b =
       let known : scalarIn types (i .a) ≡ true = sym e ∙ q in
       as-becomes (omega arith) (omega arith) (omega arith) (λ dest z l T v y h. (y, rw (eq-eqb (i .b) 1 r, known))) b

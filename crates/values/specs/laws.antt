@@ -8,3 +8,4 @@ pub mod Adding
 pub mod Memory
 pub mod Promises
 pub mod Named
+pub mod Wide

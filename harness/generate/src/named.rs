@@ -45,6 +45,7 @@ pub fn all() -> Vec<Named> {
     named.extend(wrong_turns());
     named.extend(readings());
     named.extend(lowest_slots());
+    named.extend(wide_sums());
     named.extend(refusals());
     named.extend(many_cases());
     named.extend(large());
@@ -390,6 +391,63 @@ fn lowest_slots() -> Vec<Named> {
             function(2, &[copy(0, 1), HINT, give_back(1, 1)]),
             rewritten(&[(2, give_back(1, 1))]),
         ),
+    ]
+}
+
+/// Document 02, L2: "LoadInt if it fits; else Copy from the slot of L1 that holds the same known integer in the same type; else the
+/// instruction stays".
+fn wide_sums() -> Vec<Named> {
+    use Opcode::{AddI, And, NegI};
+    let all = give_back(0, 4);
+    let held = [load_const(0, 0), load_const(1, 1), op(AddI, 3, 1, 1), all];
+    let sums = |first_kind| {
+        let parts = with_constant(function(4, &held), first_kind, 1 << 40);
+        with_constant(parts, CONSTANT_INT, 1 << 39)
+    };
+    let small = [load_int(0, 4), load_int(1, 2), op(AddI, 2, 1, 1), give_back(0, 3)];
+    let lowest = [load_const(0, 0), load_const(1, 0), load_const(2, 1), op(AddI, 3, 2, 2), all];
+    let twice = with_constant(function(4, &lowest), CONSTANT_INT, 1 << 40);
+    let negated = function(1, &[load_const(0, 0), op(NegI, 0, 0, 0), give_back(0, 1)]);
+    let hinted = function(1, &[load_const(0, 0), HINT, op(And, 0, 0, 0), give_back(0, 1)]);
+    vec![
+        Named::new(
+            "a wide sum that a slot holds",
+            sums(CONSTANT_INT),
+            rewritten(&[(0, load_const(0, 0)), (1, load_const(1, 1)), (2, copy(3, 0)), (3, all)]),
+        ),
+        Named::new(
+            "a wide sum that two slots hold",
+            with_constant(twice, CONSTANT_INT, 1 << 39),
+            rewritten(&[
+                (0, load_const(0, 0)),
+                (1, load_const(1, 0)),
+                (2, load_const(2, 1)),
+                (3, copy(3, 0)),
+                (4, all),
+            ]),
+        ),
+        Named::new(
+            "a wide sum that a slot of another type holds",
+            with_type(sums(CONSTANT_INT), 3, TYPE_FLOAT),
+            Stated::Unchanged,
+        ),
+        Named::new("a float constant of a wide sum's bits", sums(CONSTANT_FLOAT), Stated::Unchanged),
+        Named::new(
+            "LoadInt of a sum that a slot holds",
+            function(3, &small),
+            rewritten(&[(0, load_int(0, 4)), (1, load_int(1, 2)), (2, load_int(2, 4)), (3, give_back(0, 3))]),
+        ),
+        Named::new(
+            "a wide result that its destination holds",
+            with_constant(negated, CONSTANT_INT, 1 << 63),
+            rewritten(&[(0, load_const(0, 0)), (1, copy(0, 0)), (2, give_back(0, 1))]),
+        ),
+        Named::new(
+            "a wide result that pass 2 knows",
+            with_constant(hinted, CONSTANT_INT, 1 << 31),
+            rewritten(&[(0, load_const(0, 0)), (2, op(And, 0, 0, 0)), (3, give_back(0, 1))]),
+        )
+        .cleaned(rewritten(&[(0, load_const(0, 0)), (2, copy(0, 0)), (3, give_back(0, 1))]), 3),
     ]
 }
 

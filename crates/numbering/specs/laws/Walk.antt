@@ -4,7 +4,7 @@ use mathlib.Core.Path.{_≡_, refl, ap}
 use mathlib.Core.Bool.{Bool, true, false, cond, _||_, not}
 use mathlib.Core.List.{List, [], _∷_, map}
 use mathlib.Core.Option.{Option, none, some}
-use Prim.Native.Nat.{ℕ, suc, _+_, _*_, _≤_, _<_}
+use Prim.Native.Nat.{ℕ, suc, _+_, _*_, _%_, _^_, _≤_, _<_}
 use lib.Dec.{eqb}
 use lib.ListN.{length, getD}
 use Rattle.words.specs.Lists.{mapFrom}
@@ -12,13 +12,14 @@ use Rattle.instruction.specs.declared.Instruction.{Instruction}
 use Rattle.instruction.specs.declared.Class.{Class}
 use Rattle.instruction.specs.declared.Class.the-variants.{Hint, LoadInt, LoadConst, Copy, CopyN, Unary, Binary, Jump, JumpIf, JumpIfNot, ForLoop, Return, Panic, Outside, Invalid}
 use Rattle.instruction.specs.Class.{numberOf}
-use Rattle.instruction.specs.Instruction.{class, imm32, ofWord, toWord}
+use Rattle.instruction.specs.Opcode as op
+use Rattle.instruction.specs.Instruction.{class, imm32, plain, withImm32, ofWord, toWord}
 use Rattle.unit.specs.Entry.{constantAt, typeValue, typeFloat}
 use Rattle.effects.specs.Shape.{Sections, Tables, Cell}
 use Rattle.effects.specs.laws.Cells.{cellOf, cellsBy}
 use Rattle.values.specs.Values.{Values, Expression, empty, valueOf, representative}
 use Rattle.values.specs.laws.Folded.{expressionOf}
-use Rattle.values.specs.Number.{Numbered, isScalar, cleared, constantAtom, setBC, foldUnary, foldBinary, stored, byValue, numberUnary, numberBinary, numberCopy, numberConstant, numberRead, numberBy, number, numberFrom, numberCode}
+use Rattle.values.specs.Number.{Numbered, isScalar, cleared, constantAtom, setBC, foldUnary, foldBinary, stored, byValue, numberUnary, numberBinary, numberCopy, numberConstant, numberRead, numberBy, numberByWith, number, numberFrom, numberFromWith, numberCode, numberCodeWith}
 use Rattle.values.specs.laws.Entries.{key}
 use Rattle.values.specs.laws.Memory.{Memory, memoryOf, numberAt, keyAtom, constantKey, expressionKey, limit, Ready, Holds, atomIn}
 use Rattle.values.specs.laws.Promises.{Kept, Same}
@@ -33,6 +34,10 @@ use Rattle.values.specs.declared.Folded.the-variants.{Word, Not}
 -- numbering looks at the types and the constants of a unit alone
 abbrev pub sectionsWith : List ℕ → List ℕ → ℕ → Tables → Sections
 sectionsWith types constants locals tables = record { locals = locals; types = types; constants = constants; tables = tables }
+
+-- LoadInt of a word that fits 32 bits
+abbrev pub loadOf : Instruction → ℕ → Instruction
+loadOf i v = withImm32 (plain op.LoadInt (i .a) 0 0) (v % 2 ^ 32)
 
 unfoldable pub wordOf : Folded → Option ℕ
 wordOf (Word v) = some v
@@ -170,7 +175,7 @@ module _ (S : Sections) where
 
   -- that is the definition, but for the three classes that have cases of their own
   pub by-other : (k : Class) → (k ≡ JumpIf → ⊥) → (k ≡ JumpIfNot → ⊥) → (k ≡ Return → ⊥) → (p : ℕ) (i : Instruction) (t : Values) → numberBy S k p i t ≡ otherBy k p i t
-  unfolding numberBy otherBy pureBy
+  unfolding numberByWith otherBy pureBy
   by-other Hint a b c p i t = same-arms (isScalar S (i .a)) (cleared S i)
   by-other LoadInt a b c p i t = refl
   by-other LoadConst a b c p i t = refl
@@ -199,14 +204,14 @@ module _ (S : Sections) (leaders : List ℕ) where
   -- the metadata travel along
   pub number-words : (metadata : List ℕ) (q p : ℕ) (t : Values) (ws : List ℕ)
       → map (λ (x : Cell). toWord (x .instruction)) (numberFrom S leaders p t (mapFrom (cellOf metadata) q ws)) ≡ numberWords p t ws
-  unfolding numberWords numberFrom mapFrom
+  unfolding numberWords numberFromWith mapFrom
   number-words metadata q p t [] = refl
   number-words metadata q p t (w ∷ ws) =
       let r = number S p (ofWord w) (cond (eqb (getD leaders p 0) 1) empty t) in
       ap (λ (l : List ℕ). toWord (r .instruction) ∷ l) (number-words metadata (suc q) (suc p) (r .table) ws)
 
   pub code-words : (words metadata : List ℕ) → map (λ (x : Cell). toWord (x .instruction)) (numberCode S leaders (cellsBy words metadata)) ≡ numberWords 0 empty words
-  unfolding numberCode cellsBy
+  unfolding numberCodeWith cellsBy
   code-words words metadata = number-words metadata 0 0 empty words
 
 -- ---- what the walk starts from

@@ -18,7 +18,7 @@ use Rattle.effects.specs.Check.{operandRefusal}
 use Rattle.flow.specs.Branch.{falls, branches, target}
 use Rattle.values.specs.declared.Atom.{Atom}
 use Rattle.values.specs.Values.{Values, empty}
-use Rattle.values.specs.Number.{Numbered, constantAtom, number, numberFrom, numberCode}
+use Rattle.values.specs.Number.{Numbered, constantAtom, number, numberFrom, numberFromWith, numberCode, numberCodeWith}
 use Rattle.run.specs.Machine.{Words, Event, World, Reply, words, finish, at, put, Act, silent, ask, stop, fail, Node, goto, answered, perform, step, SameRuns}
 use Rattle.run.specs.laws.LockStep.{Holds, held, past, Lock, lock-step}
 use Rattle.run.specs.laws.Removal.{Goes, silently, asked}
@@ -43,7 +43,7 @@ module _ (S : Sections) (leaders : List ℕ) where
 
   numbered-from : (xs : List Cell) (p : ℕ) (t : Values) (k : ℕ) → k < length xs
       → cellAt (numberFrom S leaders p t xs) k ≡ rewrite (cellAt xs k) (number S (p + k) (cellAt xs k .instruction) (tableFrom p t xs k) .instruction)
-  unfolding numberFrom tableFrom
+  unfolding numberFromWith tableFrom
   numbered-from [] p t k h = absurd (omega arith)
   numbered-from (x ∷ xs) p t zero h = rw add-zero
   numbered-from (x ∷ xs) p t (suc k) h = numbered-from xs (suc p) _ k (omega arith) ∙ rw (suc-add p k, add-suc p k)
@@ -57,7 +57,7 @@ module _ (S : Sections) (leaders : List ℕ) where
   table-suc (x ∷ y ∷ xs) p t (suc k) h = table-suc (y ∷ xs) (suc p) _ k (omega arith) ∙ rw (suc-add p (suc k), suc-add p k, add-suc p (suc k), add-suc p k)
 
   length-numbered : (xs : List Cell) (p : ℕ) (t : Values) → length (numberFrom S leaders p t xs) ≡ length xs
-  unfolding numberFrom
+  unfolding numberFromWith
   length-numbered [] p t = refl
   length-numbered (x ∷ xs) p t = ap suc (length-numbered xs (suc p) _)
 
@@ -98,11 +98,11 @@ module _ (F : Function) (leaders : List ℕ) (N : Numberable F leaders) where
   numberedFunction = record { cells = numberCode S leaders (F .cells); described = F .described; sections = S }
 
   pub numbered-at : (p : ℕ) → p < length (F .cells) → cellAt (numberedFunction .cells) p ≡ rewrite (cell p) (result p .instruction)
-  unfolding numberedFunction numberCode
+  unfolding numberedFunction numberCodeWith
   numbered-at p h = numbered-from S leaders (F .cells) 0 empty p h ∙ rw zero-add
 
   pub numbered-long : length (numberedFunction .cells) ≡ length (F .cells)
-  unfolding numberedFunction numberCode
+  unfolding numberedFunction numberCodeWith
   numbered-long = length-numbered S leaders (F .cells) 0 empty
 
   table-next : (p : ℕ) → suc p < length (F .cells) → table (suc p) ≡ entering S leaders (suc p) (result p .table)

@@ -25,7 +25,7 @@ use Rattle.values.specs.declared.Atom.the-variants.{Integer, Float, Definition}
 use Rattle.values.specs.Fold.{foldWord, foldingUnary, foldingBinary, fitsImm32}
 use Rattle.values.specs.Values.{Values, Expression, empty, atStart, valueOf, expressionIn, lowestSlot, orItself, representative, store}
 use Rattle.values.specs.laws.Lowest.{lowest-found}
-use Rattle.values.specs.Number.{Numbered, setA, setB, setBC, constantAtom, foldUnary, foldBinary, loadOrStay, isScalar, stored, copyOrStay, byExpression, byValue, numberUnary, numberBinary, numberCopy, numberConstant, numberRead, decided, numberJump, numberBy, cleared}
+use Rattle.values.specs.Number.{Numbered, setA, setB, setBC, constantAtom, foldUnary, foldBinary, heldOrStays, folded, isScalar, stored, copyOrStay, copied as copiedOf, byExpression, byValue, byValueWith, numberUnary, numberUnaryWith, numberBinary, numberBinaryWith, numberCopy, numberConstant, numberRead, decided, numberJump, numberBy, numberByWith, cleared}
 use Rattle.values.specs.laws.Named.{Named}
 use Rattle.instruction.specs.Class.{numberOf}
 use Rattle.effects.specs.laws.Single.{isSingle}
@@ -112,14 +112,6 @@ module _ (F : Function) (W : World) (p : ℕ) (σ : Words) (R : List Event) wher
     module _ (j : Instruction) (e : Expression) (a= : j .a ≡ i .a) (s : isSingle (class i) ≡ true) (replaced : Justified S t i j)
         (word : (ρ : Valuation) → Valid W ρ t σ → gave F W p σ R (class i) x ≡ wordOfExpression W ρ e) (below : BelowBoth p e)
         (equals : (v : Atom) → expressionIn (t .expressions) e ≡ some v → Stores S t i v) where
-      load-sound : (v : ℕ) → Stores S t i (Integer v) → v < 2 ^ 64 → Justified S t i (loadOrStay j v)
-      unfolding loadOrStay
-      load-sound v st l = go (fitsImm32 v) refl
-        where
-          go : (b : Bool) → fitsImm32 v ≡ b → Justified S t i (cond b (withImm32 (plain op.LoadInt (j .a) 0 0) (v % 2 ^ 32)) j)
-          go true f = rw a= (loaded s st f l)
-          go false f = replaced
-
       copy-sound : (v : Atom) → Stores S t i v → (o : Option ℕ) → lowestSlot (S .types) t v (getD (S .types) (j .a) 0) ≡ o → Justified S t i (copyOrStay S j o)
       unfolding copyOrStay
       copy-sound v st none q = replaced
@@ -127,21 +119,29 @@ module _ (F : Function) (W : World) (p : ℕ) (σ : Words) (R : List Event) wher
           let c = lowest-found t v (getD (S .types) (j .a) 0) (S .types) r q in
           rw a= (copied s st (c .0) (omega (arith, c .1)))
 
-      load-a : (v : ℕ) → loadOrStay j v .a ≡ i .a
-      unfolding loadOrStay
-      load-a v = go (fitsImm32 v)
-        where
-          go : (b : Bool) → cond b (withImm32 (plain op.LoadInt (j .a) 0 0) (v % 2 ^ 32)) j .a ≡ i .a
-          go true = a=
-          go false = a=
-
       copy-a : (o : Option ℕ) → copyOrStay S j o .a ≡ i .a
       unfolding copyOrStay
       copy-a none = a=
       copy-a (some r) = a=
 
+      folded-sound : (v : ℕ) → Stores S t i (Integer v) → v < 2 ^ 64 → Justified S t i (folded S (heldOrStays S) j t v)
+      unfolding folded copiedOf
+      folded-sound v st l = go (fitsImm32 v) refl
+        where
+          go : (b : Bool) → fitsImm32 v ≡ b → Justified S t i (cond b (withImm32 (plain op.LoadInt (j .a) 0 0) (v % 2 ^ 32)) (copyOrStay S j (lowestSlot (S .types) t (Integer v) (getD (S .types) (j .a) 0))))
+          go true f = rw a= (loaded s st f l)
+          go false f = copy-sound (Integer v) st _ refl
+
+      folded-a : (v : ℕ) → folded S (heldOrStays S) j t v .a ≡ i .a
+      unfolding folded copiedOf
+      folded-a v = go (fitsImm32 v)
+        where
+          go : (b : Bool) → cond b (withImm32 (plain op.LoadInt (j .a) 0 0) (v % 2 ^ 32)) (copyOrStay S j (lowestSlot (S .types) t (Integer v) (getD (S .types) (j .a) 0))) .a ≡ i .a
+          go true = a=
+          go false = copy-a _
+
       expression-sound : (o : Option Atom) → expressionIn (t .expressions) e ≡ o → Sound (byExpression S p j t e o)
-      unfolding byExpression stored
+      unfolding byExpression stored copiedOf
       expression-sound (some v) q =
           let st : Stores S t i v = equals v q in
           let a : copyOrStay S j (lowestSlot (S .types) t v (getD (S .types) (j .a) 0)) .a ≡ i .a = copy-a (lowestSlot (S .types) t v (getD (S .types) (j .a) 0)) in
@@ -163,13 +163,13 @@ module _ (F : Function) (W : World) (p : ℕ) (σ : Words) (R : List Event) wher
           }
 
       value-sound : (o : Option ℕ) → ((v : ℕ) → o ≡ some v → Stores S t i (Integer v) × (v < 2 ^ 64)) → Sound (byValue S p j t e o)
-      unfolding byValue stored
+      unfolding byValueWith stored
       value-sound (some v) folds =
           let f = folds v refl in
           record {
-            justified = load-sound v (f .0) (f .1);
-            static = rw (load-a v) (told-static (Integer v) (integer (f .1)));
-            after = λ ρ H. rw (load-a v) (told (Integer v) s (f .0) ρ H);
+            justified = folded-sound v (f .0) (f .1);
+            static = rw (folded-a v) (told-static (Integer v) (integer (f .1)));
+            after = λ ρ H. rw (folded-a v) (told (Integer v) s (f .0) ρ H);
           }
       value-sound none folds = expression-sound (expressionIn (t .expressions) e) refl
 
@@ -209,7 +209,7 @@ module _ (F : Function) (W : World) (p : ℕ) (σ : Words) (R : List Event) wher
     fold-two e (Definition q′ s) w v q = let z : _≡_ {A = ℕ} 0 1 = cc in absurd (omega arith)
 
     unary-sound : class i ≡ Unary → Sound (numberUnary S p i t)
-    unfolding numberUnary numberOf Named
+    unfolding numberUnaryWith numberOf Named
     unary-sound c =
         let b : i .b < S .locals = named F W p σ R Unary x c m .0 in
         let e : Expression = unaryExpression i (valueOf t (i .b)) in
@@ -225,7 +225,7 @@ module _ (F : Function) (W : World) (p : ℕ) (σ : Words) (R : List Event) wher
         (rw (← f .3) (foldsOne c (f .2) (f .1)), rw (← f .3) (fold-small (i .op) (i .flags) (f .0) 0 y)))
 
     binary-sound : class i ≡ Binary → Sound (numberBinary S p i t)
-    unfolding numberBinary numberOf Named
+    unfolding numberBinaryWith numberOf Named
     binary-sound c =
         let n = named F W p σ R Binary x c m in
         let e : Expression = binaryExpression i (valueOf t (i .b)) (valueOf t (i .c)) in
@@ -323,7 +323,7 @@ module _ (F : Function) (W : World) (p : ℕ) (σ : Words) (R : List Event) wher
     -- Numbering an instruction makes a justified one, and the table stays true.
     pub number-sound : (k : Class) → class i ≡ k → Fields i → ((v : Atom) → constantAtom (constantAt (S .constants) (i .b)) ≡ some v → Below p v)
         → Sound (numberBy S k p i t)
-    unfolding numberBy branches falls Named
+    unfolding numberByWith branches falls Named
     number-sound Hint c f small = clear-sound
     number-sound LoadInt c f small = by-scalar _ (load-int-sound c f)
     number-sound LoadConst c f small = by-scalar _ (constant-sound c small)
