@@ -39,3 +39,7 @@ unsoundLoop = 9
 -- "lowest kept loop hint whose end was removed or whose exit exceeds n"
 abbrev pub lostLoop : ℕ
 lostLoop = 10
+
+-- document 02, L3: "places not strictly rising or not below n"
+abbrev pub linePlaces : ℕ
+linePlaces = 11

@@ -18,3 +18,5 @@ pub const BRANCH_OUTSIDE: u32 = 8;
 pub const UNSOUND_LOOP: u32 = 9;
 
 pub const LOST_LOOP: u32 = 10;
+
+pub const LINE_PLACES: u32 = 11;

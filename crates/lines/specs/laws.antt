@@ -1,0 +1,3 @@
+pub mod Below
+pub mod Moved
+pub mod Moving
