@@ -5,13 +5,13 @@ ghost use mathlib.Core.List.{List};
 ghost use Prim.Native.Nat.{ℕ, _+_, _*_, _/_, _-_, _≤_, _<_};
 ghost use lib.Dec.{eqb, ltb};
 ghost use lib.ListN.{length};
-ghost use borrow.Rule.Slice.PartMut.{midOf, putMid};
+ghost use borrow.Rule.Slice.PartMut.{putMid};
 ghost use Rattle.unit.specs.Entry.{linesIn};
-ghost use Rattle.unit.specs.Result.{Retained, lineBytesAll, resultBytes, resultLinesAt, resultPlacesAt};
+ghost use Rattle.unit.specs.Result.{Retained, resultBytes};
 ghost use Rattle.unit.specs.Size.{lineSize, maxInstructions, placeSize, resultSize};
 ghost use Rattle.lines.specs.Lines.{below, movedLines, placesOf};
 ghost use Rattle.lines.specs.laws.Below.{Rising, placesIn};
-ghost use Rattle.lines.specs.laws.Moving.{RisingLines, Unlined};
+ghost use Rattle.lines.specs.laws.Moving.{RisingLines, SweptAll, Unlined};
 use unit::Line;
 use unit::entry;
 use unit::result;
@@ -36,7 +36,7 @@ fn boundary(places: &[u8], q: usize, p: u32) -> usize
 
 // Where the next of `count` entries goes, that lands on b: "the later supersedes the earlier", which landed on q.
 fn position(count: usize, q: usize, b: usize) -> usize
-    ensures { λ r. ⌜ r ≡ cond (ltb 0 count && eqb b q) (count - 1) count ⌝ }
+    ensures { λ r. ⌜ (r ≤ count) × (r ≡ cond (ltb 0 count && eqb b q) (count - 1) count) ⌝ }
 {
     if count == 0 {
         return 0;
@@ -47,7 +47,7 @@ fn position(count: usize, q: usize, b: usize) -> usize
 // Writes the entries behind a result of k instructions. The result is their number.
 fn write_entries(lines: &[u8], out: &mut [u8], k: usize) -> usize
     requires { ⌜ (k ≤ maxInstructions) × (resultSize k (length (now lines) / lineSize) ≤ length (now out)) ⌝ }
-    ensures { λ r. ⌜ (r ≤ length (now (lines .entry)) / lineSize) × (Rising (placesIn (midOf (resultPlacesAt k) (placeSize * k) (now (out .entry)))) → RisingLines (linesIn (now (lines .entry))) → (r ≡ length (movedLines (placesIn (midOf (resultPlacesAt k) (placeSize * k) (now (out .entry)))) (linesIn (now (lines .entry))))) × (now (out .exit) ≡ putMid (resultLinesAt k) (lineSize * r) (now (out .entry)) (lineBytesAll (movedLines (placesIn (midOf (resultPlacesAt k) (placeSize * k) (now (out .entry)))) (linesIn (now (lines .entry))))))) ⌝ }
+    ensures { λ r. ⌜ (r ≤ length (now (lines .entry)) / lineSize) × SweptAll k (now (lines .entry)) (now (out .entry)) (now (out .exit)) r ⌝ }
 {
     let l = lines.len() / size::LINE;
     let old = result::places_at(k);

@@ -3,13 +3,14 @@
 use mathlib.Core.Path.{_≡_, refl, ap, _∙_}
 use mathlib.Core.Bool.{Bool, true, false, cond}
 use mathlib.Core.List.{List, [], _∷_, map}
-use Prim.Native.Nat.{ℕ, zero, suc, _*_, _/_, _≤_, _<_}
+use Prim.Native.Nat.{ℕ, zero, suc, _+_, _*_, _/_, _≤_, _<_}
 use native.Mathlib.Omega.{arith}
 use lib.Dec.{ltb}
 use lib.ListN.{length, getD, length-map}
 use borrow.Author.Tests.{ltb-true, ltb-false, lt-ltb, le-ltb}
 use Rattle.words.specs.Le.{u32At}
 use Rattle.words.specs.Lists.{tabulate}
+use Rattle.words.specs.laws.Lists.{length-tabulate, getD-tabulate}
 use Rattle.unit.specs.Size.{placeSize}
 use Rattle.lines.specs.Lines.{below}
 
@@ -102,3 +103,30 @@ below-placed xs (y ∷ ys) r f p = rw (same, below-placed xs ys r (λ i h. f (su
             go′ : (t : Bool) → ltb y (below xs p) ≡ t → p ≤ getD xs y 0 → below xs p ≤ y
             go′ true g past = let h : getD xs y 0 < p = below-inside xs p r y (ltb-true y (below xs p) g) in absurd (omega arith)
             go′ false g past = ltb-false y (below xs p) g
+
+-- ---- the walk along the places of a section
+
+module _ (l : List ℕ) (p : ℕ) where
+  places-long : length (placesIn l) ≡ length l / placeSize
+  places-long = length-tabulate (length l / placeSize) _
+
+  place-in : (b : ℕ) → b < length l / placeSize → getD (placesIn l) b 0 ≡ u32At l (placeSize * b)
+  place-in b h = getD-tabulate (length l / placeSize) _ b 0 h
+
+  -- a place that is not below p
+  pub walk-found : (b : ℕ) → b < length l / placeSize → p ≤ u32At l (placeSize * b) → Rising (placesIn l) → b ≤ below (placesIn l) p → b ≡ below (placesIn l) p
+  walk-found b h past r low = go (ltb b (below (placesIn l) p)) refl
+    where
+      go : (t : Bool) → ltb b (below (placesIn l) p) ≡ t → b ≡ below (placesIn l) p
+      go true e =
+          let inside : u32At l (placeSize * b) < p = rw (place-in b h) at (below-inside (placesIn l) p r b (ltb-true b (below (placesIn l) p) e)) in
+          absurd (omega arith)
+      go false e = let up : below (placesIn l) p ≤ b = ltb-false b (below (placesIn l) p) e in omega arith
+
+  pub walk-more : (b : ℕ) → b < length l / placeSize → u32At l (placeSize * b) < p → Rising (placesIn l) → b + 1 ≤ below (placesIn l) p
+  walk-more b h e r =
+      let g : b < below (placesIn l) p = inside-below (placesIn l) p r b (rw places-long h) (rw (place-in b h) e) in
+      omega arith
+
+  pub walk-end : (b : ℕ) → length l / placeSize ≤ b → b ≤ below (placesIn l) p → b ≡ below (placesIn l) p
+  walk-end b h low = let most = below-most (placesIn l) p in let long = places-long in omega arith

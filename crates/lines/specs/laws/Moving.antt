@@ -3,7 +3,7 @@
 use mathlib.Core.Path.{_≡_, refl, sym, ap, _∙_}
 use mathlib.Core.Bool.{Bool, true, false, cond, _&&_}
 use mathlib.Core.List.{List, [], _∷_, _++_, append-assoc, append-nil}
-use Prim.Native.Nat.{ℕ, zero, suc, _+_, _*_, _-_, _^_, _≤_, _<_}
+use Prim.Native.Nat.{ℕ, zero, suc, _+_, _*_, _/_, _-_, _^_, _≤_, _<_}
 use native.Mathlib.Nat.{add-zero}
 use native.Mathlib.Numerals.{add-one}
 use native.Mathlib.Omega.{arith}
@@ -11,14 +11,17 @@ use lib.Dec.{eqb, ltb}
 use lib.ListN.{length, getD, take, drop, length-append, length-drop, take-append-drop}
 use lib.Seq.{take-suc, take-all, take-at, drop-at, drop-drop, drop-append-add, getD-take, getD-drop, length-take-le}
 use borrow.Author.Tests.{eqb-true, eqb-false, lt-ltb}
-use borrow.Rule.Slice.PartMut.{putMid, postOf}
+use borrow.Rule.Slice.PartMut.{midOf, putMid, postOf}
+use Rattle.words.specs.laws.Lists.{length-tabulate, getD-tabulate}
+use Rattle.words.specs.laws.Only.{back-before}
+use Rattle.words.specs.laws.Regions.{mid-long}
 use Rattle.unit.specs.declared.Line.{Line}
-use Rattle.unit.specs.Entry.{lineBytes}
-use Rattle.unit.specs.Result.{Retained, lineBytesAll, resultBytes}
-use Rattle.unit.specs.Size.{lineSize, resultSize}
+use Rattle.unit.specs.Entry.{lineAt, lineBytes, linesIn}
+use Rattle.unit.specs.Result.{Retained, lineBytesAll, resultBytes, resultLinesAt, resultPlacesAt}
+use Rattle.unit.specs.Size.{lineSize, placeSize, resultSize}
 use Rattle.unit.specs.laws.UnitLaws.{line-bytes-all-long}
-use Rattle.lines.specs.Lines.{below, moved, placesOf}
-use Rattle.lines.specs.laws.Below.{Rising, below-mono}
+use Rattle.lines.specs.Lines.{below, moved, movedLines, placesOf}
+use Rattle.lines.specs.laws.Below.{Rising, placesIn, below-mono}
 use Rattle.lines.specs.laws.Moved.{onto, without, moved-last, without-last, without-free, moved-past}
 
 abbrev pub noLine : Line
@@ -190,3 +193,67 @@ module _ {places : List ℕ} {ls : List Line} {a : ℕ} {out₀ out : List ℕ} 
       later : (i : ℕ) → j + i < length ls → lineIn ls j .place ≤ lineIn ls (j + i) .place
       later zero l = rw add-zero (omega arith)
       later (suc i) l = let r = rise j (j + suc i) (omega arith) l in omega arith
+
+-- ---- the sweep in a result's bytes
+
+-- the old places of a result of k instructions
+abbrev pub oldPlaces : ℕ → List ℕ → List ℕ
+oldPlaces k out = placesIn (midOf (resultPlacesAt k) (placeSize * k) out)
+
+-- j of the lines are done
+abbrev pub Swept : ℕ → List ℕ → List ℕ → List ℕ → ℕ → ℕ → ℕ → Type 0
+Swept k lines out₀ out j q count = Rising (oldPlaces k out₀) → RisingLines (linesIn lines) → MovedTo (oldPlaces k out₀) (linesIn lines) (resultLinesAt k) out₀ out j q count
+
+-- what the sweep comes to
+abbrev pub SweptAll : ℕ → List ℕ → List ℕ → List ℕ → ℕ → Type 0
+SweptAll k lines out₀ out count = Rising (oldPlaces k out₀) → RisingLines (linesIn lines)
+    → (count ≡ length (movedLines (oldPlaces k out₀) (linesIn lines))) × (out ≡ putMid (resultLinesAt k) (lineSize * count) out₀ (lineBytesAll (movedLines (oldPlaces k out₀) (linesIn lines))))
+
+module _ (k : ℕ) (lines out₀ out : List ℕ) (j q count : ℕ) (swept : Swept k lines out₀ out j q count) (room : resultSize k (length lines / lineSize) ≤ length out₀) (few : count ≤ j) (most : j ≤ length lines / lineSize) where
+  abbrev places : List ℕ
+  places = oldPlaces k out₀
+
+  abbrev ls : List Line
+  ls = linesIn lines
+
+  lines-long : length (linesIn lines) ≡ length lines / lineSize
+  lines-long = length-tabulate (length lines / lineSize) _
+
+  old-long : length (oldPlaces k out₀) ≡ k
+  old-long =
+      let size : length (midOf (resultPlacesAt k) (placeSize * k) out₀) ≡ placeSize * k = mid-long out₀ (resultPlacesAt k) (placeSize * k) (omega arith) in
+      length-tabulate (length (midOf (resultPlacesAt k) (placeSize * k) out₀) / placeSize) _ ∙ omega arith
+
+  -- the entries stand behind the old places
+  old-same : Rising (oldPlaces k out₀) → RisingLines (linesIn lines) → oldPlaces k out ≡ oldPlaces k out₀
+  old-same r s =
+      let m = swept r s in
+      let many = m .many in
+      let written = lineBytesAll (movedLines places (take j ls)) in
+      let long : length written ≡ lineSize * count = line-bytes-all-long (movedLines places (take j ls)) ∙ rw many in
+      ap placesIn (ap (midOf (resultPlacesAt k) (placeSize * k)) (m .entries) ∙ back-before out₀ (resultLinesAt k) (lineSize * count) written (omega arith) long (resultPlacesAt k) (placeSize * k) (omega arith))
+
+  module _ (h : j < length lines / lineSize) (e : Line) (read : e ≡ lineAt lines j) (part : List ℕ) (whole : part ≡ midOf (resultPlacesAt k) (placeSize * k) out) (b : ℕ)
+      (found : Rising (placesIn part) → q ≤ below (placesIn part) (e .place) → b ≡ below (placesIn part) (e .place)) where
+    entry-in : lineIn (linesIn lines) j ≡ e
+    entry-in = getD-tabulate (length lines / lineSize) _ j noLine h ∙ sym read
+
+    pub swept-boundary : Rising (oldPlaces k out₀) → RisingLines (linesIn lines) → b ≡ below (oldPlaces k out₀) (lineIn (linesIn lines) j .place)
+    swept-boundary r s =
+        let same : placesIn part ≡ places = ap placesIn whole ∙ old-same r s in
+        let on = moved-onward (swept r s) s (rw lines-long h) in
+        rw entry-in (rw same at (found (rw same r) (rw (same, ← entry-in) on)))
+
+    pub swept-past : b ≡ k → SweptAll k lines out₀ out count
+    swept-past end r s = moved-rest (swept r s) s (rw lines-long h) (old-long ∙ sym end ∙ swept-boundary r s)
+
+    pub swept-turn : (i : ℕ) (out′ : List ℕ) → b < k → i ≡ cond (ltb 0 count && eqb b q) (count - 1) count → out′ ≡ putMid (resultLinesAt k + lineSize * i) lineSize out (lineBytes (onto b e)) → Swept k lines out₀ out′ (j + 1) b (i + 1)
+    swept-turn i out′ inside at put r s =
+        moved-turn (swept r s) s (rw lines-long h) b i (swept-boundary r s) (rw old-long inside) at (rw lines-long (omega arith)) (rw entry-in put)
+
+  pub swept-all : length lines / lineSize ≤ j → SweptAll k lines out₀ out count
+  swept-all h r s = moved-all (swept r s) s (rw lines-long h)
+
+-- what the code has: the old places as the part between two starts
+pub old-part : (k o a : ℕ) (out : List ℕ) → o ≡ resultPlacesAt k → a ≡ resultLinesAt k → midOf o (a - o) out ≡ midOf (resultPlacesAt k) (placeSize * k) out
+old-part k o a out e f = let size : a - o ≡ placeSize * k = omega arith in rw (size, e)
