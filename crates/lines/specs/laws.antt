@@ -1,3 +1,4 @@
 pub mod Below
 pub mod Moved
 pub mod Moving
+pub mod Lined

@@ -2,7 +2,7 @@
 ghost use mathlib.Core.Path.{_≡_};
 ghost use mathlib.Core.Bool.{cond, _&&_};
 ghost use mathlib.Core.List.{List};
-ghost use Prim.Native.Nat.{ℕ, _+_, _*_, _/_, _-_, _≤_, _<_};
+ghost use Prim.Native.Nat.{ℕ, _/_, _-_, _^_, _≤_, _<_};
 ghost use lib.Dec.{eqb, ltb};
 ghost use lib.ListN.{length};
 ghost use borrow.Rule.Slice.PartMut.{putMid};
@@ -79,7 +79,7 @@ fn write_entries(lines: &[u8], out: &mut [u8], k: usize) -> usize
 
 // Adds lines to a result of k instructions that has none.
 pub fn write_lines(lines: &[u8], out: &mut [u8], k: usize)
-    requires { ⌜ (k ≤ maxInstructions) × (resultSize k (length (now lines) / lineSize) ≤ length (now out)) × (length (now lines) / lineSize ≤ maxInstructions) ⌝ }
+    requires { ⌜ (k ≤ maxInstructions) × (resultSize k (length (now lines) / lineSize) ≤ length (now out)) × (length (now lines) / lineSize < 2 ^ 32) ⌝ }
     ensures { λ _. ⌜ ((kept : List Retained) → Unlined kept k (now (out .entry)) → RisingLines (linesIn (now (lines .entry))) → now (out .exit) ≡ putMid 0 (resultSize k (length (movedLines (placesOf kept) (linesIn (now (lines .entry)))))) (now (out .entry)) (resultBytes kept (movedLines (placesOf kept) (linesIn (now (lines .entry)))))) ⌝ }
 {
     let count = write_entries(lines, out, k);
