@@ -16,8 +16,10 @@ use Rattle.instruction.specs.Instruction.{instructionAt}
 use Rattle.instruction.specs.laws.Instruction.{Fields}
 use Rattle.unit.specs.declared.Constant.{Constant}
 use Rattle.unit.specs.declared.Constant.the-variants.{Nil, Bool as BoolConstant, Int, Float as FloatConstant, String, Missing}
-use Rattle.unit.specs.Entry.{metadataAt, constantOf, constantAt, constantKind, constantValue}
-use Rattle.unit.specs.Layout.{headerOf, codeOf, metadataOf, constantsOf, isUnit}
+use Rattle.unit.specs.declared.Line.{Line}
+use Rattle.lines.specs.Lines.{movedLines, placesOf}
+use Rattle.unit.specs.Entry.{metadataAt, linesIn, constantOf, constantAt, constantKind, constantValue}
+use Rattle.unit.specs.Layout.{headerOf, codeOf, metadataOf, constantsOf, linesOf, isUnit}
 use Rattle.unit.specs.laws.UnitLaws.{MetadataFields, unit-laid}
 use Rattle.unit.specs.Result.{Retained, resultBytes, readResult}
 use Rattle.unit.specs.Size.{instructionSize, metadataSize, constantSize, resultSize, maxInstructions}
@@ -174,22 +176,23 @@ module _ (u : List ℕ) (b : Bytes u) (room : Bool) where
       go false t e = absurd (true≢false e)
 
 -- the function in the output's bytes is the one that was retained
-returned-runs : (u : List ℕ) (cases : ℕ) (kept : List Retained) (out : List ℕ) → Returnable (givenFunction u) cases kept
-    → SameRuns (programOf (givenFunction u)) (programOf (outputFunction u (outputAfter (rewritten kept) out)))
+returned-runs : (u : List ℕ) (cases : ℕ) (kept : List Retained) (lines : List Line) (out : List ℕ) → Returnable (givenFunction u) cases kept
+    → SameRuns (programOf (givenFunction u)) (programOf (outputFunction u (outputAfter (rewritten kept) lines out)))
 unfolding outputFunction outputAfter givenFunction
-returned-runs u cases kept out r =
-    let e : readResult (resultBytes kept ++ drop (resultSize (length kept)) out) ≡ kept = result-back cases kept (drop (resultSize (length kept)) out) (r .few) (r .fits) in
+returned-runs u cases kept lines out r =
+    let size = resultSize (length kept) (length lines) in
+    let e : readResult (resultBytes kept lines ++ drop size out) ≡ kept = result-back cases kept lines (drop size out) (r .few) (r .fits) in
     rw e (r .good .runs)
 
--- Demand 3 for one pass: of the bytes in the output after it.
-pub pass-preserves : (u : List ℕ) (l : Lent) (out : List ℕ) → Bytes u → PreservesRuns u (passAnswer u l) (outputAfter (passAnswer u l) out)
+-- Demand 3 for one pass: of the bytes in the output after it, whatever lines they have.
+pub pass-preserves : (u : List ℕ) (l : Lent) (lines : List Line) (out : List ℕ) → Bytes u → PreservesRuns u (passAnswer u l) (outputAfter (passAnswer u l) lines out)
 unfolding passAnswer PreservesRuns
-pass-preserves u l out b = go (passAnswer u l) refl
+pass-preserves u l lines out b = go (passAnswer u l) refl
   where
-    go : (o : Outcome) → answerWith (roomFor (headerOf u .counts) l) u ≡ o → PreservesRuns u o (outputAfter o out)
+    go : (o : Outcome) → answerWith (roomFor (headerOf u .counts) l) u ≡ o → PreservesRuns u o (outputAfter o lines out)
     go unchanged e = same-runs-refl (programOf (givenFunction u))
     go (refused k p) e = tt
-    go (rewritten kept) e = returned-runs u _ kept out (answer-returnable u b (roomFor (headerOf u .counts) l) kept e)
+    go (rewritten kept) e = returned-runs u _ kept lines out (answer-returnable u b (roomFor (headerOf u .counts) l) kept e)
 
 -- ---- cleaning
 
@@ -232,33 +235,36 @@ module _ (F : Function) (cases : ℕ) where
       }
 
   -- up to k passes more keep the run
-  clean-returnable : (k j : ℕ) (before kept : List Retained) → Returnable F cases before → cleanFrom (F .sections) k j before .outcome ≡ rewritten kept → Returnable F cases kept
+  clean-returnable : (k j : ℕ) (before kept : List Retained) (lines : List Line) → Returnable F cases before → cleanFrom (F .sections) k j before lines .outcome ≡ rewritten kept → Returnable F cases kept
   unfolding cleanFrom afterPass
-  clean-returnable zero j before kept r e = let q : before ≡ kept = cc in rw (← q) r
-  clean-returnable (suc k) j before kept r e = go (pass (F .sections) (cellsAfter before)) refl e (λ b c. clean-returnable k (suc j) b kept c)
+  clean-returnable zero j before kept lines r e = let q : before ≡ kept = cc in rw (← q) r
+  clean-returnable (suc k) j before kept lines r e = go (pass (F .sections) (cellsAfter before)) refl e (λ b ls c. clean-returnable k (suc j) b kept ls c)
     where
       go : (o : Outcome) → pass (F .sections) (cellsAfter before) ≡ o
-          → afterPass (suc j) before (λ kept. cleanFrom (F .sections) k (suc j) (placedBy before kept)) o .outcome ≡ rewritten kept
-          → ((b : List Retained) → Returnable F cases b → cleanFrom (F .sections) k (suc j) b .outcome ≡ rewritten kept → Returnable F cases kept) → Returnable F cases kept
+          → afterPass (suc j) before lines (λ kept. cleanFrom (F .sections) k (suc j) (placedBy before kept) (movedLines (placesOf kept) lines)) o .outcome ≡ rewritten kept
+          → ((b : List Retained) (ls : List Line) → Returnable F cases b → cleanFrom (F .sections) k (suc j) b ls .outcome ≡ rewritten kept → Returnable F cases kept) → Returnable F cases kept
       go unchanged q e ih = let same : before ≡ kept = cc in rw (← same) r
       go (refused m p) q e ih = let z : _≡_ {A = ℕ} 0 1 = cc in absurd (omega arith)
-      go (rewritten next) q e ih = ih (placedBy before next) (placed-returnable before next r q) e
+      go (rewritten next) q e ih = ih (placedBy before next) (movedLines (placesOf next) lines) (placed-returnable before next r q) e
 
 -- Demand 3 for cleaning: of the bytes in the output after it.
-pub clean-preserves : (u : List ℕ) (l : Lent) (first second : ℕ) (out : List ℕ) → Bytes u
-    → PreservesRuns u (cleanAnswer u l first second .outcome) (outputAfter (cleanAnswer u l first second .outcome) out)
+pub clean-preserves : (u : List ℕ) (l : Lent) (first second : ℕ) (lines : List Line) (out : List ℕ) → Bytes u
+    → PreservesRuns u (cleanAnswer u l first second .outcome) (outputAfter (cleanAnswer u l first second .outcome) lines out)
 unfolding cleanAnswer cleanedFirst PreservesRuns givenFunction
-clean-preserves u l first second out b = go (answerWith room u) refl
+clean-preserves u l first second lines out b = go (answerWith room u) refl
   where
     room : Bool
     room = roomFor (headerOf u .counts) l && spareFor (headerOf u .counts) first second
 
-    later : (o : Outcome) (kept : List Retained) → Returnable (givenFunction u) (headerOf u .counts .cases) kept → cleanFrom (sectionsOf u) 2 1 kept .outcome ≡ o → PreservesRuns u o (outputAfter o out)
+    given : List Line
+    given = linesIn (linesOf u)
+
+    later : (o : Outcome) (kept : List Retained) → Returnable (givenFunction u) (headerOf u .counts .cases) kept → cleanFrom (sectionsOf u) 2 1 kept (movedLines (placesOf kept) given) .outcome ≡ o → PreservesRuns u o (outputAfter o lines out)
     later unchanged kept r e = same-runs-refl (programOf (givenFunction u))
     later (refused k p) kept r e = tt
-    later (rewritten last) kept r e = returned-runs u _ last out (clean-returnable (givenFunction u) _ 2 1 kept last r e)
+    later (rewritten last) kept r e = returned-runs u _ last lines out (clean-returnable (givenFunction u) _ 2 1 kept last (movedLines (placesOf kept) given) r e)
 
-    go : (o : Outcome) → answerWith room u ≡ o → PreservesRuns u (cleanedFirst (sectionsOf u) o .outcome) (outputAfter (cleanedFirst (sectionsOf u) o .outcome) out)
+    go : (o : Outcome) → answerWith room u ≡ o → PreservesRuns u (cleanedFirst (sectionsOf u) given o .outcome) (outputAfter (cleanedFirst (sectionsOf u) given o .outcome) lines out)
     go unchanged e = same-runs-refl (programOf (givenFunction u))
     go (refused k p) e = tt
-    go (rewritten kept) e = later (cleanFrom (sectionsOf u) 2 1 kept .outcome) kept (answer-returnable u b room kept e) refl
+    go (rewritten kept) e = later (cleanFrom (sectionsOf u) 2 1 kept (movedLines (placesOf kept) given) .outcome) kept (answer-returnable u b room kept e) refl

@@ -16,8 +16,9 @@ const SEED: u64 = 1;
 /// "a longer one is refused 2"
 pub fn listing_of(bytes: &[u8]) -> String {
     let short = bytes.len() > LONGEST
-        || Unit::check(bytes)
-            .is_some_and(|unit| unit.is_worked_on() && !LENT.suffice(&unit.stated_lengths().of_one_pass()));
+        || Unit::check(bytes).is_some_and(|unit| {
+            unit.lines_rise() && unit.is_worked_on() && !LENT.suffice(&unit.stated_lengths().of_one_pass())
+        });
     let answer = if short { Answer::SHORT_BUFFER } else { reference::pass(bytes) };
     answer.listing()
 }

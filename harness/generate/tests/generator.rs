@@ -17,7 +17,7 @@ fn same_units_everywhere() {
     assert_eq!(hashed, EXPECTED);
 }
 
-const EXPECTED: u64 = 16_333_595_163_959_946_887;
+const EXPECTED: u64 = 4_117_545_844_259_812_799;
 
 #[test]
 fn profiles_draw_units() {

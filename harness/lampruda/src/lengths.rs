@@ -11,10 +11,13 @@ pub fn needed(unit: &[u8]) -> Lengths {
     };
     let header = Header::read(bytes);
     let n = header.count(Section::Code);
-    let code_fits = (unit.len() - HEADER_LEN) / Section::Code.entry_len() >= n as usize;
+    let l = header.count(Section::Lines);
+    let fits =
+        |section: Section, count: u32| (unit.len() - HEADER_LEN) / section.entry_len() >= count as usize;
+    let sections_fit = fits(Section::Code, n) && fits(Section::Lines, l) && l <= n;
     let worked_on = WORKED_ON.contains(&n) && header.defer == 0;
-    if code_fits && worked_on && header.local_slots <= MAX_LOCAL_SLOTS {
-        Lengths::stated(n, header.local_slots)
+    if sections_fit && worked_on && header.local_slots <= MAX_LOCAL_SLOTS {
+        Lengths::stated(n, header.local_slots, l)
     } else {
         Lengths::default()
     }

@@ -1,6 +1,6 @@
 //! The refusal numbers, and what they mean.
 
-/// Why a unit is refused, by document 01's numbers.
+/// Why a unit is refused, by the documents' numbers.
 #[derive(Clone, Copy, Debug, Eq, PartialEq)]
 #[repr(u32)]
 pub enum Refusal {
@@ -14,10 +14,11 @@ pub enum Refusal {
     Branch = 8,
     LoopHint = 9,
     LoopMoved = 10,
+    LinePlaces = 11,
 }
 
 impl Refusal {
-    pub const ALL: [Self; 10] = [
+    pub const ALL: [Self; 11] = [
         Self::NoUnit,
         Self::ShortBuffer,
         Self::MetadataCount,
@@ -28,6 +29,7 @@ impl Refusal {
         Self::Branch,
         Self::LoopHint,
         Self::LoopMoved,
+        Self::LinePlaces,
     ];
 
     pub fn from_number(number: u32) -> Option<Self> {
@@ -50,11 +52,15 @@ impl Refusal {
             Self::Branch => "the branch leaves the function",
             Self::LoopHint => "the loop has no end inside the function",
             Self::LoopMoved => "the loop's end was removed, or its exit lies past the function's end",
+            Self::LinePlaces => "the places of the lines do not rise, or one lies past the function's end",
         }
     }
 
     /// Whether the place is that of an instruction; it is 0 otherwise.
     pub fn has_place(self) -> bool {
-        !matches!(self, Self::NoUnit | Self::ShortBuffer | Self::MetadataCount | Self::TypeCount)
+        !matches!(
+            self,
+            Self::NoUnit | Self::ShortBuffer | Self::MetadataCount | Self::TypeCount | Self::LinePlaces
+        )
     }
 }

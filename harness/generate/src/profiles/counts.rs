@@ -7,7 +7,7 @@ use crate::damage;
 use crate::draft::{Draft, ROOM};
 use crate::rng::Rng;
 use reference::Opcode;
-use unit::{Function, Metadata, Parts};
+use unit::{Function, Line, Metadata, Parts};
 
 /// Counts that do not agree, defer, and functions of no, one and two instructions.
 pub(super) fn counts(rng: &mut Rng) -> Parts {
@@ -73,7 +73,9 @@ fn whole(rng: &mut Rng) -> Parts {
     while !draft.is_full() {
         draft.pure(20);
     }
-    draft.finish()
+    let mut parts = draft.finish();
+    parts.lines = vec![Line { place: 0, line: 7 }, Line { place: 1, line: 9 }];
+    parts
 }
 
 /// Every damage of one small unit, for the recorded answers.
