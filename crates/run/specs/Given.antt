@@ -30,7 +30,7 @@ use Rattle.values.specs.declared.Atom.the-variants.{Integer, Float}
 use Rattle.values.specs.Number.{constantAtom}
 use Rattle.answer.specs.Pass.{Outcome, unchanged, refused, rewritten, outputAfter, isWorkedOn, optimized, pass}
 use Rattle.answer.specs.Answer.{Lent, cellsOf, sectionsOf, roomFor, isSkipped, afterRoom, afterSkipped, afterLayout, answerWith, passAnswer}
-use Rattle.answer.specs.Clean.{retainedCell, cellsAfter, placedBy, afterPass, cleanFrom, cleanedFirst, spareFor, cleanAnswer}
+use Rattle.answer.specs.Clean.{Cleaned, retainedCell, cellsAfter, placedBy, afterPass, cleanFrom, cleanedFirst, spareFor, cleanAnswer}
 use Rattle.run.specs.Machine.{SameRuns}
 use Rattle.run.specs.laws.Machine.{same-runs-refl, same-runs-trans}
 use Rattle.run.specs.Program.{Function, programOf}
@@ -40,6 +40,8 @@ use Rattle.run.specs.laws.RelocatedRun.{pick}
 use Rattle.run.specs.laws.Checked.{Well}
 use Rattle.run.specs.laws.Passed.{Good, worked-size, optimized-runs, pass-worked, pass-runs}
 use Rattle.run.specs.laws.Reading.{AllFit, noRetained, result-back}
+use Rattle.lines.specs.laws.Below.{Rising}
+use Rattle.run.specs.laws.MovedLines.{placed-rising, lines-placed}
 use Rattle.run.specs.laws.Fitting.{AllSound, Again, optimized-again, again-fits, placed-long, placed-fits}
 
 -- ---- the function of a unit of bytes is well
@@ -133,6 +135,7 @@ pub record Returnable (F : Function) (cases : ℕ) (kept : List Retained) : Type
   pub good : Good F kept
   pub few : length kept ≤ maxInstructions
   pub fits : AllFit cases kept
+  pub rising : Rising (placesOf kept)
 
 module _ (F : Function) (cases : ℕ) where
   optimized-returnable : Well F → AllSound cases (F .cells) → isWorkedOn (length (F .cells)) ≡ true → (kept : List Retained) → optimized (F .sections) (F .cells) ≡ rewritten kept
@@ -141,7 +144,7 @@ module _ (F : Function) (cases : ℕ) where
       let small = worked-size (length (F .cells)) on .1 in
       let again = optimized-again F w cases sound on kept e in
       let fewer = again .few in
-      record { good = optimized-runs F w on kept e; few = omega arith; fits = again-fits cases (length (F .cells)) kept small again }
+      record { good = optimized-runs F w on kept e; few = omega arith; fits = again-fits cases (length (F .cells)) kept small again; rising = again .rising }
 
 -- ---- one pass
 
@@ -217,21 +220,28 @@ module _ (F : Function) (cases : ℕ) where
       }
 
   -- a pass more
-  placed-returnable : (before kept : List Retained) → Returnable F cases before → pass (F .sections) (cellsAfter before) ≡ rewritten kept → Returnable F cases (placedBy before kept)
+  pass-again : (before kept : List Retained) → Returnable F cases before → pass (F .sections) (cellsAfter before) ≡ rewritten kept → Again cases (length before) kept
   unfolding resultFunction
-  placed-returnable before kept r e =
+  pass-again before kept r e =
       let G = resultFunction (F .sections) before in
       let worked = pass-worked (F .sections) (cellsAfter before) kept e in
       let sound : AllSound cases (cellsAfter before) = λ p h.
       let l : p < length before = rw (length-map before retainedCell) at h in
       rw (List·getD-map retainedCell before p noRetained) (r .fits p l .metadata) in
-      let again : Again cases (length before) kept = rw (length-map before retainedCell) at (optimized-again G (r .good .well) cases sound (worked .0) kept (worked .1)) in
+      rw (length-map before retainedCell) at (optimized-again G (r .good .well) cases sound (worked .0) kept (worked .1))
+
+  placed-returnable : (before kept : List Retained) → Returnable F cases before → pass (F .sections) (cellsAfter before) ≡ rewritten kept → Returnable F cases (placedBy before kept)
+  unfolding resultFunction
+  placed-returnable before kept r e =
+      let G = resultFunction (F .sections) before in
+      let again = pass-again before kept r e in
       let fewer = again .few in
       let few = r .few in
       record {
         good = placed-good before kept (r .good) (pass-runs G (r .good .well) kept e);
         few = rw (placed-long before kept) (omega arith);
         fits = placed-fits cases before kept (λ p h. r .fits p h .place) again;
+        rising = placed-rising before kept again (r .rising);
       }
 
   -- up to k passes more keep the run
@@ -246,6 +256,47 @@ module _ (F : Function) (cases : ℕ) where
       go unchanged q e ih = let same : before ≡ kept = cc in rw (← same) r
       go (refused m p) q e ih = let z : _≡_ {A = ℕ} 0 1 = cc in absurd (omega arith)
       go (rewritten next) q e ih = ih (placedBy before next) (movedLines (placesOf next) lines) (placed-returnable before next r q) e
+
+  -- and lines moved pass by pass are moved by the old places in the given unit
+  lines-returnable : (k j : ℕ) (before kept : List Retained) (given : List Line) → Returnable F cases before
+      → cleanFrom (F .sections) k j before (movedLines (placesOf before) given) .outcome ≡ rewritten kept
+      → cleanFrom (F .sections) k j before (movedLines (placesOf before) given) .lines ≡ movedLines (placesOf kept) given
+  unfolding cleanFrom afterPass
+  lines-returnable zero j before kept given r e = let q : before ≡ kept = cc in rw q
+  lines-returnable (suc k) j before kept given r e = go (pass (F .sections) (cellsAfter before)) refl e (λ b c. lines-returnable k (suc j) b kept given c)
+    where
+      moved : List Line
+      moved = movedLines (placesOf before) given
+
+      later : List Retained → Cleaned
+      later kept = cleanFrom (F .sections) k (suc j) (placedBy before kept) (movedLines (placesOf kept) moved)
+
+      go : (o : Outcome) → pass (F .sections) (cellsAfter before) ≡ o → afterPass (suc j) before moved later o .outcome ≡ rewritten kept
+          → ((b : List Retained) → Returnable F cases b → cleanFrom (F .sections) k (suc j) b (movedLines (placesOf b) given) .outcome ≡ rewritten kept
+          → cleanFrom (F .sections) k (suc j) b (movedLines (placesOf b) given) .lines ≡ movedLines (placesOf kept) given)
+          → afterPass (suc j) before moved later o .lines ≡ movedLines (placesOf kept) given
+      go unchanged q e ih = let same : before ≡ kept = cc in rw same
+      go (refused m p) q e ih = let z : _≡_ {A = ℕ} 0 1 = cc in absurd (omega arith)
+      go (rewritten next) q e ih =
+          let same : movedLines (placesOf next) moved ≡ movedLines (placesOf (placedBy before next)) given = lines-placed before next (pass-again before next r q) (r .rising) given in
+          rw same (ih (placedBy before next) (placed-returnable before next r q) (rw same at e))
+
+-- Document 02, L3: "An entry moves to the boundary of its place", of all passes at once.
+pub clean-lines : (u : List ℕ) (l : Lent) (first second : ℕ) (kept : List Retained) → Bytes u → cleanAnswer u l first second .outcome ≡ rewritten kept
+    → cleanAnswer u l first second .lines ≡ movedLines (placesOf kept) (linesIn (linesOf u))
+unfolding cleanAnswer cleanedFirst givenFunction
+clean-lines u l first second kept b e = go (answerWith room u) refl e
+  where
+    room : Bool
+    room = roomFor (headerOf u .counts) l && spareFor (headerOf u .counts) first second
+
+    given : List Line
+    given = linesIn (linesOf u)
+
+    go : (o : Outcome) → answerWith room u ≡ o → cleanedFirst (sectionsOf u) given o .outcome ≡ rewritten kept → cleanedFirst (sectionsOf u) given o .lines ≡ movedLines (placesOf kept) given
+    go unchanged f e = let z : _≡_ {A = ℕ} 0 1 = cc in absurd (omega arith)
+    go (refused k p) f e = let z : _≡_ {A = ℕ} 0 1 = cc in absurd (omega arith)
+    go (rewritten one) f e = lines-returnable (givenFunction u) _ 2 1 one kept given (answer-returnable u b room one f) e
 
 -- Demand 3 for cleaning: of the bytes in the output after it.
 pub clean-preserves : (u : List ℕ) (l : Lent) (first second : ℕ) (lines : List Line) (out : List ℕ) → Bytes u
