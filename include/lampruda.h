@@ -51,11 +51,12 @@ enum {
 };
 
 /*
- * Why a unit is refused. The answers are tried in this order; between 1 and 2, a function of fewer than 2 or more
+ * Why a unit is refused. The answers are tried in this order; between 13 and 2, a function of fewer than 2 or more
  * than 65,536 instructions, or one with defer, is unchanged, whatever the other buffers. Between 9 and 10, a
  * function of which nothing was altered and nothing removed is unchanged.
  *
  *   1   place 0      the bytes are no unit
+ *   13  its index    the lowest metadata entry that is a SelectExecLayout of more than 24 cases, also past n
  *   2   place 0      a lent buffer is shorter than asked for
  *   3   place 0      there is not one metadata entry for each instruction
  *   4   place 0      there is not one type for each local slot

@@ -7,11 +7,13 @@ use lib.Dec.{eqb, leb}
 use Rattle.words.specs.Lists.{tabulate}
 use Rattle.instruction.specs.Instruction.{instructionAt}
 use Rattle.unit.specs.declared.Counts.{Counts}
-use Rattle.unit.specs.Refusal.{notUnit, shortBuffer, metadataCount, typeCount}
+use Rattle.unit.specs.declared.Layout.{Layout}
+use Rattle.unit.specs.declared.Layout.the-variants.{Unit, Refused}
+use Rattle.unit.specs.Refusal.{shortBuffer, metadataCount, typeCount}
 use Rattle.unit.specs.Size.{outputRoom, work32Room, work64Room}
 use Rattle.unit.specs.declared.Line.{Line}
 use Rattle.unit.specs.Entry.{metadataAt, linesIn}
-use Rattle.unit.specs.Layout.{headerOf, codeOf, metadataOf, typesOf, constantsOf, functionsOf, externsOf, casesOf, linesOf, isUnit}
+use Rattle.unit.specs.Layout.{headerOf, codeOf, metadataOf, typesOf, constantsOf, functionsOf, externsOf, casesOf, linesOf, layoutOf}
 use Rattle.effects.specs.Shape.{Sections, Cell, tablesOf}
 use Rattle.answer.specs.Pass.{Outcome, unchanged, refused, isWorkedOn, optimized, linesAfter}
 
@@ -70,9 +72,13 @@ afterSkipped room u = let rest = afterRoom u in cond room rest (refused shortBuf
 unfoldable pub afterLayout : Bool → List ℕ → Outcome
 afterLayout room u = let rest = afterSkipped room u in cond (isSkipped (headerOf u .counts)) unchanged rest
 
--- "refused 1, place 0: unit not as above"
+-- the rows of the unit's own bytes: "refused 1, place 0: unit not as above", and refusal 13
+unfoldable pub laidOut : Layout → Outcome → Outcome
+laidOut (Unit h) rest = rest
+laidOut (Refused k p) rest = refused k p
+
 unfoldable pub answerWith : Bool → List ℕ → Outcome
-answerWith room u = let rest = afterLayout room u in cond (isUnit u) rest (refused notUnit 0)
+answerWith room u = let rest = afterLayout room u in laidOut (layoutOf u) rest
 
 unfoldable pub passAnswer : List ℕ → Lent → Outcome
 passAnswer u l = answerWith (roomFor (headerOf u .counts) l) u

@@ -4,7 +4,8 @@ ghost use mathlib.Core.Bool.{true, false, _&&_};
 ghost use Prim.Native.Nat.{_≤_};
 ghost use lib.ListN.{length};
 ghost use borrow.Rule.Slice.PartMut.{midOf};
-ghost use Rattle.unit.specs.Layout.{headerOf, isUnit};
+ghost use Rattle.unit.specs.declared.Layout.the-variants.{Unit};
+ghost use Rattle.unit.specs.Layout.{headerOf, isUnit, layoutOf};
 ghost use Rattle.unit.specs.Result.{resultBytes};
 ghost use Rattle.unit.specs.Size.{resultSize, maxInstructions};
 ghost use Rattle.answer.specs.Answer.{lentOf, sectionsOf, isSkipped, roomFor, afterRoom};
@@ -137,7 +138,7 @@ fn laid(
     second: &mut [u8],
     c: Counts,
 ) -> Cleaned
-    requires { ⌜ (isUnit (now unit) ≡ true) × (c ≡ headerOf (now unit) .counts) ⌝ }
+    requires { ⌜ (layoutOf (now unit) ≡ Unit (headerOf (now unit))) × (c ≡ headerOf (now unit) .counts) ⌝ }
     ensures { λ r. ⌜ AnswersCleaned (cleanAnswer (now (unit .entry)) (lentOf (length (now (out .entry))) (length (now (work32 .entry))) (length (now (work64 .entry)))) (length (now (first .entry))) (length (now (second .entry)))) r (now (out .entry)) (now (out .exit)) ⌝ }
 {
     if pass::is_skipped(c) {

@@ -32,7 +32,7 @@ use Rattle.run.specs.Program as runProgram
 use Rattle.run.specs.Returned as runReturned
 
 unfoldable pub ofWords : Unit {0}
-unfolding wordsLe.fromLe wordsLe.toLe wordsWord.signExtend wordsLists.every wordsLists.tabulateFrom wordsLists.tabulate wordsLists.sum wordsLists.mapFrom
+unfolding wordsLe.fromLe wordsLe.toLe wordsWord.signExtend wordsLists.every wordsLists.lowestBelow wordsLists.tabulateFrom wordsLists.tabulate wordsLists.sum wordsLists.mapFrom
 ofWords = tt
 
 unfoldable pub ofInstruction : Unit {0}
@@ -40,7 +40,7 @@ unfolding instructionClass.single instructionClass.classOf instructionClass.numb
 ofInstruction = tt
 
 unfoldable ofUnit1 : Unit {0}
-unfolding unitEntry.metadataAt unitEntry.metadataBytes unitEntry.goodMetadata unitEntry.constantOf unitEntry.constantAt unitEntry.goodConstant unitEntry.functionAt unitEntry.externAt unitEntry.caseAt unitEntry.goodCase unitLayout.headerOf unitLayout.sectionsFollow unitLayout.goodCounts unitLayout.goodEntries unitLayout.isUnit unitLayout.layoutOf unitResult.resultHeader unitResult.codeBytes
+unfolding unitEntry.metadataAt unitEntry.metadataBytes unitEntry.goodMetadata unitEntry.isWideSelect unitEntry.constantOf unitEntry.constantAt unitEntry.goodConstant unitEntry.functionAt unitEntry.externAt unitEntry.caseAt unitEntry.goodCase unitLayout.headerOf unitLayout.sectionsFollow unitLayout.goodCounts unitLayout.goodEntries unitLayout.hasSections unitLayout.isUnit unitLayout.wideSelect unitLayout.afterUnit unitLayout.layoutOf unitResult.resultHeader unitResult.codeBytes
 ofUnit1 = tt
 
 unfoldable pub ofUnit : Unit {0}
@@ -84,7 +84,7 @@ unfolding answerJump.isIdle answerJump.dropIdle answerJump.jumpRounds answerPass
 ofAnswer1 = tt
 
 unfoldable pub ofAnswer : Unit {0}
-unfolding ofAnswer1 answerAnswer.roomFor answerAnswer.isSkipped answerAnswer.afterRoom answerAnswer.afterSkipped answerAnswer.afterLayout answerAnswer.answerWith answerAnswer.passAnswer answerClean.placedBy answerClean.afterPass answerClean.cleanFrom answerClean.cleanedFirst answerClean.spareFor answerClean.cleanAnswer
+unfolding ofAnswer1 answerAnswer.roomFor answerAnswer.isSkipped answerAnswer.afterRoom answerAnswer.afterSkipped answerAnswer.afterLayout answerAnswer.laidOut answerAnswer.answerWith answerAnswer.passAnswer answerClean.placedBy answerClean.afterPass answerClean.cleanFrom answerClean.cleanedFirst answerClean.spareFor answerClean.cleanAnswer
 ofAnswer = tt
 
 unfoldable ofRun1 : Unit {0}

@@ -19,17 +19,19 @@ use Rattle.unit.specs.declared.Constant.the-variants.{Nil, Bool as BoolConstant
 use Rattle.unit.specs.declared.Line.{Line}
 use Rattle.lines.specs.Lines.{movedLines, placesOf}
 use Rattle.unit.specs.Entry.{metadataAt, linesIn, constantOf, constantAt, constantKind, constantValue}
-use Rattle.unit.specs.Layout.{headerOf, codeOf, metadataOf, constantsOf, linesOf, isUnit}
-use Rattle.unit.specs.laws.UnitLaws.{MetadataFields, unit-laid}
+use Rattle.unit.specs.Layout.{headerOf, codeOf, metadataOf, constantsOf, linesOf, isUnit, layoutOf}
+use Rattle.unit.specs.laws.UnitLaws.{MetadataFields, unit-laid, layout-unit}
 use Rattle.unit.specs.Result.{Retained, resultBytes, readResult}
 use Rattle.unit.specs.Size.{instructionSize, metadataSize, constantSize, resultSize, maxInstructions}
-use Rattle.unit.specs.Refusal.{notUnit, shortBuffer, metadataCount, typeCount}
+use Rattle.unit.specs.declared.Layout.{Layout}
+use Rattle.unit.specs.declared.Layout.the-variants.{Unit as LaidUnit, Refused as LaidRefused}
+use Rattle.unit.specs.Refusal.{shortBuffer, metadataCount, typeCount}
 use Rattle.effects.specs.Shape.{Sections, Cell, cellAt, noCell}
 use Rattle.values.specs.declared.Atom.{Atom}
 use Rattle.values.specs.declared.Atom.the-variants.{Integer, Float}
 use Rattle.values.specs.Number.{constantAtom}
 use Rattle.answer.specs.Pass.{Outcome, unchanged, refused, rewritten, outputAfter, isWorkedOn, optimized, pass}
-use Rattle.answer.specs.Answer.{Lent, cellsOf, sectionsOf, roomFor, isSkipped, afterRoom, afterSkipped, afterLayout, answerWith, passAnswer}
+use Rattle.answer.specs.Answer.{Lent, cellsOf, sectionsOf, roomFor, isSkipped, afterRoom, afterSkipped, afterLayout, laidOut, answerWith, passAnswer}
 use Rattle.answer.specs.Clean.{Cleaned, retainedCell, cellsAfter, placedBy, afterPass, cleanFrom, cleanedFirst, spareFor, cleanAnswer}
 use Rattle.run.specs.Machine.{SameRuns}
 use Rattle.run.specs.laws.Machine.{same-runs-refl, same-runs-trans}
@@ -160,12 +162,20 @@ left-kept false o kept e = (refl, e)
 not-refused : (k p : ℕ) (kept : List Retained) → refused k p ≡ rewritten kept → ⊥
 not-refused k p kept e = let z : _≡_ {A = ℕ} 0 1 = cc in omega arith
 
+laid-kept : (u : List ℕ) (o : Outcome) (kept : List Retained) → laidOut (layoutOf u) o ≡ rewritten kept → (isUnit u ≡ true) × (o ≡ rewritten kept)
+unfolding laidOut
+laid-kept u o kept = go (layoutOf u) refl
+  where
+    go : (y : Layout) → layoutOf u ≡ y → laidOut y o ≡ rewritten kept → (isUnit u ≡ true) × (o ≡ rewritten kept)
+    go (LaidUnit h) q e = (layout-unit u h q .0, e)
+    go (LaidRefused k p) q e = absurd (not-refused k p kept e)
+
 -- What a rewritten unit went through, whatever room it was lent.
 module _ (u : List ℕ) (b : Bytes u) (room : Bool) where
   pub answer-returnable : (kept : List Retained) → answerWith room u ≡ rewritten kept → Returnable (givenFunction u) (headerOf u .counts .cases) kept
   unfolding answerWith afterLayout afterSkipped afterRoom isSkipped givenFunction
   answer-returnable kept e =
-      let laid = outcome-kept (isUnit u) _ (refused notUnit 0) kept (not-refused notUnit 0) e in
+      let laid = laid-kept u _ kept e in
       let worked = left-kept (not (isWorkedOn (headerOf u .counts .instructions)) || eqb (headerOf u .counts .defer) 1) _ kept (laid .1) in
       let lent = outcome-kept room _ (refused shortBuffer 0) kept (not-refused shortBuffer 0) (worked .1) in
       let described = outcome-kept (eqb (headerOf u .counts .metadata) (headerOf u .counts .instructions)) _ (refused metadataCount 0) kept (not-refused metadataCount 0) (lent .1) in

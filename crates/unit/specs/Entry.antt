@@ -1,13 +1,13 @@
 -- Definitions. The entries of the unit's sections, each read from its section's bytes.
 -- Assumes nothing.
-use mathlib.Core.Bool.{Bool, true, false, cond}
+use mathlib.Core.Bool.{Bool, true, false, cond, _&&_}
 use mathlib.Core.List.{List, _∷_, _++_}
-use Prim.Native.Nat.{ℕ, _+_, _*_, _/_}
+use Prim.Native.Nat.{ℕ, suc, _+_, _*_, _/_}
 use lib.Dec.{eqb, leb, ltb}
 use lib.ListN.{length, getD}
 use Rattle.words.specs.Le.{u16At, u32At, u64At, toLe}
 use Rattle.words.specs.Lists.{tabulate}
-use Rattle.unit.specs.Size.{metadataSize, constantSize, functionSize, externSize, caseSize, lineSize}
+use Rattle.unit.specs.Size.{metadataSize, constantSize, functionSize, externSize, caseSize, lineSize, maxSelectCases}
 use Rattle.unit.specs.declared.Metadata.{Metadata}
 use Rattle.unit.specs.declared.Constant.{Constant}
 use Rattle.unit.specs.declared.Constant.the-variants.{Nil, Bool as BoolConstant, Int, Float, String, Missing as MissingConstant}
@@ -90,6 +90,10 @@ goodMetadata cases d =
     (cond (leb (d .ok) 1) (cond (eqb (d .kind) kindSelectExecLayout) (leb (d .first + d .second) cases) true) false)
     false
 
+-- document 02, L9: "a SelectExecLayout of more than 24"
+unfoldable pub isWideSelect : Metadata → Bool
+isWideSelect d = eqb (d .kind) kindSelectExecLayout && ltb maxSelectCases (d .second)
+
 -- "Type: one byte 0 to 5": Value 0, GcBase 1, GcRef 2, Interface0 3, Interface1 4, Float 5
 abbrev pub typeValue : ℕ
 typeValue = 0
@@ -157,6 +161,10 @@ lineAt l k = record { place = u32At l (lineSize * k); line = u32At l (lineSize *
 -- its bytes
 unfoldable pub lineBytes : Line → List ℕ
 lineBytes e = toLe 4 (e .place) ++ toLe 4 (e .line)
+
+-- "places strictly rising", "below n": the place of entry k is below that of the next one, and that of the last below n
+unfoldable pub goodLine : ℕ → List ℕ → ℕ → Bool
+goodLine n l k = let next = lineAt l (suc k) .place in ltb (lineAt l k .place) (cond (ltb (suc k) (length l / lineSize)) next n)
 
 -- the entries of a section
 abbrev pub linesIn : List ℕ → List Line

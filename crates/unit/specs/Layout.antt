@@ -3,14 +3,14 @@
 use mathlib.Core.Bool.{Bool, false, cond, _&&_}
 use mathlib.Core.List.{List}
 use Prim.Native.Nat.{ℕ, _+_, _*_}
-use lib.Dec.{eqb, leb}
+use lib.Dec.{eqb, leb, ltb}
 use lib.ListN.{length}
 use borrow.Rule.Slice.PartMut.{midOf}
 use Rattle.words.specs.Le.{u32At}
-use Rattle.words.specs.Lists.{every}
-use Rattle.unit.specs.Refusal.{notUnit}
+use Rattle.words.specs.Lists.{every, lowestBelow}
+use Rattle.unit.specs.Refusal.{notUnit, linePlaces, tooManyCases}
 use Rattle.unit.specs.Size.{headerSize, instructionSize, metadataSize, constantSize, functionSize, externSize, caseSize, lineSize, maxLocalSlots}
-use Rattle.unit.specs.Entry.{metadataAt, goodMetadata, typeAt, goodType, goodConstant, caseAt, goodCase}
+use Rattle.unit.specs.Entry.{metadataAt, goodMetadata, isWideSelect, typeAt, goodType, goodConstant, caseAt, goodCase, goodLine}
 use Rattle.unit.specs.declared.Header.{Header}
 use Rattle.unit.specs.declared.Layout.{Layout}
 use Rattle.unit.specs.declared.Layout.the-variants.{Unit, Refused}
@@ -100,13 +100,37 @@ goodEntries u =
     && every (h .counts .constants) (λ k. goodConstant constants k)
     && every (h .counts .cases) (λ k. goodCase (caseAt cases k))
 
--- bytes laid out as document 01 says
-unfoldable pub isUnit : List ℕ → Bool
-isUnit u =
-    let entries = goodEntries u in
-    let sections = cond (sectionsFollow (headerOf u) (length u) && goodCounts (headerOf u)) entries false in
+-- a header, with the sections that it says
+unfoldable pub hasSections : List ℕ → Bool
+hasSections u =
+    let sections = sectionsFollow (headerOf u) (length u) && goodCounts (headerOf u) in
     cond (leb headerSize (length u)) sections false
 
--- the answer of the check: the header, or refusal 1 at place 0
+-- bytes laid out as document 01 says
+unfoldable pub isUnit : List ℕ → Bool
+isUnit u = let entries = goodEntries u in cond (hasSections u) entries false
+
+-- document 02, L9: the lowest metadata entry that is a select of too many cases, or the number of entries
+unfoldable pub wideSelect : List ℕ → ℕ
+wideSelect u = let metadata = metadataOf u in lowestBelow (headerOf u .counts .metadata) (λ k. isWideSelect (metadataAt metadata k))
+
+-- document 02, L3: "each entry an old place and a line of 32 bits, places strictly rising"
+unfoldable pub linesRise : List ℕ → Bool
+linesRise u =
+    let n = headerOf u .counts .instructions in
+    let lines = linesOf u in
+    every (headerOf u .counts .lines) (λ k. goodLine n lines k)
+
+-- The first rows of the table of answers, which are those of the unit's own bytes, from the last upward.
+
+-- "13, place of the lowest such record"
+unfoldable pub afterLines : List ℕ → Layout
+afterLines u = cond (ltb (wideSelect u) (headerOf u .counts .metadata)) (Refused tooManyCases (wideSelect u)) (Unit (headerOf u))
+
+-- "11, place 0: places not strictly rising or not below n; checked directly after 1"
+unfoldable pub afterUnit : List ℕ → Layout
+afterUnit u = let rest = afterLines u in cond (linesRise u) rest (Refused linePlaces 0)
+
+-- "refused 1, place 0: unit not as above"
 unfoldable pub layoutOf : List ℕ → Layout
-layoutOf u = cond (isUnit u) (Unit (headerOf u)) (Refused notUnit 0)
+layoutOf u = let rest = afterUnit u in cond (isUnit u) rest (Refused notUnit 0)

@@ -1,4 +1,4 @@
--- Definitions. The refusal numbers of document 01's table of answers.
+-- Definitions. The refusal numbers of document 01's table of answers, and those of document 02.
 -- Assumes nothing.
 use Prim.Native.Nat.{ℕ}
 
@@ -43,3 +43,7 @@ lostLoop = 10
 -- document 02, L3: "places not strictly rising or not below n"
 abbrev pub linePlaces : ℕ
 linePlaces = 11
+
+-- document 02, L9: "a SelectExecLayout of more than 24"
+abbrev pub tooManyCases : ℕ
+tooManyCases = 13

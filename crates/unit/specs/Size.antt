@@ -63,6 +63,10 @@ work64Room n s = 24 * n + 4 * s + setWords s + 3 * setWords s * min n (maxSetWor
 abbrev pub setsRoom : ℕ → ℕ → ℕ
 setsRoom n s = n + setWords s + 3 * setWords s * min n (maxSetWords / setWords s)
 
+-- document 02, L9: the most cases of a select
+abbrev pub maxSelectCases : ℕ
+maxSelectCases = 24
+
 -- the largest function that is worked on, and the largest number of local slots
 abbrev pub maxInstructions : ℕ
 maxInstructions = 65536

@@ -36,6 +36,9 @@ pub const MAX_LOCALS: usize = 65535;
 
 pub const MAX_SET_WORDS: usize = 2097152;
 
+// The most cases of a select.
+pub const MAX_SELECT_CASES: u32 = 24;
+
 // A result of n instructions and l lines, at most.
 pub fn output_room(n: usize, l: usize) -> usize
     requires { ⌜ (n < 2 ^ 32) × (l < 2 ^ 32) ⌝ }

@@ -15,6 +15,11 @@ unfoldable pub every : ℕ → (ℕ → Bool) → Bool
 every zero t = true
 every (suc n) t = let rest = every n t in cond (t n) rest false
 
+-- the lowest number below n that passes, or n
+unfoldable pub lowestBelow : ℕ → (ℕ → Bool) → ℕ
+lowestBelow zero t = 0
+lowestBelow (suc n) t = let rest = lowestBelow n t in cond (eqb rest n) (cond (t n) n (suc n)) rest
+
 -- the values of f at the k numbers from p on, and at all below n
 unfoldable pub tabulateFrom {ℓ} : {A : Type ℓ} → ℕ → ℕ → (ℕ → A) → List A
 tabulateFrom p zero f = []

@@ -9,11 +9,10 @@ pub fn first_rows(call: Call, bytes: &[u8], lent: Lengths) -> Option<Answer> {
     let Some(unit) = Unit::check(bytes) else {
         return Some(Answer::NO_UNIT);
     };
-    if !unit.lines_rise() {
-        return Some(Answer::LINE_PLACES);
-    }
     let header = unit.header();
-    if !unit.is_worked_on() {
+    if let Some(refusal) = unit.refusal() {
+        Some(refusal)
+    } else if !unit.is_worked_on() {
         Some(Answer::Unchanged)
     } else if !lent.suffice(&call.lent(unit.stated_lengths())) {
         Some(Answer::SHORT_BUFFER)

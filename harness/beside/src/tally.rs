@@ -1,10 +1,10 @@
 //! Counts by answer.
 
 use crate::guarded::Call;
-use unit::Answer;
+use unit::{Answer, Refusal};
 
 /// Unchanged, rewritten, and refused with each number.
-const ROWS: usize = 12;
+const ROWS: usize = 2 + Refusal::ALL.len();
 
 /// One pass, and the cleaning with 1, 2 and 3 passes run.
 const COLUMNS: usize = 4;
@@ -20,7 +20,10 @@ impl Tally {
         let row = match answer {
             Answer::Unchanged => 0,
             Answer::Rewritten { .. } => 1,
-            Answer::Refused { number, .. } => 1 + *number as usize,
+            Answer::Refused { number, .. } => {
+                let refusal = Refusal::ALL.iter().position(|refusal| *refusal as u32 == *number);
+                2 + refusal.expect("a number of documents 01 and 02")
+            }
         };
         let column = if call == Call::Pass { 0 } else { passes as usize };
         self.counts[row][column] += 1;
@@ -35,7 +38,9 @@ impl Tally {
 
     /// How often one pass left the function unchanged, rewrote it, refused it for more than a short buffer.
     pub fn pass(&self) -> [u64; 3] {
-        let refused = (2..ROWS).filter(|&row| row != 3).map(|row| self.counts[row][0]).sum();
+        let is_short = |refusal: Refusal| refusal == Refusal::ShortBuffer;
+        let rows = Refusal::ALL.into_iter().zip(&self.counts[2..]);
+        let refused = rows.filter(|(refusal, _)| !is_short(*refusal)).map(|(_, row)| row[0]).sum();
         [self.counts[0][0], self.counts[1][0], refused]
     }
 
@@ -48,7 +53,7 @@ impl Tally {
             let name = match row {
                 0 => "unchanged".into(),
                 1 => "rewritten".into(),
-                _ => format!("refused {}", row - 1),
+                _ => format!("refused {}", Refusal::ALL[row - 2] as u32),
             };
             let [pass, first, second, third] = counts;
             println!("{name:<12}{pass:>10}{first:>11}{second:>11}{third:>11}");

@@ -15,10 +15,11 @@ const SEED: u64 = 1;
 
 /// "a longer one is refused 2"
 pub fn listing_of(bytes: &[u8]) -> String {
-    let short = bytes.len() > LONGEST
-        || Unit::check(bytes).is_some_and(|unit| {
-            unit.lines_rise() && unit.is_worked_on() && !LENT.suffice(&unit.stated_lengths().of_one_pass())
-        });
+    let lacks_room = |unit: Unit| {
+        let asks = unit.refusal().is_none() && unit.is_worked_on();
+        asks && !LENT.suffice(&unit.stated_lengths().of_one_pass())
+    };
+    let short = bytes.len() > LONGEST || Unit::check(bytes).is_some_and(lacks_room);
     let answer = if short { Answer::SHORT_BUFFER } else { reference::pass(bytes) };
     answer.listing()
 }

@@ -62,6 +62,7 @@ pub fn all() -> Vec<Named> {
     named.extend(readings());
     named.extend(refusals());
     named.extend(line_numbers());
+    named.extend(many_cases());
     named.extend(large());
     named
 }
@@ -434,6 +435,52 @@ fn line_numbers() -> Vec<Named> {
             "lines come before counts",
             Parts { metadata: vec![], ..lined(kept_last(), &[(2, 1)]) },
             refused(11, 0),
+        ),
+    ]
+}
+
+/// Document 02, L9: a select has up to 24 cases.
+fn many_cases() -> Vec<Named> {
+    let select = |cases| Metadata { second: cases, ..Metadata::new(Kind::SelectExecLayout) };
+    let room_for = |cases| Parts {
+        cases: vec![Case { kind: Case::RECEIVE, elem_slots: 1, ..Case::default() }; cases],
+        ..function(2, &[op(Opcode::SelectExec, 1, 0, 0), give_back(0, 1)])
+    };
+    let of_cases = |cases| with_metadata(room_for(cases), 0, select(cases as u32));
+    let extra = |code: &[Instruction], metadata: &[Metadata]| Parts {
+        metadata: metadata.to_vec(),
+        cases: vec![Case::default(); 25],
+        ..function(1, code)
+    };
+    let none = Metadata::default();
+    vec![
+        Named::new("24 select cases", of_cases(24), Stated::Unchanged),
+        Named::new("25 select cases", of_cases(25), refused(13, 0)).cleaned(refused(13, 0), 1),
+        Named::new(
+            "25 select cases of no instruction",
+            extra(&[], &[none, none, select(25)]),
+            refused(13, 2),
+        ),
+        Named::new(
+            "25 select cases come before a wrong count of metadata",
+            extra(&[HINT, HINT], &[none, none, select(25)]),
+            refused(13, 2),
+        ),
+        Named::new(
+            "the lowest of two selects with too many cases",
+            extra(&[HINT, HINT, HINT], &[none, select(25), select(25)]),
+            refused(13, 1),
+        ),
+        Named::new("25 select cases come before defer", Parts { defer: 1, ..of_cases(25) }, refused(13, 0)),
+        Named::new(
+            "a damaged entry comes before 25 select cases",
+            Parts { types: vec![6, 0], ..of_cases(25) },
+            refused(1, 0),
+        ),
+        Named::new(
+            "25 entries in the case section, and no such select",
+            with_metadata(room_for(25), 0, select(1)),
+            Stated::Unchanged,
         ),
     ]
 }

@@ -26,8 +26,8 @@ fn run(bytes: &[u8], max_passes: u32) -> Cleaned {
     let Some(unit) = Unit::check(bytes) else {
         return Cleaned { answer: Answer::NO_UNIT, pass: 1 };
     };
-    if !unit.lines_rise() {
-        return Cleaned { answer: Answer::LINE_PLACES, pass: 1 };
+    if let Some(answer) = unit.refusal() {
+        return Cleaned { answer, pass: 1 };
     }
     let mut prepared = Prepared::new(&unit);
     prepared.trace_old_places();

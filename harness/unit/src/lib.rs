@@ -19,4 +19,4 @@ pub use entries::{TYPE_FLOAT, TYPE_GC_BASE, TYPE_VALUE};
 pub use parts::Parts;
 pub use refusal::Refusal;
 pub use result::{Retained, Rewritten, RESULT_HEADER_LEN};
-pub use section::{Header, Section, Unit, HEADER_LEN, MAX_LOCAL_SLOTS};
+pub use section::{Header, Section, Unit, HEADER_LEN, MAX_LOCAL_SLOTS, MAX_SELECT_CASES};

@@ -1,6 +1,6 @@
 //! The refusal numbers, and what they mean.
 
-/// Why a unit is refused, by the documents' numbers.
+/// Why a unit is refused, by the numbers of documents 01 and 02.
 #[derive(Clone, Copy, Debug, Eq, PartialEq)]
 #[repr(u32)]
 pub enum Refusal {
@@ -15,10 +15,11 @@ pub enum Refusal {
     LoopHint = 9,
     LoopMoved = 10,
     LinePlaces = 11,
+    SelectCases = 13,
 }
 
 impl Refusal {
-    pub const ALL: [Self; 11] = [
+    pub const ALL: [Self; 12] = [
         Self::NoUnit,
         Self::ShortBuffer,
         Self::MetadataCount,
@@ -30,6 +31,7 @@ impl Refusal {
         Self::LoopHint,
         Self::LoopMoved,
         Self::LinePlaces,
+        Self::SelectCases,
     ];
 
     pub fn from_number(number: u32) -> Option<Self> {
@@ -53,10 +55,11 @@ impl Refusal {
             Self::LoopHint => "the loop has no end inside the function",
             Self::LoopMoved => "the loop's end was removed, or its exit lies past the function's end",
             Self::LinePlaces => "the places of the lines do not rise, or one lies past the function's end",
+            Self::SelectCases => "a select has more than 24 cases",
         }
     }
 
-    /// Whether the place is that of an instruction; it is 0 otherwise.
+    /// Whether the place is that of an instruction or of its metadata; it is 0 otherwise.
     pub fn has_place(self) -> bool {
         !matches!(
             self,

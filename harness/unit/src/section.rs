@@ -1,8 +1,10 @@
 //! The header, the sections and the check that bytes are a unit.
 
+use crate::answer::Answer;
 use crate::buffers::{Lengths, WORKED_ON};
 use crate::entries::{Case, Constant, Entry, Function, Instruction, Kind, Line, Metadata};
 use crate::entries::{CONSTANT_BOOL, CONSTANT_STRING, TYPE_FLOAT};
+use crate::refusal::Refusal;
 
 /// "Sixteen 32-bit words", and document 02's "two last words, a count and an offset".
 const HEADER_WORDS: usize = 18;
@@ -10,6 +12,9 @@ pub const HEADER_LEN: usize = HEADER_WORDS * <u32 as Entry>::LEN;
 
 /// "local slots s (at most 65,535)"
 pub const MAX_LOCAL_SLOTS: u32 = 65_535;
+
+/// The most cases of a select (document 02, L9).
+pub const MAX_SELECT_CASES: u32 = 24;
 
 /// The sections, in the order of their offsets and of the sections themselves.
 #[derive(Clone, Copy, Debug, Eq, PartialEq)]
@@ -158,6 +163,17 @@ impl<'a> Unit<'a> {
         Ok(unit)
     }
 
+    /// The refusals of a unit that no buffer and no other row comes before: "(11, place 0: places not strictly rising
+    /// or not below n; checked directly after 1.)", "13, place of the lowest such record".
+    pub fn refusal(&self) -> Option<Answer> {
+        if !self.lines_rise() {
+            return Some(Answer::LINE_PLACES);
+        }
+        let is_wide = |entry: Metadata| entry.is(Kind::SelectExecLayout) && entry.second > MAX_SELECT_CASES;
+        let place = self.metadata().position(is_wide)?;
+        Some(Answer::Refused { number: Refusal::SelectCases as u32, place: place as u32 })
+    }
+
     pub fn bytes(&self) -> &'a [u8] {
         self.bytes
     }
@@ -166,8 +182,8 @@ impl<'a> Unit<'a> {
         &self.header
     }
 
-    /// Whether the answer depends on the buffers: "unchanged: n under 2, above 65,536, or defer" comes before
-    /// every row but those of the unit's own bytes.
+    /// Whether the answer of a unit without such a refusal depends on the buffers: "unchanged: n under 2, above
+    /// 65,536, or defer" comes before all other rows.
     pub fn is_worked_on(&self) -> bool {
         WORKED_ON.contains(&self.header.count(Section::Code)) && self.header.defer == 0
     }

@@ -3,7 +3,7 @@ use mathlib.Core.Path.{_≡_, sym, ap, _∙_}
 use mathlib.Core.Bool.{Bool, true, false, _&&_}
 use lib.ListN.{length}
 use Rattle.unit.specs.Layout.{headerOf}
-use Rattle.unit.specs.laws.UnitLaws.{unit-laid}
+use Rattle.unit.specs.laws.UnitLaws.{unit-laid, layout-unit}
 use Rattle.answer.specs.Answer.{Lent, lentOf, isSkipped, roomFor}
 use Rattle.answer.specs.Clean.{spareFor}
 use Rattle.optimize.specs.laws.Whole.{worked-on}
@@ -30,7 +30,7 @@ returns c = let s = c .before .before .before .before .before .before .before .b
 has-room-requires : tie.Need-has-room-requires
 has-room-requires c κs =
     let s = c .before .before .before .before .before .before .before .before in
-    (worked-on (s .args .c) (sym (c .before .is-skipped .ensures) ∙ c .if1 .left) .1, rw (s .pre .1) (unit-laid (s .args .unit .now) (s .pre .0) .locals))
+    (worked-on (s .args .c) (sym (c .before .is-skipped .ensures) ∙ c .if1 .left) .1, rw (s .pre .1) (unit-laid (s .args .unit .now) (layout-unit _ _ (s .pre .0) .0) .locals))
 
 has-spare-requires : tie.Need-has-spare-requires
 has-spare-requires c κs = worked-on (c .before .before .before .before .before .before .before .before .before .args .c) (sym (c .before .before .is-skipped .ensures) ∙ c .before .if1 .left) .1
@@ -44,7 +44,7 @@ first-pass-requires c κs =
     let spare = c .before .before .before .before .before .before in
     let room = c .before .before .before .before .before .before .before in
     let skip = c .before .before .before .before .before .before .before .before in (
-      s .pre .0,
+      layout-unit _ _ (s .pre .0) .0,
       s .pre .1,
       sym (skip .before .is-skipped .ensures) ∙ skip .if1 .left,
       rw (← room .has-room .ensures, ← spare .has-spare .ensures) (not-false _ (c .before .before .before .before .before .if2 .left)),

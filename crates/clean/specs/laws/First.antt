@@ -12,13 +12,14 @@ use borrow.Rule.Slice.PartMut.{putMid}
 use Rattle.words.specs.Bytes.{Bytes}
 use Rattle.words.specs.laws.Bytes.{bytes-mid}
 use Rattle.unit.specs.declared.Counts.{Counts}
-use Rattle.unit.specs.Layout.{headerOf, metadataOf, isUnit}
-use Rattle.unit.specs.Refusal.{notUnit, shortBuffer, metadataCount, typeCount}
+use Rattle.unit.specs.declared.Layout.the-variants.{Unit, Refused as NoUnit}
+use Rattle.unit.specs.Layout.{headerOf, metadataOf, isUnit, layoutOf}
+use Rattle.unit.specs.Refusal.{shortBuffer, metadataCount, typeCount}
 use Rattle.unit.specs.Result.{Retained, resultBytes}
 use Rattle.unit.specs.Size.{metadataSize, outputRoom, work32Room, work64Room, resultSize, maxInstructions}
 use Rattle.words.specs.laws.Truth.{left-true, right-true}
 use Rattle.effects.specs.Shape.{Sections}
-use Rattle.answer.specs.Answer.{Lent, lentOf, cellsOf, sectionsOf, roomFor, isSkipped, afterRoom, afterSkipped, afterLayout, answerWith}
+use Rattle.answer.specs.Answer.{Lent, lentOf, cellsOf, sectionsOf, roomFor, isSkipped, afterRoom, afterSkipped, afterLayout, laidOut, answerWith}
 use Rattle.answer.specs.Clean.{Cleaned as Cleaning, cleanFrom, cleanedFirst, spareFor, cleanAnswer}
 use Rattle.answer.specs.Pass.{Outcome, unchanged, refused, rewritten, optimized, outputAfter}
 use Rattle.run.specs.Given.{given-well, cell-at, cells-long, metadata-fields}
@@ -46,22 +47,22 @@ unaltered-answers out = (refl, refl)
 -- ---- before the first pass
 
 module _ (u : List ℕ) (l : Lent) (first second : ℕ) where
-  pub clean-refused : isUnit u ≡ false → cleanAnswer u l first second ≡ stopped notUnit 0 1
-  unfolding cleanAnswer cleanedFirst answerWith
-  clean-refused e = rw e
+  pub clean-refused : (k p : ℕ) → layoutOf u ≡ NoUnit k p → cleanAnswer u l first second ≡ stopped k p 1
+  unfolding cleanAnswer cleanedFirst answerWith laidOut
+  clean-refused k p e = rw e
 
-  module _ (laid : isUnit u ≡ true) where
+  module _ (laid : layoutOf u ≡ Unit (headerOf u)) where
     pub clean-skipped : isSkipped (headerOf u .counts) ≡ true → cleanAnswer u l first second ≡ unaltered
-    unfolding cleanAnswer cleanedFirst answerWith afterLayout
+    unfolding cleanAnswer cleanedFirst answerWith laidOut afterLayout
     clean-skipped e = rw (laid, e)
 
     pub clean-short : isSkipped (headerOf u .counts) ≡ false → (roomFor (headerOf u .counts) l && spareFor (headerOf u .counts) first second) ≡ false → cleanAnswer u l first second ≡ stopped shortBuffer 0 1
-    unfolding cleanAnswer cleanedFirst answerWith afterLayout afterSkipped
+    unfolding cleanAnswer cleanedFirst answerWith laidOut afterLayout afterSkipped
     clean-short e f = rw (laid, e, f)
 
     pub clean-first : isSkipped (headerOf u .counts) ≡ false → (roomFor (headerOf u .counts) l && spareFor (headerOf u .counts) first second) ≡ true
         → cleanAnswer u l first second ≡ cleanedFirst (sectionsOf u) (afterRoom u)
-    unfolding cleanAnswer answerWith afterLayout afterSkipped
+    unfolding cleanAnswer answerWith laidOut afterLayout afterSkipped
     clean-first e f = rw (laid, e, f)
 
 pub spare-test : (c : Counts) (room first second : ℕ) → room ≡ outputRoom (c .instructions) → (leb room first && leb room second) ≡ spareFor c first second

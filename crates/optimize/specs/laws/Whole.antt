@@ -12,6 +12,7 @@ use Rattle.words.specs.Bytes.{Bytes}
 use Rattle.words.specs.laws.Bytes.{bytes-mid}
 use Rattle.unit.specs.declared.Counts.{Counts}
 use Rattle.unit.specs.declared.Header.{Header}
+use Rattle.unit.specs.declared.Layout.the-variants.{Unit, Refused}
 use Rattle.unit.specs.laws.UnitLaws.{unit-laid}
 use Rattle.unit.specs.Size.{instructionSize, constantSize, caseSize, outputRoom, work32Room, work64Room, maxInstructions}
 use Rattle.effects.specs.Shape.{Sections}
@@ -20,10 +21,10 @@ use Rattle.words.specs.laws.Truth.{left-true, right-true}
 use Rattle.run.specs.laws.Passed.{worked-size}
 use Rattle.removal.specs.laws.KeptWork.{sectionsIn}
 use Rattle.optimize.specs.laws.Parts.{Given, Room, cellsIn, cells-in}
-use Rattle.unit.specs.Layout.{headerOf, codeOf, metadataOf, typesOf, constantsOf, functionsOf, externsOf, casesOf, isUnit}
-use Rattle.unit.specs.Refusal.{notUnit, shortBuffer, metadataCount, typeCount}
+use Rattle.unit.specs.Layout.{headerOf, codeOf, metadataOf, typesOf, constantsOf, functionsOf, externsOf, casesOf, isUnit, layoutOf}
+use Rattle.unit.specs.Refusal.{shortBuffer, metadataCount, typeCount}
 use Rattle.answer.specs.Pass.{unchanged, refused, optimized}
-use Rattle.answer.specs.Answer.{Lent, lentOf, cellsOf, sectionsOf, roomFor, isSkipped, afterRoom, afterSkipped, afterLayout, answerWith, passAnswer}
+use Rattle.answer.specs.Answer.{Lent, lentOf, cellsOf, sectionsOf, roomFor, isSkipped, afterRoom, afterSkipped, afterLayout, laidOut, answerWith, passAnswer}
 
 -- ---- "n under 2, above 65,536, or defer"
 
@@ -135,12 +136,12 @@ module _ (u : List ℕ) where
     unfolding afterLayout afterSkipped
     layout-worked e f = rw (e, f)
 
-    pub answer-refused : isUnit u ≡ false → answerWith room u ≡ refused notUnit 0
-    unfolding answerWith
-    answer-refused e = rw e
+    pub answer-refused : (k p : ℕ) → layoutOf u ≡ Refused k p → answerWith room u ≡ refused k p
+    unfolding answerWith laidOut
+    answer-refused k p e = rw e
 
-  pub pass-laid : (h : Header) (l : Lent) → isUnit u ≡ true → h ≡ headerOf u → passAnswer u l ≡ afterLayout (roomFor (h .counts) l) u
-  unfolding passAnswer answerWith
+  pub pass-laid : (h : Header) (l : Lent) → layoutOf u ≡ Unit h → h ≡ headerOf u → passAnswer u l ≡ afterLayout (roomFor (h .counts) l) u
+  unfolding passAnswer answerWith laidOut
   pass-laid h l laid e = rw (e, laid)
 
 -- the test of the room in the code's order

@@ -6,9 +6,9 @@ use mathlib.Core.List.{List, [], _∷_, _++_}
 use Prim.Native.Nat.{ℕ, _+_, _*_, _/_, _%_, _^_, _≤_, _<_}
 use native.Mathlib.Nat.{add-zero, mul-zero, mul-suc}
 use native.Mathlib.Omega.{arith}
-use lib.Dec.{leb}
+use lib.Dec.{leb, ltb}
 use lib.ListN.{length, getD, length-append}
-use borrow.Author.Tests.{eqb-true, leb-true}
+use borrow.Author.Tests.{eqb-true, leb-true, lt-ltb, le-ltb}
 use Rattle.words.specs.laws.Inside.{get-inside, mid-inside}
 use Rattle.words.specs.Le.{toLe}
 use Rattle.words.specs.laws.Le.{from-to}
@@ -16,8 +16,8 @@ use Rattle.words.specs.laws.Lists.{every-at}
 use Rattle.words.specs.laws.Regions.{mid-long}
 use Rattle.words.specs.laws.Truth.{both}
 use Rattle.unit.specs.Entry.{metadataAt, metadataBytes, lineBytes, goodMetadata, typeAt, goodType, goodConstant, caseAt, goodCase}
-use Rattle.unit.specs.Layout.{headerOf, sectionsFollow, goodCounts, goodEntries, isUnit, layoutOf, codeOf, metadataOf, typesOf, constantsOf, functionsOf, externsOf, casesOf, linesOf}
-use Rattle.unit.specs.Refusal.{notUnit}
+use Rattle.unit.specs.Layout.{headerOf, sectionsFollow, goodCounts, goodEntries, hasSections, isUnit, linesRise, wideSelect, afterLines, afterUnit, layoutOf, codeOf, metadataOf, typesOf, constantsOf, functionsOf, externsOf, casesOf, linesOf}
+use Rattle.unit.specs.Refusal.{notUnit, linePlaces, tooManyCases}
 use Rattle.unit.specs.Result.{Retained, resultHeader, codeBytes, metadataBytesAll, placeBytes, lineBytesAll, resultBytes}
 use Rattle.unit.specs.Size.{headerSize, instructionSize, metadataSize, constantSize, functionSize, externSize, caseSize, lineSize, maxLocalSlots, resultHeaderSize, resultSize}
 use Rattle.unit.specs.declared.Header.{Header}
@@ -133,17 +133,28 @@ pub record WellFormed (u : List ℕ) : Type 0 where
   pub lengths : Lengths u
   pub entries : Entries u
 
+-- a header, with its sections
+pub has-header : (u : List ℕ) → hasSections u ≡ true → headerSize ≤ length u
+unfolding hasSections
+has-header u e = leb-true headerSize (length u) (passed (leb headerSize (length u)) _ e .0)
+
+pub has-sections : (u : List ℕ) → hasSections u ≡ true → Sections (headerOf u) (length u)
+unfolding hasSections
+has-sections u e = sections-follow (headerOf u) (length u) (both (sectionsFollow (headerOf u) (length u)) _ (passed (leb headerSize (length u)) _ e .1) .0)
+
+has-counts : (u : List ℕ) → hasSections u ≡ true → goodCounts (headerOf u) ≡ true
+unfolding hasSections
+has-counts u e = both (sectionsFollow (headerOf u) (length u)) _ (passed (leb headerSize (length u)) _ e .1) .1
+
 pub unit-laid : (u : List ℕ) → isUnit u ≡ true → WellFormed u
 unfolding isUnit goodCounts
 unit-laid u e =
-    let long = passed (leb headerSize (length u)) _ e in
-    let tests = passed _ _ (long .1) in
-    let laid = both _ _ (tests .0) in
-    let counts = both _ _ (laid .1) in
-    let s : Sections (headerOf u) (length u) = sections-follow (headerOf u) (length u) (laid .0) in
+    let tests = passed (hasSections u) (goodEntries u) e in
+    let counts = both _ _ (has-counts u (tests .0)) in
+    let s : Sections (headerOf u) (length u) = has-sections u (tests .0) in
     let w : Within (headerOf u) (length u) = within (headerOf u) (length u) s in
     record {
-      header = leb-true headerSize (length u) (long .0);
+      header = has-header u (tests .0);
       locals = leb-true _ _ (counts .0);
       defer = leb-true _ _ (counts .1);
       good = tests .1;
@@ -153,28 +164,41 @@ unit-laid u e =
       entries = entries u (tests .1);
     }
 
--- the two answers of the check
-pub laid-out : (u : List ℕ) → isUnit u ≡ true → layoutOf u ≡ Unit (headerOf u)
-unfolding layoutOf
-laid-out u e = rw e
+-- what the check finds, and its answers
+pub no-sections : (u : List ℕ) → hasSections u ≡ false → isUnit u ≡ false
+unfolding isUnit
+no-sections u e = rw e
+
+pub by-entries : (u : List ℕ) (good : Bool) → hasSections u ≡ true → goodEntries u ≡ good → isUnit u ≡ good
+unfolding isUnit
+by-entries u good e f = rw (e, f)
 
 pub not-laid-out : (u : List ℕ) → isUnit u ≡ false → layoutOf u ≡ Refused notUnit 0
 unfolding layoutOf
 not-laid-out u e = rw e
 
-pub layout-unit : (u : List ℕ) (h : Header) → layoutOf u ≡ Unit h → (isUnit u ≡ true) × (h ≡ headerOf u)
-layout-unit u h e = go (isUnit u) refl
-  where
-    go : (t : Bool) → isUnit u ≡ t → (isUnit u ≡ true) × (h ≡ headerOf u)
-    go true r = (r, cc (laid-out u r))
-    go false r = let z : _≡_ {A = ℕ} 0 1 = cc (not-laid-out u r) in absurd (omega arith)
+pub lines-fall : (u : List ℕ) → isUnit u ≡ true → linesRise u ≡ false → layoutOf u ≡ Refused linePlaces 0
+unfolding layoutOf afterUnit
+lines-fall u e f = rw (e, f)
 
-pub layout-refused : (u : List ℕ) (r p : ℕ) → layoutOf u ≡ Refused r p → (isUnit u ≡ false) × (r ≡ notUnit) × (p ≡ 0)
-layout-refused u r p e = go (isUnit u) refl
+pub too-many-cases : (u : List ℕ) → isUnit u ≡ true → linesRise u ≡ true → wideSelect u < headerOf u .counts .metadata → layoutOf u ≡ Refused tooManyCases (wideSelect u)
+unfolding layoutOf afterUnit afterLines
+too-many-cases u e f h = rw (e, f, lt-ltb (wideSelect u) (headerOf u .counts .metadata) h)
+
+pub laid-out : (u : List ℕ) → isUnit u ≡ true → linesRise u ≡ true → headerOf u .counts .metadata ≤ wideSelect u → layoutOf u ≡ Unit (headerOf u)
+unfolding layoutOf afterUnit afterLines
+laid-out u e f h = rw (e, f, le-ltb (wideSelect u) (headerOf u .counts .metadata) h)
+
+pub layout-unit : (u : List ℕ) (h : Header) → layoutOf u ≡ Unit h → (isUnit u ≡ true) × (h ≡ headerOf u) × (linesRise u ≡ true)
+unfolding layoutOf afterUnit afterLines
+layout-unit u h = go (isUnit u) refl (linesRise u) refl (ltb (wideSelect u) (headerOf u .counts .metadata))
   where
-    go : (t : Bool) → isUnit u ≡ t → (isUnit u ≡ false) × (r ≡ notUnit) × (p ≡ 0)
-    go true q = let z : _≡_ {A = ℕ} 0 1 = cc (laid-out u q) in absurd (omega arith)
-    go false q = (q, cc (not-laid-out u q), cc (not-laid-out u q))
+    go : (t : Bool) → isUnit u ≡ t → (l : Bool) → linesRise u ≡ l → (w : Bool)
+        → cond t (cond l (cond w (Refused tooManyCases (wideSelect u)) (Unit (headerOf u))) (Refused linePlaces 0)) (Refused notUnit 0) ≡ Unit h → (isUnit u ≡ true) × (h ≡ headerOf u) × (linesRise u ≡ true)
+    go true r true f true e = let z : _≡_ {A = ℕ} 0 1 = cc in absurd (omega arith)
+    go true r true f false e = (r, cc, f)
+    go true r false f w e = let z : _≡_ {A = ℕ} 0 1 = cc in absurd (omega arith)
+    go false r l f w e = let z : _≡_ {A = ℕ} 0 1 = cc in absurd (omega arith)
 
 -- every field of an entry fits its width
 pub record MetadataFields (d : Metadata) : Type 0 where

@@ -7,10 +7,23 @@ use crate::damage;
 use crate::draft::{Draft, ROOM};
 use crate::rng::Rng;
 use reference::Opcode;
-use unit::{Function, Line, Metadata, Parts};
+use unit::{Case, Function, Kind, Line, Metadata, Parts, MAX_SELECT_CASES};
 
-/// Counts that do not agree, defer, and functions of no, one and two instructions.
+/// Counts that do not agree, defer, and functions of no, one and two instructions; in some of them a select of
+/// about as many cases as it may have.
 pub(super) fn counts(rng: &mut Rng) -> Parts {
+    let mut parts = disagreeing(rng);
+    if rng.percent(25) && !parts.metadata.is_empty() {
+        let most = MAX_SELECT_CASES as usize;
+        parts.cases.resize(rng.within(most - 1..=most + 3), Case::default());
+        let cases = parts.cases.len() as u32;
+        let place = rng.below(parts.metadata.len());
+        parts.metadata[place] = Metadata { second: cases, ..Metadata::new(Kind::SelectExecLayout) };
+    }
+    parts
+}
+
+fn disagreeing(rng: &mut Rng) -> Parts {
     let way = rng.below(5);
     if way == 0 {
         let (n, s) = (rng.within(0..=2), rng.pick(&[0, 1, 2, 64]));

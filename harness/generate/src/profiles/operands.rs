@@ -5,7 +5,7 @@ use crate::draft::{Draft, ROOM};
 use crate::opcodes::{matching, RANGES};
 use crate::rng::Rng;
 use reference::Opcode;
-use unit::{Function, Instruction, Kind, Metadata, Parts};
+use unit::{Function, Instruction, Kind, Metadata, Parts, MAX_SELECT_CASES};
 
 /// Any opcode with matching metadata, in a frame with room.
 pub(super) fn opcodes(rng: &mut Rng) -> Parts {
@@ -203,12 +203,15 @@ fn edge_instruction(draft: &mut Draft, len: usize) {
     };
 }
 
-/// SelectExec with ranges of cases, some empty, some overlapping.
+/// SelectExec with ranges of cases, some empty, some overlapping, some about as many as a select may have.
 pub(super) fn selects(rng: &mut Rng) -> Parts {
     let n = rng.within(2..=7);
     let s = ROOM + rng.within(2..=6);
+    let most = MAX_SELECT_CASES as usize;
+    let many = rng.percent(20);
+    let cases = if many { rng.within(most - 1..=most + 3) } else { rng.within(0..=4) };
     let mut draft = Draft::new(rng, n, s).with_types();
-    for _ in 0..draft.rng.within(0..=4) {
+    for _ in 0..cases {
         let case = draft.case();
         draft.parts.cases.push(case);
     }
@@ -221,6 +224,10 @@ pub(super) fn selects(rng: &mut Rng) -> Parts {
             }
             3 => draft.give_back(),
             _ => draft.pure(20),
+        }
+        if many && draft.rng.percent(30) {
+            let metadata = draft.parts.metadata.last_mut().expect("there is an instruction");
+            *metadata = Metadata { second: cases as u32, ..Metadata::new(Kind::SelectExecLayout) };
         }
     }
     draft.finish()

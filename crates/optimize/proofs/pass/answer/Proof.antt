@@ -1,6 +1,6 @@
 use mathlib.Core.Path.{refl, sym, ap, _∙_}
 use Rattle.unit.specs.declared.Header.{Header}
-use Rattle.unit.specs.laws.UnitLaws.{layout-unit, layout-refused}
+use Rattle.unit.specs.laws.UnitLaws.{layout-unit}
 use lib.ListN.{length}
 use Rattle.answer.specs.Answer.{lentOf, passAnswer}
 use Rattle.answer.specs.Pass.{refused}
@@ -24,8 +24,7 @@ laid-requires c κs = let e = layout-unit (c .before .before .before .before .be
 
 returns : tie.Need-returns
 unfolding passAnswer
-returns c = let e = layout-refused (c .before .before .before .before .before .before .before .before .args .unit .now) _ _ (sym (c .before .before .before .check .ensures) ∙ c .before .k .given .1) in
-    answers-same _ (refused _ _) _ _ _ (answer-refused _ _ (e .0) ∙ rw (e .1, e .2)) (answers-refused _ _ _ (c .before .before .before .before .before .before .before .before .args .out .now) refl)
+returns c = answers-same _ (refused _ _) _ _ _ (answer-refused _ _ _ _ (sym (c .before .before .before .check .ensures) ∙ c .before .k .given .1)) (answers-refused _ _ _ (c .before .before .before .before .before .before .before .before .args .out .now) refl)
 
 same-length : tie.Need-same-length
 same-length c = search needs
@@ -38,8 +37,8 @@ same-length-3 c = search needs
 
 returns-2 : tie.Need-returns-2
 returns-2 c = let a = c .before .before .before .before .before .before .before .before .before .before .before .before .before .before .before .before .before .before .args in
-    let e = layout-unit (a .unit .now) _ (sym (c .before .before .before .before .before .before .before .before .before .before .before .before .before .check .ensures) ∙ c .before .before .before .before .before .before .before .before .before .before .before .h .given .1) in
-    answers-same _ _ _ _ _ (pass-laid (a .unit .now) _ (lentOf (length (a .out .now)) (length (a .work32 .now)) (length (a .work64 .now))) (e .0) (e .1)) (c .before .before .before .before .before .before .laid .ensures)
+    let laid = sym (c .before .before .before .before .before .before .before .before .before .before .before .before .before .check .ensures) ∙ c .before .before .before .before .before .before .before .before .before .before .before .h .given .1 in
+    answers-same _ _ _ _ _ (pass-laid (a .unit .now) _ (lentOf (length (a .out .now)) (length (a .work32 .now)) (length (a .work64 .now))) laid (layout-unit (a .unit .now) _ laid .1)) (c .before .before .before .before .before .before .laid .ensures)
 
 pub answer-spec : {M : Type 1} → statement M
 answer-spec =

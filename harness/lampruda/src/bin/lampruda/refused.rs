@@ -129,6 +129,7 @@ fn detail(refusal: Refusal, place: usize, parts: &Parts) -> Option<String> {
         Refusal::LoopMoved if instruction.imm32() as usize > n => {
             format!("its exit is place {}, the function's end is {n}", instruction.imm32())
         }
+        Refusal::SelectCases => format!("metadata {place} is of a select of {} cases", metadata.second),
         Refusal::LoopMoved => format!("its end, place {}, is removed by this pass", metadata.end_pc),
     })
 }
