@@ -6,7 +6,8 @@ use Prim.Native.Nat.{ℕ}
 use lib.ListN.{length, replicate}
 use Rattle.answer.specs.Pass.{Outcome, outputAfter}
 use Rattle.answer.specs.Answer.{Lent, lentOf, passAnswer, passLines}
-use Rattle.answer.specs.Clean.{Cleaned, cleanAnswer}
+use Rattle.unit.specs.declared.Line.{Line}
+use Rattle.answer.specs.Clean.{Cleaned, cleanAnswer, cleanLines}
 use Rattle.run.specs.Returned.{PreservesRuns}
 
 -- what the lent buffers hold
@@ -47,9 +48,12 @@ spares first second = record { first = first; second = second }
 abbrev pub cleaning : List ℕ → Buffers → Spare → Cleaned
 cleaning u b s = cleanAnswer u (lengths b) (length (s .first)) (length (s .second))
 
+abbrev pub cleaningLines : List ℕ → Buffers → Spare → List Line
+cleaningLines u b s = cleanLines u (lengths b) (length (s .first)) (length (s .second))
+
 pub record CleanContract {A : Type 0} (form : Cleaned → A) (u : List ℕ) (before : Buffers) (spare : Spare) (r : A) (after : Buffers) (spare′ : Spare) : Type 0 where
   pub answer : r ≡ form (cleaning u before spare)
-  pub output : after .out ≡ outputAfter (cleaning u before spare .outcome) (cleaning u before spare .lines) (before .out)
+  pub output : after .out ≡ outputAfter (cleaning u before spare .outcome) (cleaningLines u before spare) (before .out)
   pub work32 : Zeroed (before .work32) (after .work32)
   pub work64 : Zeroed (before .work64) (after .work64)
   pub first : Zeroed (spare .first) (spare′ .first)

@@ -17,7 +17,7 @@ fn same_units_everywhere() {
     assert_eq!(hashed, EXPECTED);
 }
 
-const EXPECTED: u64 = 4_117_545_844_259_812_799;
+const EXPECTED: u64 = 1_677_319_459_773_474_473;
 
 #[test]
 fn profiles_draw_units() {

@@ -41,10 +41,11 @@ returns c =
     let h = b .before .before .before .before .before in
     let s = h .before .before .before .before .before in
     let a = s .args in
-    let i = h .loop .inv in
-    (omega arith,
+    let i = h .loop .inv in (
+      omega arith,
       swept-past (a .k) (a .lines .now) (a .out .now) (h .loop .out) _ _ _ (i .4) (s .pre .1) (i .1) (i .0) (omega arith) _ (b .before .before .before .line .ensures) _
-      (old-part (a .k) _ _ (h .loop .out) (h .before .before .places-at .ensures) (h .before .lines-at .ensures)) _ (b .boundary .ensures .2) (c .if1 .taken))
+          (old-part (a .k) _ _ (h .loop .out) (h .before .before .places-at .ensures) (h .before .lines-at .ensures)) _ (b .boundary .ensures .2) (c .if1 .taken),
+    )
 
 cast-t23 : tie.Need-cast-t23 Inv-loop μ-loop
 cast-t23 c =
@@ -70,14 +71,13 @@ loop-again c =
     let s = h .before .before .before .before .before in
     let a = s .args in
     let i = h .loop .inv in
-    let many = old-size (a .k) _ _ (h .loop .out) (h .before .before .places-at .ensures) (h .before .lines-at .ensures) (let l = i .3 in omega arith) in
-    (
+    let many = old-size (a .k) _ _ (h .loop .out) (h .before .before .places-at .ensures) (h .before .lines-at .ensures) (let l = i .3 in omega arith) in (
       omega arith,
       omega arith,
       omega arith,
       w .write-line .kept .0 ∙ i .3,
       swept-turn (a .k) (a .lines .now) (a .out .now) (h .loop .out) _ _ _ (i .4) (s .pre .1) (i .1) (i .0) (omega arith) _ (b .before .before .before .line .ensures) _
-      (old-part (a .k) _ _ (h .loop .out) (h .before .before .places-at .ensures) (h .before .lines-at .ensures)) _ (b .boundary .ensures .2) _ _ (omega arith) (p .position .ensures .1) (rw (h .before .lines-at .ensures) at (w .write-line .ensures)),
+          (old-part (a .k) _ _ (h .loop .out) (h .before .before .places-at .ensures) (h .before .lines-at .ensures)) _ (b .boundary .ensures .2) _ _ (omega arith) (p .position .ensures .1) (rw (h .before .lines-at .ensures) at (w .write-line .ensures)),
     )
 
 same-length-2 : tie.Need-same-length-2 Inv-loop μ-loop

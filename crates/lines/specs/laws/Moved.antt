@@ -149,6 +149,7 @@ module _ (to : ℕ → ℕ) (n : ℕ) where
   without-free b (x ∷ xs) d f =
       let low : to (x .place) < b = f 0 (omega arith) in
       rw (ne-eqb b (to (x .place)) (λ e. omega arith), or-false (lands to (to (x .place)) xs), without-free b xs d (λ i h. f (suc i) (omega arith)))
+
   -- what goes past the end is dropped, and supersedes nothing
   never : (q : ℕ) → q < n → (zs : List Line) (d : Line) → ((i : ℕ) → i < length zs → n ≤ to (getD zs i d .place)) → lands to q zs ≡ false
   unfolding lands
