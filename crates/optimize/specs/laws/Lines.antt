@@ -1,6 +1,7 @@
 -- Lines added to the result of a rewritten answer.
 -- Assumes nothing.
 use mathlib.Core.Path.{_≡_, refl, sym, ap, _∙_}
+use mathlib.Core.Bool.{Bool, true}
 use mathlib.Core.List.{List, [], _++_}
 use Prim.Native.Nat.{ℕ, _+_, _-_, _*_, _/_, _^_, _≤_, _<_}
 use native.Mathlib.Omega.{arith}
@@ -23,8 +24,9 @@ use Rattle.lines.specs.laws.Below.{Rising}
 use Rattle.lines.specs.laws.Moving.{RisingLines, Unlined}
 use Rattle.lines.specs.laws.Rising.{unit-lines}
 use Rattle.answer.specs.Pass.{Outcome, unchanged, refused, rewritten, outputAfter, linesAfter}
-use Rattle.answer.specs.Answer.{Lent, lentOf, roomFor}
-use Rattle.run.specs.Given.{Worked, Returnable, cells-long}
+use Rattle.answer.specs.Answer.{Lent, lentOf, roomFor, passAnswer}
+use Rattle.answer.specs.Clean.{spareFor, cleanAnswer}
+use Rattle.run.specs.Given.{Worked, Returnable, cells-long, answer-worked, answer-returnable, clean-kept}
 use Rattle.run.specs.Returned.{givenFunction}
 use Rattle.run.specs.laws.MovedLines.{places-long, place-of}
 use Rattle.optimize.specs.declared.Answer.{Answer}
@@ -44,6 +46,9 @@ Linable u Unchanged out = Unit {0}
 Linable u (Refused k p) out = Unit {0}
 Linable u (Rewritten k) out = Addable u k out
 
+pub linable-to : (u : List ℕ) (a : Answer) (k out : ℕ) → a ≡ Rewritten k → Linable u a out → Addable u k out
+linable-to u a k out e l = rw e at l
+
 -- the lines and the old places of a result rise, as they do after a pass and after the cleaning
 pub record Movable (u : List ℕ) (kept : List Retained) : Type 0 where
   pub lines : RisingLines (linesIn (linesOf u))
@@ -52,6 +57,10 @@ pub record Movable (u : List ℕ) (kept : List Retained) : Type 0 where
 
 abbrev pub Moves : List ℕ → Outcome → Type 0
 Moves u o = (kept : List Retained) → o ≡ rewritten kept → Movable u kept
+
+pub lines-fit : (u : List ℕ) → Bytes u → headerOf u .counts .lines < 2 ^ 32
+unfolding headerOf
+lines-fit u b = le-fits 4 u 64 b
 
 -- what was returned may have lines
 module _ (u : List ℕ) (b : Bytes u) {room : _} (kept : List Retained) (w : Worked u room) (r : Returnable (givenFunction u) (headerOf u .counts .cases) kept) where
@@ -64,13 +73,12 @@ module _ (u : List ℕ) (b : Bytes u) {room : _} (kept : List Retained) (w : Wor
       }
 
   pub returned-addable : (out : ℕ) → outputRoom (headerOf u .counts .instructions) (headerOf u .counts .lines) ≤ out → Addable u (length kept) out
-  unfolding givenFunction headerOf
+  unfolding givenFunction
   returned-addable out lent =
       let e = unit-laid u (w .laid) .lengths .lines in
       let many : length (linesOf u) / lineSize ≡ headerOf u .counts .lines = omega arith in
       let shorter : length kept ≤ headerOf u .counts .instructions = rw (cells-long u) at (r .shorter) in
-      let count : headerOf u .counts .lines < 2 ^ 32 = le-fits 4 u 64 b in
-      record { laid = w .laid; few = r .few; room = rw many (omega arith); fits = rw many count }
+      record { laid = w .laid; few = r .few; room = rw many (omega arith); fits = rw many (lines-fit u b) }
 
 -- the output's room, of the room that was lent
 pub room-out : (u : List ℕ) (out work32 work64 : ℕ) → roomFor (headerOf u .counts) (lentOf out work32 work64) ≡ true → outputRoom (headerOf u .counts .instructions) (headerOf u .counts .lines) ≤ out
@@ -132,5 +140,41 @@ module _ (u : List ℕ) (o : Outcome) (a : Answer) (before out : List ℕ) (w : 
         let r = m kept (made .is) in
         let ls = movedLines (placesOf kept) (linesIn (linesOf u)) in
         let long : length (resultBytes kept []) ≡ resultSize k 0 = result-long kept [] ∙ rw (made .long) in
-        let there = rw same at (f kept (unlined m) (rw same (r .lines))) in
-        there ∙ rw put (put-over before (resultBytes kept []) (resultBytes kept ls) (resultSize k 0) (resultSize k (length ls)) long (omega arith)) ∙ rw (made .is, made .long)
+        let size = resultSize k (length ls) in
+        let there : out₂ ≡ putMid 0 size out (resultBytes kept ls) = rw same at (f kept (unlined m) (rw same (r .lines))) in
+        let whole : putMid 0 size out (resultBytes kept ls) ≡ putMid 0 size before (resultBytes kept ls) = ap (λ (l : List ℕ). putMid 0 size l (resultBytes kept ls)) put ∙ put-over before (resultBytes kept []) (resultBytes kept ls) (resultSize k 0) size long (omega arith) in
+        there
+        ∙ whole
+        ∙ ap (λ (j : ℕ). putMid 0 (resultSize j (length ls)) before (resultBytes kept ls)) (sym (made .long))
+        ∙ sym (ap (λ (q : Outcome). outputAfter q (linesAfter (linesIn (linesOf u)) q) before) (made .is))
+
+-- ---- the answers of one pass and of the cleaning
+
+module _ (u : List ℕ) (b : Bytes u) (out work32 work64 : ℕ) where
+  abbrev lent : Lent
+  lent = lentOf out work32 work64
+
+  module _ (room : Bool) (kept : List Retained) (w : Worked u room) (r : Returnable (givenFunction u) (headerOf u .counts .cases) kept) where
+    addable-in : roomFor (headerOf u .counts) lent ≡ true → Addable u (length kept) out
+    addable-in e = returned-addable u b kept w r out (room-out u out work32 work64 e)
+
+  pub pass-linable : (a : Answer) (k : ℕ) → a ≡ answerOf (passAnswer u (lentOf out work32 work64)) → k ≡ out → Linable u a k
+  unfolding passAnswer
+  pass-linable a k e f =
+      rw (e, f)
+      (linable u (passAnswer u lent) out
+      (λ kept g. let w = answer-worked u (roomFor (headerOf u .counts) lent) kept g in addable-in _ kept w (answer-returnable u b _ kept g) (w .lent)))
+
+  pub pass-moves : Moves u (passAnswer u (lentOf out work32 work64))
+  unfolding passAnswer
+  pass-moves kept e = returned-moves u b kept (answer-worked u _ kept e) (answer-returnable u b _ kept e)
+
+  module _ (first second : ℕ) where
+    pub clean-linable : (a : Answer) (k : ℕ) → a ≡ answerOf (cleanAnswer u (lentOf out work32 work64) first second .outcome) → k ≡ out → Linable u a k
+    clean-linable a k e f =
+        rw (e, f)
+        (linable u (cleanAnswer u lent first second .outcome) out
+        (λ kept g. let k = clean-kept u b lent first second kept g in addable-in _ kept (k .0) (k .1) (left-true (roomFor (headerOf u .counts) lent) (spareFor (headerOf u .counts) first second) (k .0 .lent))))
+
+    pub clean-moves : Moves u (cleanAnswer u (lentOf out work32 work64) first second .outcome)
+    clean-moves kept e = let k = clean-kept u b lent first second kept e in returned-moves u b kept (k .0) (k .1)
