@@ -225,7 +225,7 @@ module _ (cases : ℕ) (kept : List Retained) (to to′ : List ℕ) (e : to′ �
     written-back = ap (retainedIn j) e ∙ retained-back cases kept [] rest f
 
     written-whole : take (resultSize j 0) to′ ≡ resultBytes (retainedIn j to′) []
-    written-whole = ap (take (resultSize j 0)) e ∙ take-at (resultBytes kept []) rest (resultSize j 0) (result-long kept []) ∙ ap resultBytes (sym written-back) []
+    written-whole = ap (take (resultSize j 0)) e ∙ take-at (resultBytes kept []) rest (resultSize j 0) (result-long kept []) ∙ ap (λ (l : List Retained). resultBytes l []) (sym written-back)
 
     written-good : (p : ℕ) → p < j → goodMetadata cases (metadataAt (metadataIn j to′) p) ≡ true
     written-good p h =
