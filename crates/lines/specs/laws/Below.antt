@@ -38,7 +38,7 @@ unfolding below
 below-all [] p f = refl
 below-all (x ∷ xs) p f = rw (lt-ltb x p (f 0 (omega arith))) (ap suc (below-all xs p (λ i h. f (suc i) (omega arith))))
 
-below-none : (xs : List ℕ) (p : ℕ) → ((i : ℕ) → i < length xs → p ≤ getD xs i 0) → below xs p ≡ 0
+pub below-none : (xs : List ℕ) (p : ℕ) → ((i : ℕ) → i < length xs → p ≤ getD xs i 0) → below xs p ≡ 0
 unfolding below
 below-none [] p f = refl
 below-none (x ∷ xs) p f = rw (le-ltb x p (f 0 (omega arith))) (below-none xs p (λ i h. f (suc i) (omega arith)))

@@ -75,7 +75,7 @@ module _ (keep : List ℕ) (flags : Flags keep) (cases : ℕ) where
       go false k h ih = let r = ih k h in (r .0, omega arith)
 
   -- old places rise
-  retained-from : (xs : List Cell) (p : ℕ) → (k : ℕ) → k < length (placesOf (retainFrom keep p xs)) → p ≤ getD (placesOf (retainFrom keep p xs)) k 0
+  pub retained-from : (xs : List Cell) (p : ℕ) → (k : ℕ) → k < length (placesOf (retainFrom keep p xs)) → p ≤ getD (placesOf (retainFrom keep p xs)) k 0
   unfolding retainFrom
   retained-from [] p k h = absurd (omega arith)
   retained-from (x ∷ xs) p k h = go (isKept keep p) k h (retained-from xs (suc p))
