@@ -387,11 +387,8 @@ fn line_numbers() -> Vec<Named> {
     let last = || rewritten(&[(1, give_back(0, 0))]);
     let none_kept = function(1, &[load_int(0, 1), load_int(0, 2)]);
     let nothing_to_do = function(1, &[load_int(0, 1), give_back(0, 1)]);
-    // Slot 1 is dead once slot 2 is gone, which reads it.
-    let two_passes = function(
-        3,
-        &[load_int(1, 1), op(Opcode::AddF, 2, 1, 1), op(Opcode::AddF, 1, 2, 2), HINT, give_back(0, 1)],
-    );
+    // Pass 1 removes what reads slot 1, and pass 2 what stores it.
+    let branch = [load_int(1, 5), jump_if(0, 2), copy(2, 1), give_back(0, 1)];
     let no_lines = kept_last().encode();
     // The header's last two words left out, as before L3, and an empty section's offset one too high.
     let mut short = no_lines.clone();
@@ -413,12 +410,12 @@ fn line_numbers() -> Vec<Named> {
         Named::new("an unchanged function has its lines", lined(nothing_to_do, &[(0, 5)]), Stated::Unchanged),
         Named::new(
             "lines over three passes",
-            lined(two_passes, &[(0, 1), (1, 2), (2, 3), (3, 4), (4, 5)]),
-            rewritten(&[(0, load_int(1, 1)), (1, op(Opcode::AddF, 2, 1, 1)), (4, give_back(0, 1))]),
+            lined(function(3, &branch), &[(0, 1), (1, 2), (2, 3), (3, 4)]),
+            rewritten(&[(0, load_int(1, 5)), (1, jump_if(0, 1)), (3, give_back(0, 1))]),
         )
-        .with_lines(&[(0, 1), (1, 2), (2, 5)])
-        .cleaned(rewritten(&[(4, give_back(0, 1))]), 3)
-        .with_cleaned_lines(&[(0, 5)]),
+        .with_lines(&[(0, 1), (1, 2), (2, 4)])
+        .cleaned(rewritten(&[(1, jump_if(0, 1)), (3, give_back(0, 1))]), 3)
+        .with_cleaned_lines(&[(0, 2), (1, 4)]),
         Named::of_bytes("a header of 64 bytes", short, refused(1, 0)),
         Named::of_bytes("an empty section's offset", moved, refused(1, 0)),
         Named::new("two lines on one place", lined(kept_last(), &[(1, 1), (1, 2)]), refused(11, 0))
