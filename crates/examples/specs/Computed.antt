@@ -19,6 +19,7 @@ use Rattle.flow.specs.Loop as flowLoop
 use Rattle.values.specs.Fold as valuesFold
 use Rattle.values.specs.Values as valuesValues
 use Rattle.values.specs.Number as valuesNumber
+use Rattle.lines.specs.Lines as linesLines
 use Rattle.pc_map.specs.Relocate as pcmapRelocate
 use Rattle.liveness.specs.Live as livenessLive
 use Rattle.liveness.specs.Dead as livenessDead
@@ -40,11 +41,11 @@ unfolding instructionClass.single instructionClass.classOf instructionClass.numb
 ofInstruction = tt
 
 unfoldable ofUnit1 : Unit {0}
-unfolding unitEntry.metadataAt unitEntry.metadataBytes unitEntry.goodMetadata unitEntry.isWideSelect unitEntry.constantOf unitEntry.constantAt unitEntry.goodConstant unitEntry.functionAt unitEntry.externAt unitEntry.caseAt unitEntry.goodCase unitLayout.headerOf unitLayout.sectionsFollow unitLayout.goodCounts unitLayout.goodEntries unitLayout.hasSections unitLayout.isUnit unitLayout.wideSelect unitLayout.afterUnit unitLayout.layoutOf unitResult.resultHeader unitResult.codeBytes
+unfolding unitEntry.metadataAt unitEntry.metadataBytes unitEntry.goodMetadata unitEntry.isWideSelect unitEntry.constantOf unitEntry.constantAt unitEntry.goodConstant unitEntry.functionAt unitEntry.externAt unitEntry.caseAt unitEntry.goodCase unitLayout.headerOf unitLayout.sectionsFollow unitLayout.goodCounts unitLayout.goodEntries unitLayout.hasSections unitLayout.isUnit unitLayout.linesRise unitLayout.wideSelect unitLayout.afterLines unitLayout.afterUnit unitLayout.layoutOf unitResult.resultHeader unitResult.codeBytes
 ofUnit1 = tt
 
 unfoldable pub ofUnit : Unit {0}
-unfolding ofUnit1 unitResult.metadataBytesAll unitResult.placeBytes unitResult.resultBytes unitResult.retainedFrom unitResult.readResult
+unfolding ofUnit1 unitEntry.lineAt unitEntry.lineBytes unitEntry.goodLine unitResult.metadataBytesAll unitResult.placeBytes unitResult.lineBytesAll unitResult.resultBytes unitResult.retainedFrom unitResult.readResult
 ofUnit = tt
 
 unfoldable ofEffects1 : Unit {0}
@@ -71,6 +72,10 @@ unfoldable pub ofValues : Unit {0}
 unfolding ofValues1 ofValues2 valuesNumber.numberFromWith valuesNumber.numberCodeWith
 ofValues = tt
 
+unfoldable pub ofLines : Unit {0}
+unfolding linesLines.below linesLines.lands linesLines.moved
+ofLines = tt
+
 unfoldable pub ofPcMap : Unit {0}
 unfolding pcmapRelocate.relocationCheck pcmapRelocate.movedJump pcmapRelocate.movedForLoop pcmapRelocate.movedHint pcmapRelocate.relocateBy pcmapRelocate.retainFrom
 ofPcMap = tt
@@ -80,11 +85,11 @@ unfolding livenessLive.liveBefore livenessLive.union livenessLive.sameRow livene
 ofLiveness = tt
 
 unfoldable ofAnswer1 : Unit {0}
-unfolding answerJump.isIdle answerJump.dropIdle answerJump.jumpRounds answerPass.outputAfter answerPass.checked answerPass.sameCode answerPass.allKept answerPass.usefulPlaces answerPass.keptPlaces answerPass.removal answerPass.afterLoops answerPass.afterBranches answerPass.afterOperands answerPass.optimized answerPass.isWorkedOn answerPass.pass answerAnswer.cellsOf answerAnswer.sectionsOf
+unfolding answerJump.isIdle answerJump.dropIdle answerJump.jumpRounds answerPass.linesAfter answerPass.outputAfter answerPass.checked answerPass.sameCode answerPass.allKept answerPass.usefulPlaces answerPass.keptPlaces answerPass.removal answerPass.afterLoops answerPass.afterBranches answerPass.afterOperands answerPass.optimized answerPass.isWorkedOn answerPass.pass answerAnswer.cellsOf answerAnswer.sectionsOf
 ofAnswer1 = tt
 
 unfoldable pub ofAnswer : Unit {0}
-unfolding ofAnswer1 answerAnswer.roomFor answerAnswer.isSkipped answerAnswer.afterRoom answerAnswer.afterSkipped answerAnswer.afterLayout answerAnswer.laidOut answerAnswer.answerWith answerAnswer.passAnswer answerClean.placedBy answerClean.afterPass answerClean.cleanFrom answerClean.cleanedFirst answerClean.spareFor answerClean.cleanAnswer
+unfolding ofAnswer1 answerAnswer.roomFor answerAnswer.isSkipped answerAnswer.afterRoom answerAnswer.afterSkipped answerAnswer.afterLayout answerAnswer.laidOut answerAnswer.answerWith answerAnswer.passAnswer answerClean.placedBy answerClean.afterPass answerClean.cleanFrom answerClean.cleanedFirst answerClean.spareFor answerClean.cleanAnswer answerClean.linesPast answerClean.linesFrom answerClean.linesFirst answerClean.cleanLines
 ofAnswer = tt
 
 unfoldable ofRun1 : Unit {0}
@@ -97,7 +102,7 @@ ofRun = tt
 
 -- of a pass and the cleaning; of runs too
 unfoldable pub answers : Unit {0}
-unfolding ofWords ofInstruction ofUnit ofEffects ofFlow ofValues ofPcMap ofLiveness ofAnswer
+unfolding ofWords ofInstruction ofUnit ofEffects ofFlow ofValues ofLines ofPcMap ofLiveness ofAnswer
 answers = tt
 
 unfoldable pub runs : Unit {0}

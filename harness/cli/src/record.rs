@@ -100,7 +100,7 @@ fn header() -> String {
 # UNIT is the unit in hexadecimal.
 # PASS, one pass: unchanged | refused NUMBER PLACE | rewritten N' RESULT
 # CLEAN, the cleaning: unchanged J | refused NUMBER PLACE J | rewritten N' J RESULT
-# J is the number of the last pass run; RESULT is the output's first 16 + 28 N' bytes in hexadecimal.
+# J is the number of the last pass run; RESULT is the output's first 24 + 28 N' + 8 L' bytes in hexadecimal.
 # Made by the harness (seed {SEED}) from volang's optimize.rs, pc_map.rs, instruction.rs and
 # instruction_effects.rs with document 02's changes. In this order: {} named examples
 # (harness/generate/src/named.rs), {} damages of one unit, {} units that have every opcode,

@@ -1,7 +1,7 @@
 //! Named examples: those of document 01's notebook, and the smallest units on which the documents' readings part.
 
 use reference::Opcode;
-use unit::{Case, Constant, Function, Instruction, Kind, Metadata, Parts};
+use unit::{Case, Constant, Function, Instruction, Kind, Line, Metadata, Parts};
 use unit::{CONSTANT_FLOAT, CONSTANT_INT, TYPE_FLOAT, TYPE_GC_BASE, TYPE_VALUE};
 
 /// What the papers state of an example's answer.
@@ -22,17 +22,32 @@ pub struct Named {
     pub pass: Stated,
     /// The cleaning's answer and pass number, where the papers state them.
     pub clean: Option<(Stated, u32)>,
+    /// The lines of the pass's result and of the cleaning's, where they are stated.
+    pub lines: Option<Vec<Line>>,
+    pub cleaned_lines: Option<Vec<Line>>,
     /// Whether it is small enough for the recorded answers.
     pub recorded: bool,
 }
 
 impl Named {
     fn new(name: &'static str, parts: Parts, pass: Stated) -> Self {
-        Self { name, unit: parts.encode(), pass, clean: None, recorded: true }
+        Self::of_bytes(name, parts.encode(), pass)
+    }
+
+    fn of_bytes(name: &'static str, unit: Vec<u8>, pass: Stated) -> Self {
+        Self { name, unit, pass, clean: None, lines: None, cleaned_lines: None, recorded: true }
     }
 
     fn cleaned(self, stated: Stated, pass: u32) -> Self {
         Self { clean: Some((stated, pass)), ..self }
+    }
+
+    fn with_lines(self, lines: &[(u32, u32)]) -> Self {
+        Self { lines: Some(entries(lines)), ..self }
+    }
+
+    fn with_cleaned_lines(self, lines: &[(u32, u32)]) -> Self {
+        Self { cleaned_lines: Some(entries(lines)), ..self }
     }
 
     fn not_recorded(self) -> Self {
@@ -47,10 +62,15 @@ pub fn all() -> Vec<Named> {
     named.extend(lowest_slots());
     named.extend(wide_sums());
     named.extend(refusals());
+    named.extend(line_numbers());
     named.extend(many_cases());
     named.extend(large());
     named.extend(perhaps_written());
     named
+}
+
+fn entries(lines: &[(u32, u32)]) -> Vec<Line> {
+    lines.iter().map(|&(place, line)| Line { place, line }).collect()
 }
 
 fn op(opcode: Opcode, a: u16, b: u16, c: u16) -> Instruction {
@@ -501,6 +521,62 @@ fn removed_nothing() -> Parts {
     with_metadata(function(0, &[HINT, loop_hint(3), give_back(0, 0)]), 1, Metadata::loop_end(2))
 }
 
+/// Document 02, L3: "Line numbers travel with the code".
+fn line_numbers() -> Vec<Named> {
+    let lined = |parts: Parts, lines: &[(u32, u32)]| Parts { lines: entries(lines), ..parts };
+    let kept_last = || function(1, &[load_int(0, 0), give_back(0, 0)]);
+    let last = || rewritten(&[(1, give_back(0, 0))]);
+    let none_kept = function(1, &[load_int(0, 1), load_int(0, 2)]);
+    let nothing_to_do = function(1, &[load_int(0, 1), give_back(0, 1)]);
+    // Pass 1 removes what reads slot 1, and pass 2 what stores it.
+    let branch = [load_int(1, 5), jump_if(0, 2), copy(2, 1), give_back(0, 1)];
+    let no_lines = kept_last().encode();
+    // The header's last two words left out, as before L3, and an empty section's offset one too high.
+    let mut short = no_lines.clone();
+    short.drain(64..72);
+    for offset in (36..64).step_by(4) {
+        short[offset] -= 8;
+    }
+    let mut moved = no_lines.clone();
+    moved[68] += 1;
+    vec![
+        Named::new("a line stays where its instruction goes", lined(kept_last(), &[(0, 1)]), last())
+            .with_lines(&[(0, 1)])
+            .cleaned(last(), 2)
+            .with_cleaned_lines(&[(0, 1)]),
+        Named::new("the later line supersedes", lined(kept_last(), &[(0, 1), (1, 2)]), last())
+            .with_lines(&[(0, 2)]),
+        Named::new("lines on n' are dropped", lined(none_kept, &[(0, 1), (1, 2)]), rewritten(&[]))
+            .with_lines(&[]),
+        Named::new("an unchanged function has its lines", lined(nothing_to_do, &[(0, 5)]), Stated::Unchanged),
+        Named::new(
+            "lines over three passes",
+            lined(function(3, &branch), &[(0, 1), (1, 2), (2, 3), (3, 4)]),
+            rewritten(&[(0, load_int(1, 5)), (1, jump_if(0, 1)), (3, give_back(0, 1))]),
+        )
+        .with_lines(&[(0, 1), (1, 2), (2, 4)])
+        .cleaned(rewritten(&[(1, jump_if(0, 1)), (3, give_back(0, 1))]), 3)
+        .with_cleaned_lines(&[(0, 2), (1, 4)]),
+        Named::of_bytes("a header of 64 bytes", short, refused(1, 0)),
+        Named::of_bytes("an empty section's offset", moved, refused(1, 0)),
+        Named::new("two lines on one place", lined(kept_last(), &[(1, 1), (1, 2)]), refused(11, 0))
+            .cleaned(refused(11, 0), 1),
+        Named::new("falling lines", lined(kept_last(), &[(1, 1), (0, 2)]), refused(11, 0)),
+        Named::new("a line on place n", lined(kept_last(), &[(2, 1)]), refused(11, 0)),
+        Named::new("a line without an instruction", lined(function(0, &[]), &[(0, 1)]), refused(11, 0)),
+        Named::new(
+            "lines come before defer",
+            Parts { defer: 1, ..lined(kept_last(), &[(1, 1), (1, 2)]) },
+            refused(11, 0),
+        ),
+        Named::new(
+            "lines come before counts",
+            Parts { metadata: vec![], ..lined(kept_last(), &[(2, 1)]) },
+            refused(11, 0),
+        ),
+    ]
+}
+
 /// Document 02, L9: a select has up to 24 cases.
 fn many_cases() -> Vec<Named> {
     let select = |cases| Metadata { second: cases, ..Metadata::new(Kind::SelectExecLayout) };
@@ -555,6 +631,12 @@ fn large() -> Vec<Named> {
             .not_recorded(),
         Named::new("n = 65,536 is worked on", hints(65_536), rewritten(&[])).not_recorded(),
         Named::new("n = 65,537 is unchanged", hints(65_537), Stated::Unchanged).not_recorded(),
+        Named::new(
+            "lines come before n = 65,537",
+            Parts { lines: entries(&[(65_537, 1)]), ..hints(65_537) },
+            refused(11, 0),
+        )
+        .not_recorded(),
     ]
 }
 

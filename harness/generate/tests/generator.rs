@@ -17,7 +17,7 @@ fn same_units_everywhere() {
     assert_eq!(hashed, EXPECTED);
 }
 
-const EXPECTED: u64 = 15_439_048_077_075_343_451;
+const EXPECTED: u64 = 2_123_840_791_886_097_326;
 
 #[test]
 fn profiles_draw_units() {

@@ -88,7 +88,7 @@ pub record Given (n : ℕ) (code metadata : List ℕ) (S : Sections) : Type 0 wh
 
 -- the lent buffers are long enough
 pub record Room (n s out work32 work64 : ℕ) : Type 0 where
-  pub out-room : resultSize n ≤ out
+  pub out-room : resultSize n 0 ≤ out
   pub room32 : work32Room n ≤ work32
   pub room64 : work64Room n s ≤ work64
 

@@ -12,6 +12,7 @@ pub use limits::{many_blocks, slow_liveness};
 pub use operands::every_opcode;
 
 use crate::laws;
+use crate::lines;
 use crate::rng::Rng;
 
 /// A named sort of units.
@@ -26,7 +27,14 @@ pub struct Profile {
 impl Profile {
     /// The profile's unit of this seed and index.
     pub fn unit(&self, seed: u64, index: u64) -> Vec<u8> {
-        (self.draw)(&mut Rng::new(seed ^ name_hash(self.name), index))
+        let rng = &mut Rng::new(seed ^ name_hash(self.name), index);
+        let bytes = (self.draw)(rng);
+        // What is damaged has its lines already.
+        if self.name == "damaged" {
+            bytes
+        } else {
+            lines::lined(bytes, rng)
+        }
     }
 }
 
