@@ -79,8 +79,8 @@ int main(int count, char **words)
         return 2;
     }
     if (lampruda_worked_on(unit, unit_length)) {
-        uint32_t n = lampruda_word(unit, 0), s = lampruda_word(unit, 2);
-        out_length = lampruda_out_length(n);
+        uint32_t n = lampruda_word(unit, 0), s = lampruda_word(unit, 2), l = lampruda_word(unit, 16);
+        out_length = lampruda_out_length(n, l);
         work32_length = lampruda_work32_length(n);
         work64_length = lampruda_work64_length(n, s);
     }

@@ -46,8 +46,9 @@ int main(int count, char **words)
 
     std::size_t out_length = 0, work32_length = 0, work64_length = 0;
     if (lampruda_worked_on(unit.data(), unit_length)) {
-        const std::uint32_t n = lampruda_word(unit.data(), 0), s = lampruda_word(unit.data(), 2);
-        out_length = lampruda_out_length(n);
+        const std::uint32_t n = lampruda_word(unit.data(), 0), s = lampruda_word(unit.data(), 2),
+                            l = lampruda_word(unit.data(), 16);
+        out_length = lampruda_out_length(n, l);
         work32_length = lampruda_work32_length(n);
         work64_length = lampruda_work64_length(n, s);
     }

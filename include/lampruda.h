@@ -22,25 +22,29 @@ extern "C" {
  * A buffer is a pointer and a count of elements. No two buffers of a call overlap; a pointer is aligned for its
  * elements and is never null, also where the count is 0.
  *
- * The lengths asked for follow from two words of the unit's header: n, its number of instructions (word 0), and s,
- * its number of local slots (word 2). Longer buffers are as good. `lampruda_worked_on` and the functions after it,
- * below, reckon them.
+ * The lengths asked for follow from three words of the unit's header: n, its number of instructions (word 0), s, its
+ * number of local slots (word 2), and l, its number of lines (word 16). Longer buffers are as good.
+ * `lampruda_worked_on` and the functions after it, below, reckon them.
  *
  *   unit             the unit; only read
- *   out              16 + 28 n bytes
+ *   out              24 + 28 n + 8 l bytes
  *   work32           16 n + 16 numbers of 32 bits
  *   work64           24 n + 4 s + w + 3 w min(n, 2097152 / w) numbers of 64 bits, the division rounded down, where
  *                    w is s / 64 rounded up; 24 n where w is 0
- *   first, second    16 + 28 n bytes each; lent to the cleaning alone
+ *   first, second    24 + 28 n + 8 l bytes each; lent to the cleaning alone
  *
  * After every answer each number of work32 and work64 and each byte of first and second is 0, over the whole length
  * lent. They may hold anything before. The output is altered by a rewritten answer alone, and then in its first
- * 16 + 28 n' bytes alone:
+ * 24 + 28 n' + 8 l' bytes alone:
  *
- *   4 words          n', 16, 16 + 8 n', 16 + 24 n'
+ *   6 words          n', 24, 24 + 8 n', 24 + 24 n', l', 24 + 28 n'
  *   n' x 8 bytes     the retained instructions
  *   n' x 16 bytes    their metadata
  *   n' words         their places in the given unit
+ *   l' x 8 bytes     lines: a place in the result and the line that it has, places strictly rising
+ *
+ * A line of the given unit moves to the first place in the result whose instruction stood at its place or behind it.
+ * Of several that come to one place the last is left, and one with no such place is dropped.
  */
 
 /* What `kind` says of an answer. */
@@ -56,6 +60,7 @@ enum {
  * function of which nothing was altered and nothing removed is unchanged.
  *
  *   1   place 0      the bytes are no unit
+ *   11  place 0      the places of the lines do not strictly rise, or one is not below n
  *   13  its index    the lowest metadata entry that is a SelectExecLayout of more than 24 cases, also past n
  *   2   place 0      a lent buffer is shorter than asked for
  *   3   place 0      there is not one metadata entry for each instruction
@@ -80,7 +85,12 @@ typedef struct {
     uint32_t kind, number, place, passes;
 } lampruda_cleaned;
 
-/* One pass over a unit. */
+/*
+ * One pass over a unit. What is returned runs as what was given. A host's machine need not store all that an
+ * instruction may write: SelectExec may store into the destinations of any of its receive cases and leave the others,
+ * and MapIterNext may leave key and value. What a slot held before such an instruction is then still there, and a
+ * store of it stays.
+ */
 lampruda_answer lampruda_pass(const uint8_t *unit, size_t unit_length, uint8_t *out, size_t out_length,
                               uint32_t *work32, size_t work32_length, uint64_t *work64, size_t work64_length);
 
@@ -155,22 +165,22 @@ static inline uint32_t lampruda_word(const uint8_t *unit, size_t i)
 
 /*
  * Whether the answer can depend on the other buffers. Where it cannot (no unit by its header, too short, too long,
- * defer), buffers of length 0 will do. A damaged header asks for no more memory than the largest function.
+ * defer, more lines than places), buffers of length 0 will do. A damaged header asks for no more memory than the largest function.
  */
 static inline int lampruda_worked_on(const uint8_t *unit, size_t unit_length)
 {
     uint32_t n;
-    if (unit_length < 64)
+    if (unit_length < 72)
         return 0;
     n = lampruda_word(unit, 0);
-    return n >= 2 && n <= 65536 && (unit_length - 64) / 8 >= n && lampruda_word(unit, 2) <= 65535
-           && lampruda_word(unit, 4) == 0;
+    return n >= 2 && n <= 65536 && (unit_length - 72) / 8 >= n && lampruda_word(unit, 2) <= 65535
+           && lampruda_word(unit, 4) == 0 && lampruda_word(unit, 16) <= n;
 }
 
 /* Bytes of the output, and of each spare buffer. */
-static inline size_t lampruda_out_length(uint32_t n)
+static inline size_t lampruda_out_length(uint32_t n, uint32_t l)
 {
-    return 16 + 28 * (size_t)n;
+    return 24 + 28 * (size_t)n + 8 * (size_t)l;
 }
 
 /* Numbers of 32 bits. */

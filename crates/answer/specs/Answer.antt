@@ -11,10 +11,11 @@ use Rattle.unit.specs.declared.Layout.{Layout}
 use Rattle.unit.specs.declared.Layout.the-variants.{Unit, Refused}
 use Rattle.unit.specs.Refusal.{shortBuffer, metadataCount, typeCount}
 use Rattle.unit.specs.Size.{outputRoom, work32Room, work64Room}
-use Rattle.unit.specs.Entry.{metadataAt}
-use Rattle.unit.specs.Layout.{headerOf, codeOf, metadataOf, typesOf, constantsOf, functionsOf, externsOf, casesOf, layoutOf}
+use Rattle.unit.specs.declared.Line.{Line}
+use Rattle.unit.specs.Entry.{metadataAt, linesIn}
+use Rattle.unit.specs.Layout.{headerOf, codeOf, metadataOf, typesOf, constantsOf, functionsOf, externsOf, casesOf, linesOf, layoutOf}
 use Rattle.effects.specs.Shape.{Sections, Cell, tablesOf}
-use Rattle.answer.specs.Pass.{Outcome, unchanged, refused, isWorkedOn, optimized}
+use Rattle.answer.specs.Pass.{Outcome, unchanged, refused, isWorkedOn, optimized, linesAfter}
 
 -- the function of a unit: its cells, and the sections that stay
 unfoldable pub cellsOf : List ℕ → List Cell
@@ -44,7 +45,7 @@ lentOf out work32 work64 = record { out = out; work32 = work32; work64 = work64 
 -- is every lent buffer as long as stated?
 unfoldable pub roomFor : Counts → Lent → Bool
 roomFor c l =
-    leb (outputRoom (c .instructions)) (l .out)
+    leb (outputRoom (c .instructions) (c .lines)) (l .out)
     && leb (work32Room (c .instructions)) (l .work32)
     && leb (work64Room (c .instructions) (c .locals)) (l .work64)
 
@@ -81,3 +82,7 @@ answerWith room u = let rest = afterLayout room u in laidOut (layoutOf u) rest
 
 unfoldable pub passAnswer : List ℕ → Lent → Outcome
 passAnswer u l = answerWith (roomFor (headerOf u .counts) l) u
+
+-- the lines of its result
+abbrev pub passLines : List ℕ → Lent → List Line
+passLines u l = linesAfter (linesIn (linesOf u)) (passAnswer u l)

@@ -8,8 +8,10 @@ use lib.ListN.{length, getD}
 use borrow.Rule.Slice.PartMut.{putMid}
 use Rattle.words.specs.Lists.{mapFrom}
 use Rattle.instruction.specs.Instruction.{toWord}
+use Rattle.unit.specs.declared.Line.{Line}
 use Rattle.unit.specs.Result.{Retained, resultBytes}
 use Rattle.unit.specs.Size.{resultSize, maxInstructions}
+use Rattle.lines.specs.Lines.{movedLines, placesOf}
 use Rattle.effects.specs.declared.Check.{Check}
 use Rattle.effects.specs.declared.Check.the-variants.{Passed, Refused}
 use Rattle.effects.specs.Shape.{Sections, Cell}
@@ -28,11 +30,18 @@ pub data Outcome : Type 0 where
   refused : ℕ → ℕ → Outcome
   rewritten : List Retained → Outcome
 
--- "Only "rewritten" alters the output, in its first 16 + 28n' bytes": what the output buffer holds then
-unfoldable pub outputAfter : Outcome → List ℕ → List ℕ
-outputAfter unchanged out = out
-outputAfter (refused k p) out = out
-outputAfter (rewritten kept) out = putMid 0 (resultSize (length kept)) out (resultBytes kept)
+-- Document 02, L3: the lines of what is returned, of the lines that were given; nothing else than "rewritten" returns any
+unfoldable pub linesAfter : List Line → Outcome → List Line
+linesAfter lines unchanged = []
+linesAfter lines (refused k p) = []
+linesAfter lines (rewritten kept) = movedLines (placesOf kept) lines
+
+-- "Only "rewritten" alters the output, in its first 16 + 28n' bytes", and with L3 in its first 24 + 28n' + 8l': what the output buffer
+-- holds after an outcome with these lines
+unfoldable pub outputAfter : Outcome → List Line → List ℕ → List ℕ
+outputAfter unchanged lines out = out
+outputAfter (refused k p) lines out = out
+outputAfter (rewritten kept) lines out = putMid 0 (resultSize (length kept) (length lines)) out (resultBytes kept lines)
 
 -- go on where a check passed
 unfoldable pub checked : Check → Outcome → Outcome

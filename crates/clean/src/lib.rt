@@ -1,7 +1,8 @@
 // The cleaning: up to three passes. Each reads the code of the pass before from one spare buffer and writes to the other.
 ghost use mathlib.Core.Path.{_≡_};
 ghost use mathlib.Core.Bool.{true, false, _&&_};
-ghost use Prim.Native.Nat.{_≤_};
+ghost use mathlib.Core.List.{[]};
+ghost use Prim.Native.Nat.{_^_, _≤_, _<_};
 ghost use lib.ListN.{length};
 ghost use borrow.Rule.Slice.PartMut.{midOf};
 ghost use Rattle.unit.specs.declared.Layout.the-variants.{Unit};
@@ -33,12 +34,12 @@ pub struct Cleaned {
     pub passes: u32,
 }
 
-// "it gives the last rewritten code": the k instructions in a spare buffer.
+// "it gives the last rewritten code": the k instructions in a spare buffer, without lines.
 fn give(from: &[u8], out: &mut [u8], k: usize, passes: u32) -> Cleaned
-    requires { ⌜ (k ≤ maxInstructions) × (resultSize k ≤ length (now from)) × (resultSize k ≤ length (now out)) × (midOf 0 (resultSize k) (now from) ≡ resultBytes (retainedIn k (now from))) ⌝ }
+    requires { ⌜ (k ≤ maxInstructions) × (resultSize k 0 ≤ length (now from)) × (resultSize k 0 ≤ length (now out)) × (midOf 0 (resultSize k 0) (now from) ≡ resultBytes (retainedIn k (now from)) []) ⌝ }
     ensures { λ r. ⌜ AnswersCleaned (finished (retainedIn k (now (from .entry))) passes) r (now (out .entry)) (now (out .exit)) ⌝ }
 {
-    buffer::copy(from, out, size::output_room(k));
+    buffer::copy(from, out, size::output_room(k, 0));
     Cleaned {
         answer: Answer::Rewritten(k as u32),
         passes,
@@ -55,7 +56,7 @@ fn third_pass(
     to: &mut [u8],
     k: usize,
 ) -> Cleaned
-    requires { ⌜ Ready (now unit) (now from) k (length (now to)) (length (now work32)) (length (now work64)) × (resultSize k ≤ length (now out)) ⌝ }
+    requires { ⌜ Ready (now unit) (now from) k (length (now to)) (length (now work32)) (length (now work64)) × (resultSize k 0 ≤ length (now out)) ⌝ }
     ensures { λ r. ⌜ AnswersCleaned (cleanFrom (sectionsOf (now (unit .entry))) 1 2 (retainedIn k (now (from .entry)))) r (now (out .entry)) (now (out .exit)) ⌝ }
 {
     match later::later(unit, from, to, work32, work64, k) {
@@ -78,7 +79,7 @@ fn second_pass(
     to: &mut [u8],
     k: usize,
 ) -> Cleaned
-    requires { ⌜ Ready (now unit) (now from) k (length (now to)) (length (now work32)) (length (now work64)) × (resultSize k ≤ length (now out)) ⌝ }
+    requires { ⌜ Ready (now unit) (now from) k (length (now to)) (length (now work32)) (length (now work64)) × (resultSize k 0 ≤ length (now out)) ⌝ }
     ensures { λ r. ⌜ AnswersCleaned (cleanFrom (sectionsOf (now (unit .entry))) 2 1 (retainedIn k (now (from .entry)))) r (now (out .entry)) (now (out .exit)) ⌝ }
 {
     match later::later(unit, &from[..], to, work32, work64, k) {
@@ -121,10 +122,10 @@ fn first_pass(
 
 // Is each spare buffer as long as stated?
 fn has_spare(c: Counts, first: usize, second: usize) -> bool
-    requires { ⌜ c .instructions ≤ maxInstructions ⌝ }
+    requires { ⌜ (c .instructions ≤ maxInstructions) × (c .lines < 2 ^ 32) ⌝ }
     ensures { λ r. ⌜ r ≡ spareFor c first second ⌝ }
 {
-    let room = size::output_room(c.instructions);
+    let room = size::output_room(c.instructions, c.lines);
     (room <= first) & (room <= second)
 }
 
@@ -157,7 +158,7 @@ fn laid(
     first_pass(unit, out, work32, work64, first, second, c)
 }
 
-// The answer, the lent memory left as it comes.
+// The answer, the lent memory left as it comes, and the result without lines.
 fn answer(
     unit: &[u8],
     out: &mut [u8],
@@ -190,6 +191,8 @@ pub fn clean(
     ensures { λ r. ⌜ CleanContract cleanedOf (now (unit .entry)) (buffers (now (out .entry)) (now (work32 .entry)) (now (work64 .entry))) (spares (now (first .entry)) (now (second .entry))) r (buffers (now (out .exit)) (now (work32 .exit)) (now (work64 .exit))) (spares (now (first .exit)) (now (second .exit))) ⌝ }
 {
     let r = answer(unit, out, work32, work64, first, second);
+    let a = r.answer;
+    pass::add_lines(unit, out, a);
     fill::zero_u32(work32);
     fill::zero_u64(work64);
     fill::zero_u8(first);

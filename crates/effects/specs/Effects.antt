@@ -1,4 +1,5 @@
--- Definitions. "each instruction declares ranges read, ranges written and, for the four Slot opcodes, an array range that counts as read"
+-- Definitions. "each instruction declares ranges read, ranges written and, for the four Slot opcodes, an array range that counts as read";
+-- "The effects .. distinguish surely written ranges from perhaps written ones" (document 02, L5).
 -- Assumes nothing.
 use mathlib.Core.Bool.{Bool, true, false, cond, _&&_, _||_}
 use mathlib.Core.List.{List, [], _∷_, _++_, map}
@@ -8,7 +9,7 @@ use Rattle.instruction.specs.Opcode as op
 use Rattle.unit.specs.Entry.{caseAt}
 use Rattle.effects.specs.declared.Range.{Range}
 use Rattle.effects.specs.Shape.{Tables, Cell, Shape, met, rangeOf}
-use Rattle.effects.specs.Table.{readShape, writeShape, arrayShape}
+use Rattle.effects.specs.Table.{readShape, writeShape, perhapsShape, arrayShape}
 
 -- k cases of a select from case j on: the queue of each is read, and the values that a send case sends
 unfoldable pub caseReads : List ℕ → ℕ → ℕ → List Range
@@ -19,7 +20,7 @@ caseReads cases j (suc k) =
     ∷ record { start = x .slot; count = cond (eqb (x .kind) 0) (x .elements) 0 }
     ∷ caseReads cases (suc j) k
 
--- a receive case writes its destination, and after it the slot of has_ok
+-- a receive case perhaps writes its destination, and after it the slot of has_ok
 unfoldable pub caseWrites : List ℕ → ℕ → ℕ → List Range
 caseWrites cases j zero = []
 caseWrites cases j (suc k) =
@@ -42,10 +43,18 @@ module _ (T : Tables) (x : Cell) where
   unfoldable pub arrays : List Range
   arrays = ranges (arrayShape (x .instruction .op))
 
-  unfoldable pub writes : List Range
-  writes =
+  unfoldable pub sureWrites : List Range
+  sureWrites = ranges (writeShape (x .instruction .op))
+
+  unfoldable pub perhapsWrites : List Range
+  perhapsWrites =
       let selected = caseWrites (T .cases) (x .metadata .first) (x .metadata .second) in
-      ranges (writeShape (x .instruction .op)) ++ cond isSelect selected []
+      cond isSelect selected (ranges (perhapsShape (x .instruction .op)))
+
+  -- all that is written, surely or perhaps
+  unfoldable pub writes : List Range
+  unfolding sureWrites perhapsWrites
+  writes = sureWrites ++ perhapsWrites
 
   -- all that is read, the array range with it
   unfoldable pub allReads : List Range

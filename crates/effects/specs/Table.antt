@@ -172,7 +172,7 @@ unfoldable pub readShape : ℕ → Shape
 unfolding shapeIn
 readShape = shapeIn readRows (shape nothing [])
 
--- `visit_instruction_register_writes`. "Writes have a default: an opcode not named there writes a, ForLoop included."
+-- `visit_instruction_register_writes`, the surely written ranges. "Writes have a default: an opcode not named there writes a, ForLoop included."
 abbrev pub writeRows : List Arm
 writeRows =
     row
@@ -224,7 +224,7 @@ writeRows =
     ∷
     row
     (op.MapIterNext ∷ [])
-    (shape (kind kindMapIterNext) (part fieldB (fixed 7) ∷ part fieldA both ∷ part fieldC (fixed 1) ∷ []))
+    (shape (kind kindMapIterNext) (part fieldB (fixed 7) ∷ part fieldC (fixed 1) ∷ []))
     ∷
     row
     (op.QueueRecv ∷ [])
@@ -246,6 +246,15 @@ writeRows =
 unfoldable pub writeShape : ℕ → Shape
 unfolding shapeIn
 writeShape = shapeIn writeRows (shape nothing (part fieldA (fixed 1) ∷ []))
+
+-- "receive destinations with their ok slots, and MapIterNext's range at a, are perhaps written" (document 02, L5): the first are those of
+-- SelectExec's cases (`caseWrites` in Effects); what both must be told is demanded above.
+abbrev pub perhapsRows : List Arm
+perhapsRows = row (op.MapIterNext ∷ []) (shape nothing (part fieldA both ∷ [])) ∷ []
+
+unfoldable pub perhapsShape : ℕ → Shape
+unfolding shapeIn
+perhapsShape = shapeIn perhapsRows (shape nothing [])
 
 -- `instruction_frame_memory_effect`: "for the four Slot opcodes, an array range that counts as read"
 abbrev pub arrayRows : List Arm

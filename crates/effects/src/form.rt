@@ -138,8 +138,11 @@ fn field_range(form: u64, i: Instruction) -> Range
     }
 }
 
+// The form of MapIterNext's key and value, from a on.
+pub const KEY_AND_VALUE: u64 = 24;
+
 // Forms of the metadata's lengths.
-fn layout_range(form: u64, i: Instruction, m: Metadata) -> Range
+pub fn layout_range(form: u64, i: Instruction, m: Metadata) -> Range
     requires { ⌜ (18 ≤ form) × (form < 29) ⌝ }
     ensures { λ r. ⌜ ((T : Tables) → r ≡ rangeOf T (record { instruction = i; metadata = m }) (formAt form)) ⌝ }
 {
@@ -176,7 +179,7 @@ fn layout_range(form: u64, i: Instruction, m: Metadata) -> Range
             start: b + first,
             count: second,
         },
-        24 => Range {
+        KEY_AND_VALUE => Range {
             start: a,
             count: first + second,
         },

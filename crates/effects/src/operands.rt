@@ -1,14 +1,14 @@
 // The refusal of one instruction's operands: 5, 6 and 7.
 ghost use mathlib.Core.Path.{_≡_};
 ghost use mathlib.Core.Bool.{true};
-ghost use mathlib.Core.List.{_++_};
-ghost use Prim.Native.Nat.{_+_, _*_, _/_, _≤_};
+ghost use mathlib.Core.List.{List, _++_};
+ghost use Prim.Native.Nat.{ℕ, _+_, _*_, _/_, _≤_};
 ghost use lib.ListN.{length};
 ghost use Rattle.instruction.specs.Opcode.{maxValid};
 ghost use Rattle.unit.specs.Size.{metadataSize, caseSize, maxLocalSlots};
 ghost use Rattle.unit.specs.Entry.{metadataAt, goodMetadata};
 ghost use Rattle.effects.specs.Shape.{tablesOf};
-ghost use Rattle.effects.specs.Effects.{allReads, writes, allOf};
+ghost use Rattle.effects.specs.Effects.{allReads, sureWrites, perhapsWrites, writes, allOf};
 ghost use Rattle.effects.specs.Check.{effectsSound, operandRefusal};
 ghost use Rattle.effects.specs.laws.Cells.{cellOf};
 ghost use Rattle.effects.specs.laws.Ranges.{CasesInside};
@@ -73,24 +73,30 @@ fn reads_hold(
     true
 }
 
-fn writes_hold(
-    limit: usize,
-    i: Instruction,
-    m: Metadata,
-    functions: &[u8],
-    externs: &[u8],
-    cases: &[u8],
-) -> bool
-    requires { ⌜ (limit ≤ slots) × CasesInside (now cases) (record { instruction = i; metadata = m }) ⌝ }
-    ensures { λ r. ⌜ r ≡ allOf (rangeHolds limit) (writes (tablesOf (now (functions .entry)) (now (externs .entry)) (now (cases .entry))) (record { instruction = i; metadata = m })) ⌝ }
+fn sure_hold(limit: usize, i: Instruction, m: Metadata, functions: &[u8], externs: &[u8]) -> bool
+    requires { ⌜ limit ≤ slots ⌝ }
+    ensures { λ r. ⌜ ((cases : List ℕ) → r ≡ allOf (rangeHolds limit) (sureWrites (tablesOf (now (functions .entry)) (now (externs .entry)) cases) (record { instruction = i; metadata = m }))) ⌝ }
 {
-    let n = ranges::write_count(i, m);
+    let n = ranges::sure_count(i);
     let mut k: usize = 0;
     while k < n {
-        if !range_holds(
-            limit,
-            ranges::write_range(k, i, m, functions, externs, cases),
-        ) {
+        if !range_holds(limit, ranges::sure_range(k, i, m, functions, externs)) {
+            return false;
+        }
+        k += 1;
+    }
+    true
+}
+
+// "Such a range is still checked against the frame"
+fn perhaps_hold(limit: usize, i: Instruction, m: Metadata, cases: &[u8]) -> bool
+    requires { ⌜ (limit ≤ slots) × CasesInside (now cases) (record { instruction = i; metadata = m }) ⌝ }
+    ensures { λ r. ⌜ ((functions externs : List ℕ) → r ≡ allOf (rangeHolds limit) (perhapsWrites (tablesOf functions externs (now (cases .entry))) (record { instruction = i; metadata = m }))) ⌝ }
+{
+    let n = ranges::perhaps_count(i, m);
+    let mut k: usize = 0;
+    while k < n {
+        if !range_holds(limit, ranges::perhaps_range(k, i, m, cases)) {
             return false;
         }
         k += 1;
@@ -109,10 +115,13 @@ fn ranges_hold(
     requires { ⌜ (limit ≤ slots) × CasesInside (now cases) (record { instruction = i; metadata = m }) ⌝ }
     ensures { λ r. ⌜ r ≡ allOf (rangeHolds limit) (allReads (tablesOf (now (functions .entry)) (now (externs .entry)) (now (cases .entry))) (record { instruction = i; metadata = m }) ++ writes (tablesOf (now (functions .entry)) (now (externs .entry)) (now (cases .entry))) (record { instruction = i; metadata = m })) ⌝ }
 {
-    if reads_hold(limit, i, m, functions, externs, cases) {
-        return writes_hold(limit, i, m, functions, externs, cases);
+    if !reads_hold(limit, i, m, functions, externs, cases) {
+        return false;
     }
-    false
+    if !sure_hold(limit, i, m, functions, externs) {
+        return false;
+    }
+    perhaps_hold(limit, i, m, cases)
 }
 
 // The refusal of a valid instruction's operands, by all its ranges.

@@ -1,9 +1,11 @@
-// The ranges of slots that an instruction reads and writes, by number. They stand for the Rust's visitor closures.
+// The ranges of slots that an instruction reads, surely writes and perhaps writes, by number. They stand for the Rust's visitor closures.
 ghost use mathlib.Core.Path.{_≡_};
-ghost use Prim.Native.Nat.{_/_, _%_, _^_, _<_};
+ghost use mathlib.Core.List.{List};
+ghost use Prim.Native.Nat.{ℕ, _/_, _%_, _^_, _<_};
 ghost use lib.ListN.{length, getD};
+ghost use Rattle.unit.specs.declared.Metadata.{Metadata};
 ghost use Rattle.effects.specs.Shape.{Tables, tablesOf};
-ghost use Rattle.effects.specs.Effects.{allReads, writes};
+ghost use Rattle.effects.specs.Effects.{allReads, sureWrites, perhapsWrites};
 ghost use Rattle.effects.specs.laws.Form.{emptyRange};
 ghost use Rattle.effects.specs.laws.Ranges.{CasesInside};
 use crate::Range;
@@ -52,38 +54,39 @@ pub fn read_range(
     form::range_of(form, i, m, functions, externs)
 }
 
-// How many ranges are written; of SelectExec one for each case after a's.
-pub fn write_count(i: Instruction, m: Metadata) -> usize
-    ensures { λ r. ⌜ ((T : Tables) → r ≡ length (writes T (record { instruction = i; metadata = m }))) ⌝ }
+// How many ranges are surely written.
+pub fn sure_count(i: Instruction) -> usize
+    ensures { λ r. ⌜ ((T : Tables) (m : Metadata) → r ≡ length (sureWrites T (record { instruction = i; metadata = m }))) ⌝ }
 {
-    let op = i.op;
-    if op == opcode::SELECT_EXEC {
-        return 1 + (m.second as usize);
-    }
-    (table::row(op) / 16 % 16) as usize
+    (table::row(i.op) / 16 % 16) as usize
 }
 
-pub fn write_range(
-    k: usize,
-    i: Instruction,
-    m: Metadata,
-    functions: &[u8],
-    externs: &[u8],
-    cases: &[u8],
-) -> Range
-    requires { ⌜ (k < length (writes (tablesOf (now functions) (now externs) (now cases)) (record { instruction = i; metadata = m }))) × CasesInside (now cases) (record { instruction = i; metadata = m }) ⌝ }
-    ensures { λ r. ⌜ r ≡ getD (writes (tablesOf (now (functions .entry)) (now (externs .entry)) (now (cases .entry))) (record { instruction = i; metadata = m })) k emptyRange ⌝ }
+pub fn sure_range(k: usize, i: Instruction, m: Metadata, functions: &[u8], externs: &[u8]) -> Range
+    requires { ⌜ ((T : Tables) → k < length (sureWrites T (record { instruction = i; metadata = m }))) ⌝ }
+    ensures { λ r. ⌜ ((cases : List ℕ) → r ≡ getD (sureWrites (tablesOf (now (functions .entry)) (now (externs .entry)) cases) (record { instruction = i; metadata = m })) k emptyRange) ⌝ }
+{
+    let form = form_at(table::row(i.op) / 1099511627776, k);
+    form::range_of(form, i, m, functions, externs)
+}
+
+// How many ranges are perhaps written: of SelectExec one for each case, of MapIterNext key and value, of others none.
+pub fn perhaps_count(i: Instruction, m: Metadata) -> usize
+    ensures { λ r. ⌜ ((T : Tables) → r ≡ length (perhapsWrites T (record { instruction = i; metadata = m }))) ⌝ }
 {
     let op = i.op;
-    if op != opcode::SELECT_EXEC {
-        let form = form_at(table::row(op) / 1099511627776, k);
-        return form::range_of(form, i, m, functions, externs);
+    match op {
+        opcode::SELECT_EXEC => m.second as usize,
+        opcode::MAP_ITER_NEXT => 1,
+        _ => 0,
     }
-    if k == 0 {
-        return Range {
-            start: i.a as usize,
-            count: 1,
-        };
+}
+
+pub fn perhaps_range(k: usize, i: Instruction, m: Metadata, cases: &[u8]) -> Range
+    requires { ⌜ ((T : Tables) → k < length (perhapsWrites T (record { instruction = i; metadata = m }))) × CasesInside (now cases) (record { instruction = i; metadata = m }) ⌝ }
+    ensures { λ r. ⌜ ((functions externs : List ℕ) → r ≡ getD (perhapsWrites (tablesOf functions externs (now (cases .entry))) (record { instruction = i; metadata = m })) k emptyRange) ⌝ }
+{
+    if i.op == opcode::SELECT_EXEC {
+        return select::case_write(k, m, cases);
     }
-    select::case_write(k - 1, m, cases)
+    form::layout_range(form::KEY_AND_VALUE, i, m)
 }

@@ -4,8 +4,8 @@ ghost use mathlib.Core.Path.{_≡_};
 ghost use Rattle.effects.specs.laws.Form.{rowOf, demandRowOf};
 use instruction::opcode;
 
-// The ranges that an opcode reads and writes. The lowest byte has their numbers: reads, and 16 times writes. The next four bytes are
-// the forms (form.rt) of the ranges that are read, the array range of a Slot opcode last; the highest three of those that are written.
+// The ranges that an opcode reads and surely writes. The lowest byte has their numbers: reads, and 16 times writes. The next four bytes
+// are the forms (form.rt) of the ranges that are read, the array range of a Slot opcode last; the highest three of those that are written.
 // "Writes have a default: an opcode not named there writes a": form 0.
 pub fn row(op: u8) -> u64
     ensures { λ r. ⌜ r ≡ rowOf op ⌝ }
@@ -106,7 +106,7 @@ pub fn row(op: u8) -> u64
         opcode::MAP_DELETE => 0x000000_00001300_02,
         opcode::MAP_LEN => 0x000000_00000001_11,
         opcode::MAP_ITER_INIT => 0x000006_00000001_11,
-        opcode::MAP_ITER_NEXT => 0x021807_00000007_31,
+        opcode::MAP_ITER_NEXT => 0x000207_00000007_21,
         opcode::QUEUE_NEW => 0x000000_00000201_12,
         opcode::QUEUE_SEND => 0x000000_00001300_02,
         opcode::QUEUE_RECV => 0x000019_00000001_11,

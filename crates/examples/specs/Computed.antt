@@ -19,6 +19,7 @@ use Rattle.flow.specs.Loop as flowLoop
 use Rattle.values.specs.Fold as valuesFold
 use Rattle.values.specs.Values as valuesValues
 use Rattle.values.specs.Number as valuesNumber
+use Rattle.lines.specs.Lines as linesLines
 use Rattle.pc_map.specs.Relocate as pcmapRelocate
 use Rattle.liveness.specs.Live as livenessLive
 use Rattle.liveness.specs.Dead as livenessDead
@@ -40,19 +41,19 @@ unfolding instructionClass.single instructionClass.classOf instructionClass.numb
 ofInstruction = tt
 
 unfoldable ofUnit1 : Unit {0}
-unfolding unitEntry.metadataAt unitEntry.metadataBytes unitEntry.goodMetadata unitEntry.isWideSelect unitEntry.constantOf unitEntry.constantAt unitEntry.goodConstant unitEntry.functionAt unitEntry.externAt unitEntry.caseAt unitEntry.goodCase unitLayout.headerOf unitLayout.sectionsFollow unitLayout.goodCounts unitLayout.goodEntries unitLayout.hasSections unitLayout.isUnit unitLayout.wideSelect unitLayout.afterUnit unitLayout.layoutOf unitResult.resultHeader unitResult.codeBytes
+unfolding unitEntry.metadataAt unitEntry.metadataBytes unitEntry.goodMetadata unitEntry.isWideSelect unitEntry.constantOf unitEntry.constantAt unitEntry.goodConstant unitEntry.functionAt unitEntry.externAt unitEntry.caseAt unitEntry.goodCase unitLayout.headerOf unitLayout.sectionsFollow unitLayout.goodCounts unitLayout.goodEntries unitLayout.hasSections unitLayout.isUnit unitLayout.linesRise unitLayout.wideSelect unitLayout.afterLines unitLayout.afterUnit unitLayout.layoutOf unitResult.resultHeader unitResult.codeBytes
 ofUnit1 = tt
 
 unfoldable pub ofUnit : Unit {0}
-unfolding ofUnit1 unitResult.metadataBytesAll unitResult.placeBytes unitResult.resultBytes unitResult.retainedFrom unitResult.readResult
+unfolding ofUnit1 unitEntry.lineAt unitEntry.lineBytes unitEntry.goodLine unitResult.metadataBytesAll unitResult.placeBytes unitResult.lineBytesAll unitResult.resultBytes unitResult.retainedFrom unitResult.readResult
 ofUnit = tt
 
 unfoldable ofEffects1 : Unit {0}
-unfolding effectsShape.isThere effectsShape.paramSlots effectsShape.returnSlots effectsShape.isKnown effectsShape.externSlots effectsShape.isKind effectsShape.met effectsShape.value effectsShape.applies effectsShape.rangeOf effectsTable.shapeIn effectsTable.readShape effectsTable.writeShape effectsTable.arrayShape effectsEffects.caseReads effectsEffects.caseWrites effectsEffects.reads effectsEffects.arrays
+unfolding effectsShape.isThere effectsShape.paramSlots effectsShape.returnSlots effectsShape.isKnown effectsShape.externSlots effectsShape.isKind effectsShape.met effectsShape.value effectsShape.applies effectsShape.rangeOf effectsTable.shapeIn effectsTable.readShape effectsTable.writeShape effectsTable.perhapsShape effectsTable.arrayShape effectsEffects.caseReads effectsEffects.caseWrites effectsEffects.reads effectsEffects.arrays
 ofEffects1 = tt
 
 unfoldable pub ofEffects : Unit {0}
-unfolding ofEffects1 effectsEffects.writes effectsEffects.allReads effectsEffects.demandsMet effectsEffects.rangeFits effectsEffects.rangeWithin effectsEffects.rangeHas effectsEffects.allOf effectsEffects.anyOf effectsCheck.lowest effectsCheck.effectsSound effectsCheck.operandRefusal effectsCheck.operandCheck
+unfolding ofEffects1 effectsEffects.sureWrites effectsEffects.perhapsWrites effectsEffects.writes effectsEffects.allReads effectsEffects.demandsMet effectsEffects.rangeFits effectsEffects.rangeWithin effectsEffects.rangeHas effectsEffects.allOf effectsEffects.anyOf effectsCheck.lowest effectsCheck.effectsSound effectsCheck.operandRefusal effectsCheck.operandCheck
 ofEffects = tt
 
 unfoldable pub ofFlow : Unit {0}
@@ -60,16 +61,20 @@ unfolding flowBranch.falls flowBranch.branches flowBranch.targetBy flowBranch.br
 ofFlow = tt
 
 unfoldable ofValues1 : Unit {0}
-unfolding valuesFold.bitwise valuesFold.differ valuesFold.lowBits valuesFold.trunc valuesFold.bitWord valuesFold.foldWord valuesFold.fitsImm32 valuesValues.sameAtom valuesValues.sameExpression valuesValues.valueIn valuesValues.slotIn valuesValues.expressionIn valuesValues.usable valuesValues.recordedSlot valuesValues.orItself valuesValues.representative valuesValues.store valuesValues.learn
+unfolding valuesFold.bitwise valuesFold.differ valuesFold.lowBits valuesFold.trunc valuesFold.bitWord valuesFold.foldWord valuesFold.fitsImm32 valuesValues.sameAtom valuesValues.sameExpression valuesValues.valueIn valuesValues.expressionIn valuesValues.lowestFrom valuesValues.orItself valuesValues.representative valuesValues.store valuesValues.learn
 ofValues1 = tt
 
 unfoldable ofValues2 : Unit {0}
-unfolding valuesNumber.constantAtom valuesNumber.foldUnary valuesNumber.foldBinary valuesNumber.loadOrStay valuesNumber.stored valuesNumber.copyOrStay valuesNumber.byExpression valuesNumber.byValue valuesNumber.numberUnary valuesNumber.numberBinary valuesNumber.numberCopy valuesNumber.numberConstant valuesNumber.numberRead valuesNumber.decided valuesNumber.numberJump valuesNumber.numberBy
+unfolding valuesNumber.constantAtom valuesNumber.foldUnary valuesNumber.foldBinary valuesNumber.stored valuesNumber.copyOrStay valuesNumber.copied valuesNumber.byExpression valuesNumber.folded valuesNumber.byValueWith valuesNumber.numberUnaryWith valuesNumber.numberBinaryWith valuesNumber.numberCopy valuesNumber.numberConstant valuesNumber.numberRead valuesNumber.decided valuesNumber.numberJump valuesNumber.numberByWith
 ofValues2 = tt
 
 unfoldable pub ofValues : Unit {0}
-unfolding ofValues1 ofValues2 valuesNumber.numberFrom valuesNumber.numberCode
+unfolding ofValues1 ofValues2 valuesNumber.numberFromWith valuesNumber.numberCodeWith
 ofValues = tt
+
+unfoldable pub ofLines : Unit {0}
+unfolding linesLines.below linesLines.lands linesLines.moved
+ofLines = tt
 
 unfoldable pub ofPcMap : Unit {0}
 unfolding pcmapRelocate.relocationCheck pcmapRelocate.movedJump pcmapRelocate.movedForLoop pcmapRelocate.movedHint pcmapRelocate.relocateBy pcmapRelocate.retainFrom
@@ -80,15 +85,15 @@ unfolding livenessLive.liveBefore livenessLive.union livenessLive.sameRow livene
 ofLiveness = tt
 
 unfoldable ofAnswer1 : Unit {0}
-unfolding answerJump.isIdle answerJump.dropIdle answerJump.jumpRounds answerPass.outputAfter answerPass.checked answerPass.sameCode answerPass.allKept answerPass.usefulPlaces answerPass.keptPlaces answerPass.removal answerPass.afterLoops answerPass.afterBranches answerPass.afterOperands answerPass.optimized answerPass.isWorkedOn answerPass.pass answerAnswer.cellsOf answerAnswer.sectionsOf
+unfolding answerJump.isIdle answerJump.dropIdle answerJump.jumpRounds answerPass.linesAfter answerPass.outputAfter answerPass.checked answerPass.sameCode answerPass.allKept answerPass.usefulPlaces answerPass.keptPlaces answerPass.removal answerPass.afterLoops answerPass.afterBranches answerPass.afterOperands answerPass.optimized answerPass.isWorkedOn answerPass.pass answerAnswer.cellsOf answerAnswer.sectionsOf
 ofAnswer1 = tt
 
 unfoldable pub ofAnswer : Unit {0}
-unfolding ofAnswer1 answerAnswer.roomFor answerAnswer.isSkipped answerAnswer.afterRoom answerAnswer.afterSkipped answerAnswer.afterLayout answerAnswer.laidOut answerAnswer.answerWith answerAnswer.passAnswer answerClean.placedBy answerClean.afterPass answerClean.cleanFrom answerClean.cleanedFirst answerClean.spareFor answerClean.cleanAnswer
+unfolding ofAnswer1 answerAnswer.roomFor answerAnswer.isSkipped answerAnswer.afterRoom answerAnswer.afterSkipped answerAnswer.afterLayout answerAnswer.laidOut answerAnswer.answerWith answerAnswer.passAnswer answerClean.placedBy answerClean.afterPass answerClean.cleanFrom answerClean.cleanedFirst answerClean.spareFor answerClean.cleanAnswer answerClean.linesPast answerClean.linesFrom answerClean.linesFirst answerClean.cleanLines
 ofAnswer = tt
 
 unfoldable ofRun1 : Unit {0}
-unfolding runSystem.after runMachine.put runMachine.goto runMachine.answered runMachine.perform runMachine.step runMachine.wayOf runMachine.logOf runProgram.slotsFrom runProgram.slotsOf runProgram.givenRanges runProgram.constantWord runProgram.unaryWord runProgram.binaryWord runProgram.recordedMetadata runProgram.event runProgram.actBy runProgram.hasMeaning runProgram.classIn runProgram.nodeBy runProgram.programOf
+unfolding runSystem.after runMachine.put runMachine.goto runMachine.isStored runMachine.replied runMachine.answered runMachine.perform runMachine.step runMachine.wayOf runMachine.logOf runProgram.slotsFrom runProgram.slotsOf runProgram.givenRanges runProgram.perhapsSlots runProgram.constantWord runProgram.unaryWord runProgram.binaryWord runProgram.recordedMetadata runProgram.event runProgram.actBy runProgram.hasMeaning runProgram.classIn runProgram.nodeBy runProgram.programOf
 ofRun1 = tt
 
 unfoldable pub ofRun : Unit {0}
@@ -97,7 +102,7 @@ ofRun = tt
 
 -- of a pass and the cleaning; of runs too
 unfoldable pub answers : Unit {0}
-unfolding ofWords ofInstruction ofUnit ofEffects ofFlow ofValues ofPcMap ofLiveness ofAnswer
+unfolding ofWords ofInstruction ofUnit ofEffects ofFlow ofValues ofLines ofPcMap ofLiveness ofAnswer
 answers = tt
 
 unfoldable pub runs : Unit {0}

@@ -12,7 +12,7 @@ use borrow.Author.Tests.{eq-eqb, eqb-true, eqb-false, not-true}
 use Rattle.words.specs.laws.Truth.{left-true, right-true}
 use Rattle.instruction.specs.Opcode as op
 use Rattle.instruction.specs.Instruction.{plain, withImm32}
-use Rattle.unit.specs.Entry.{typeValue}
+use Rattle.unit.specs.Entry.{typeValue, kindSelectExecLayout, kindMapIterNext}
 use Rattle.effects.specs.Shape.{Cell, tablesOf}
 use Rattle.run.specs.System.{System, after}
 use Rattle.run.specs.Machine.{Words, Event, Way, byReturn, byPanic, byReply, byCode, words, World, State, step, wayOf, logOf, system, start, SameRuns}
@@ -62,9 +62,9 @@ same-lists (x ∷ l) = rw (same-numbers x, same-lists l)
 
 -- ---- one run beside another
 
--- the world and the words in which the pairs differ: all 0
+-- the world and the words in which the pairs differ: all words 0, and no perhaps written range is stored
 abbrev pub world : World
-world = record { reply = λ R. words (λ t. 0) false; free = λ o f x y. 0; lost = λ b. 0 }
+world = record { reply = λ R. words (λ t. 0) (λ i. false) false; free = λ o f x y. 0; lost = λ b. 0 }
 
 abbrev pub zeros : Words
 zeros t = 0
@@ -114,13 +114,17 @@ refuted F G k d s = go (wayOf (programOf F world) (afterSteps F k)) refl
 
 -- ---- the pairs
 
--- a function of two slots of type Value
+-- the bytes of a receive case: from the queue in slot 1 into slot 0
+abbrev receive : List ℕ
+receive = 1 ∷ 0 ∷ 1 ∷ 0 ∷ 0 ∷ 0 ∷ 1 ∷ 0 ∷ []
+
+-- a function of ten slots of type Value, with that case
 abbrev pub functionOf : List Cell → Function
 functionOf cells =
     record {
       cells = cells;
       described = length cells;
-      sections = record { locals = 2; types = replicate 2 typeValue; constants = []; tables = tablesOf [] [] [] };
+      sections = record { locals = 10; types = replicate 10 typeValue; constants = []; tables = tablesOf [] [] receive };
     }
 
 pub record Pair : Type 0 where
@@ -173,14 +177,27 @@ abbrev invalid : Pair
 invalid = pair (three 200 0 0 0 ∷ []) (hint ∷ []) 1
 
 abbrev slotOutside : Pair
-slotOutside = pair (loadInt 2 1 ∷ []) (loadInt 1 1 ∷ []) 1
+slotOutside = pair (loadInt 10 1 ∷ []) (loadInt 1 1 ∷ []) 1
 
 -- an end against a silent endless loop
 abbrev looping : Pair
 looping = pair (return 0 0 ∷ []) (jumpToItself ∷ []) 1
 
+-- document 02, L5: a store dropped before an instruction that perhaps writes its slot, as document 01 alone would have it
+abbrev select : Cell
+select = record { instruction = plain op.SelectExec 1 0 0; metadata = record { kind = kindSelectExecLayout; ok = 0; array = 0; first = 0; second = 1; end = 0 } }
+
+abbrev selected : Pair
+selected = pair (loadInt 0 1 ∷ select ∷ return 0 1 ∷ []) (select ∷ return 0 1 ∷ []) 3
+
+abbrev mapNext : Cell
+mapNext = record { instruction = plain op.MapIterNext 0 2 9; metadata = record { kind = kindMapIterNext; ok = 0; array = 0; first = 1; second = 1; end = 0 } }
+
+abbrev iterated : Pair
+iterated = pair (loadInt 0 1 ∷ mapNext ∷ return 0 1 ∷ []) (mapNext ∷ return 0 1 ∷ []) 3
+
 abbrev pub pairs : List Pair
-pairs = anotherWord ∷ exchanged ∷ oneMore ∷ oneLess ∷ slower ∷ panicking ∷ runningOut ∷ invalid ∷ slotOutside ∷ looping ∷ []
+pairs = anotherWord ∷ exchanged ∷ oneMore ∷ oneLess ∷ slower ∷ panicking ∷ runningOut ∷ invalid ∷ slotOutside ∷ looping ∷ selected ∷ iterated ∷ []
 
 unfoldable pub allDiffer : List Pair → Bool
 allDiffer [] = true

@@ -17,7 +17,7 @@ use Rattle.answer.specs.Clean.{cellsAfter}
 use Rattle.examples.specs.Computed.{answers}
 use Rattle.examples.specs.Unit.{unit, bytesOf, metadataOf, numbers, loadInt, jumpIf, three, return, loopHint}
 
--- what a case expects of a pass: unchanged, a refusal, or the result's first 16 + 28n' bytes, read as one little-endian number
+-- what a case expects of a pass: unchanged, a refusal, or the result's bytes, read as one little-endian number
 pub data Expected : Type 0 where
   same : Expected
   refusal : ℕ → ℕ → Expected
@@ -47,8 +47,8 @@ meets (refused k p) (result n b) = false
 meets (rewritten r) same = false
 meets (rewritten r) (refusal k p) = false
 meets (rewritten r) (result n b) =
-    let bytes = resultBytes r in
-    eqb (length r) n && eqb (length bytes) (resultSize n) && eqb (fromLe bytes) b
+    let bytes = resultBytes r [] in
+    eqb (length r) n && eqb (length bytes) (resultSize n 0) && eqb (fromLe bytes) b
 
 unfoldable pub meetsNext : List ℕ → Outcome → Next → Bool
 meetsNext u o unasked = true
@@ -73,11 +73,11 @@ allHold (c ∷ cs) = holds c && allHold cs
 
 -- "LoadInt 0,2; LoadInt 1,3; AddI 2,0,1; Return 2,1 with s = 3"
 abbrev case0 : Case
-case0 = case 3 (loadInt 0 2 ∷ loadInt 1 3 ∷ three op.AddI 2 0 1 ∷ return 2 1 ∷ []) (result 2 0x30000000200000000000000000000000000000000000000000000000000000000000000000000000100020040000000050002000100000040000000200000001000000002)
+case0 = case 3 (loadInt 0 2 ∷ loadInt 1 3 ∷ three op.AddI 2 0 1 ∷ return 2 1 ∷ []) (result 2 0x300000002000000000000000000000000000000000000000000000000000000000000000000000001000200400000000500020001000000500000000000000048000000280000001800000002)
 
 -- "known 2,147,483,646 + 1 becomes LoadInt"
 abbrev case1 : Case
-case1 = case 3 (loadInt 0 2147483646 ∷ loadInt 1 1 ∷ three op.AddI 2 0 1 ∷ return 2 1 ∷ []) (result 2 0x300000002000000000000000000000000000000000000000000000000000000000000000000000001000200407fffffff0002000100000040000000200000001000000002)
+case1 = case 3 (loadInt 0 2147483646 ∷ loadInt 1 1 ∷ three op.AddI 2 0 1 ∷ return 2 1 ∷ []) (result 2 0x300000002000000000000000000000000000000000000000000000000000000000000000000000001000200407fffffff00020001000000500000000000000048000000280000001800000002)
 
 -- "2,147,483,647 + 1 stays AddI"
 abbrev case2 : Case
@@ -85,7 +85,7 @@ case2 = case 3 (loadInt 0 2147483647 ∷ loadInt 1 1 ∷ three op.AddI 2 0 1 ∷
 
 -- "AddF twice on the same slots: second becomes Copy"
 abbrev case3 : Case
-case3 = case 4 (three op.AddF 2 0 1 ∷ three op.AddF 3 0 1 ∷ return 2 2 ∷ []) (result 3 0x2000000010000000000000000000000000000000000000000000000000000000000000000000000000000000000000000000000000000000000000002000200400000000200030003000100000002001b00000058000000280000001000000003)
+case3 = case 4 (three op.AddF 2 0 1 ∷ three op.AddF 3 0 1 ∷ return 2 2 ∷ []) (result 3 0x2000000010000000000000000000000000000000000000000000000000000000000000000000000000000000000000000000000000000000000000002000200400000000200030003000100000002001b0000006c0000000000000060000000300000001800000003)
 
 -- "AddF then AddF32: both stay"
 abbrev case4 : Case
@@ -97,11 +97,11 @@ case5 = case 4 (three op.AddF 2 0 1 ∷ three op.AddF 3 1 0 ∷ return 2 2 ∷ [
 
 -- "JumpIf 0 to place 2; Return 0,1; LoadInt 1,7 (s = 2): rewritten 2, branch to the new length 2; the next pass refuses 8"
 abbrev case6 : Case
-case6 = record { locals = 2; code = jumpIf 0 2 ∷ return 0 1 ∷ loadInt 1 7 ∷ []; answer = result 2 0x10000000000000000000000000000000000000000000000000000000000000000000000000000000100000040000000020000003a00000040000000200000001000000002; then = next (refusal 8 0) }
+case6 = record { locals = 2; code = jumpIf 0 2 ∷ return 0 1 ∷ loadInt 1 7 ∷ []; answer = result 2 0x10000000000000000000000000000000000000000000000000000000000000000000000000000000100000040000000020000003a000000500000000000000048000000280000001800000002; then = next (refusal 8 0) }
 
 -- "LoadInt 0,1; LoadInt 0,2: rewritten 0"
 abbrev case7 : Case
-case7 = case 1 (loadInt 0 1 ∷ loadInt 0 2 ∷ []) (result 0 0x10000000100000001000000000)
+case7 = case 1 (loadInt 0 1 ∷ loadInt 0 2 ∷ []) (result 0 0x180000000000000018000000180000001800000000)
 
 -- "Loop hint, end 1, exit 2; LoadInt 0,0; Return 0,0: refused 10, place 0"
 abbrev case8 : Case
@@ -109,7 +109,7 @@ case8 = case 1 (loopHint 1 2 ∷ loadInt 0 0 ∷ return 0 0 ∷ []) (refusal 10 
 
 -- "CopyN of 0; Return 0,0: rewritten 1 for s = 1 .."
 abbrev case9 : Case
-case9 = case 1 (three op.CopyN 0 0 0 ∷ return 0 0 ∷ []) (result 1 0x100000000000000000000000000000000000000000000004000000028000000180000001000000001)
+case9 = case 1 (three op.CopyN 0 0 0 ∷ return 0 0 ∷ []) (result 1 0x1000000000000000000000000000000000000000000000040000000340000000000000030000000200000001800000001)
 
 -- ".. unchanged for s = 0"
 abbrev case10 : Case

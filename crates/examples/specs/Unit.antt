@@ -56,7 +56,7 @@ unit s cells =
     let n = length cells in
     let types = headerSize + instructionSize * n + metadataSize * n in
     let end = types + s in
-    numbers (n ∷ n ∷ s ∷ s ∷ 0 ∷ 0 ∷ 0 ∷ 0 ∷ 0 ∷ headerSize ∷ (headerSize + instructionSize * n) ∷ types ∷ end ∷ end ∷ end ∷ end ∷ [])
+    numbers (n ∷ n ∷ s ∷ s ∷ 0 ∷ 0 ∷ 0 ∷ 0 ∷ 0 ∷ headerSize ∷ (headerSize + instructionSize * n) ∷ types ∷ end ∷ end ∷ end ∷ end ∷ 0 ∷ end ∷ [])
     ++ bytesOf cells
     ++ metadataOf cells
     ++ replicate s typeValue

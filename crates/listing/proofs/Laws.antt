@@ -18,9 +18,10 @@ use Rattle.instruction.specs.declared.Instruction.{Instruction}
 use Rattle.instruction.specs.Instruction.{instructionAt}
 use Rattle.unit.specs.Result.{resultBytes, resultPlacesAt}
 use Rattle.unit.specs.laws.UnitLaws.{result-long}
-use Rattle.unit.specs.Size.{resultSize}
+use Rattle.unit.specs.declared.Line.{Line}
+use Rattle.unit.specs.Size.{resultHeaderSize, resultSize}
 use Rattle.answer.specs.Pass.{Outcome, unchanged, refused, rewritten, outputAfter}
-use Rattle.answer.specs.Answer.{Lent, lentOf, passAnswer}
+use Rattle.answer.specs.Answer.{Lent, lentOf, passAnswer, passLines}
 use Rattle.optimize.specs.declared.Answer.{Answer}
 use Rattle.optimize.specs.declared.Answer.the-variants.{Refused}
 use Rattle.optimize.specs.PassAnswer.{answerOf}
@@ -77,20 +78,20 @@ module _ (k : ℕ) {v : ℕ} {ds : List ℕ} (fits : v < 2 ^ 32) (f : Fewest 10 
 
 -- the line of what was read at a place
 pub line-puts : (result : List ℕ) (n p : ℕ) {at end old places : ℕ} {text text′ : List ℕ} {i : Instruction} → old ≡ u32At result (places + 4 * p) → places ≡ resultPlacesAt n
-    → i ≡ instructionAt (midOf 16 (length result - 16) result) p → Puts at (ended p 32 ++ ended old 32 ++ fields i) text text′ end → Puts at (line result n p) text text′ end
+    → i ≡ instructionAt (midOf resultHeaderSize (length result - resultHeaderSize) result) p → Puts at (ended p 32 ++ ended old 32 ++ fields i) text text′ end → Puts at (line result n p) text text′ end
 unfolding line
 line-puts result n p e f g q =
-    let whole : midOf 16 (length result - 16) result ≡ drop 16 result = take-all (length result - 16) (drop 16 result) (simp length-drop (omega arith)) in
+    let whole : midOf resultHeaderSize (length result - resultHeaderSize) result ≡ drop resultHeaderSize result = take-all (length result - resultHeaderSize) (drop resultHeaderSize result) (simp length-drop (omega arith)) in
     rw whole at (rw (e, f, g) at q)
 
 -- what a pass tells of lies within the output
-pub fits-answer : (o : Outcome) (out out′ : List ℕ) → out′ ≡ outputAfter o out → length out′ ≡ length out → length out ≤ 8192 → Fits (answerOf o) (length out′)
+pub fits-answer : (o : Outcome) (lines : List Line) (out out′ : List ℕ) → out′ ≡ outputAfter o lines out → length out′ ≡ length out → length out ≤ 8192 → Fits (answerOf o) (length out′)
 unfolding answerOf outputAfter
-fits-answer unchanged out out′ e l h = tt
-fits-answer (refused k p) out out′ e l h = tt
-fits-answer (rewritten kept) out out′ e l h =
-    let long : length out′ ≡ length (resultBytes kept) + length (postOf 0 (resultSize (length kept)) out) = ap length e ∙ length-append (resultBytes kept) _ in
-    record { within = omega (arith, long, result-long kept); few = omega arith }
+fits-answer unchanged lines out out′ e l h = tt
+fits-answer (refused k p) lines out out′ e l h = tt
+fits-answer (rewritten kept) lines out out′ e l h =
+    let long : length out′ ≡ length (resultBytes kept lines) + length (postOf 0 (resultSize (length kept) (length lines)) out) = ap length e ∙ length-append (resultBytes kept lines) _ in
+    record { within = omega (arith, long, result-long kept lines); few = omega arith }
 
 -- the listing of a unit that is too long, and of another
 pub listing-long : (u out : List ℕ) → 2048 < length u → textOf (Refused 2 0) out ≡ listing u
@@ -105,7 +106,7 @@ pub listed : {end : ℕ} {xs text text′ : List ℕ} (u : List ℕ) → xs ≡ 
 listed u e p = rw e at (puts-text p)
 
 -- the text of what a pass tells
-pub outcome-puts : (u out out′ : List ℕ) (l : Lent) {r : Answer} {text text′ : List ℕ} {end : ℕ} → r ≡ answerOf (passAnswer u l) → out′ ≡ outputAfter (passAnswer u l) out
+pub outcome-puts : (u out out′ : List ℕ) (l : Lent) {r : Answer} {text text′ : List ℕ} {end : ℕ} → r ≡ answerOf (passAnswer u l) → out′ ≡ outputAfter (passAnswer u l) (passLines u l) out
     → Puts 0 (textOf r out′) text text′ end → Puts 0 (listingWith u out l) text text′ end
 unfolding listingWith
 outcome-puts u out out′ l e w p = rw (e, w) at p

@@ -11,7 +11,7 @@ use Rattle.instruction.specs.Instruction.{instructionAt}
 use Rattle.unit.specs.Refusal.{shortBuffer}
 use Rattle.unit.specs.Result.{resultPlacesAt}
 use Rattle.unit.specs.Size.{resultHeaderSize}
-use Rattle.answer.specs.Answer.{Lent, lentOf, passAnswer}
+use Rattle.answer.specs.Answer.{Lent, lentOf, passAnswer, passLines}
 use Rattle.answer.specs.Pass.{outputAfter}
 use Rattle.optimize.specs.declared.Answer.{Answer}
 use Rattle.optimize.specs.declared.Answer.the-variants.{Unchanged, Refused, Rewritten}
@@ -69,7 +69,7 @@ textOf (Rewritten n) out = rewrittenText ++ ended n newline ++ lines out n n
 
 -- the text of one pass with lent buffers, the output as it was before
 unfoldable pub listingWith : List ℕ → List ℕ → Lent → List ℕ
-listingWith u out l = textOf (answerOf (passAnswer u l)) (outputAfter (passAnswer u l) out)
+listingWith u out l = textOf (answerOf (passAnswer u l)) (outputAfter (passAnswer u l) (passLines u l) out)
 
 -- "reads a unit of at most 2,048 bytes from standard input (a longer one is refused 2), runs one pass with 8,192 numbers of 64 bits,
 -- 4,096 of 32 and 8,192 output bytes"

@@ -6,6 +6,7 @@ ghost use Rattle.listing.specs.laws.Puts.{Puts, Listed, Fits};
 use instruction::Instruction;
 use optimize::Answer;
 use unit::result;
+use unit::size;
 use words::le;
 
 fn put_bytes(text: &mut [u8], at: usize, s: &[u8]) -> usize
@@ -49,7 +50,7 @@ fn put_line(text: &mut [u8], at: usize, out: &[u8], n: usize, p: usize) -> usize
     ensures { λ r. ⌜ Puts at (line (now (out .entry)) n p) (now (text .entry)) (now (text .exit)) r × (r ≤ at + 77) ⌝ }
 {
     let old = le::read_u32(out, result::places_at(n) + 4 * p);
-    let i = instruction::read(&out[16..], p);
+    let i = instruction::read(&out[size::RESULT_HEADER..], p);
     let at = put_number(text, at, p as u32, b' ');
     let at = put_number(text, at, old, b' ');
     put_fields(text, at, i)

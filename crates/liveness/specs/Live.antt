@@ -11,7 +11,7 @@ use Rattle.words.specs.Lists.{mapFrom}
 use Rattle.instruction.specs.Instruction.{class}
 use Rattle.unit.specs.Size.{setWords, maxSetWords}
 use Rattle.effects.specs.Shape.{Tables, Sections, Cell}
-use Rattle.effects.specs.Effects.{allReads, writes, rangeHas, anyOf}
+use Rattle.effects.specs.Effects.{allReads, sureWrites, rangeHas, anyOf}
 use Rattle.flow.specs.Branch.{falls, branches, target}
 use Rattle.flow.specs.Block.{blockOf, blockCount}
 use Rattle.pc_map.specs.Boundary.{isKept}
@@ -19,11 +19,11 @@ use Rattle.pc_map.specs.Boundary.{isKept}
 abbrev pub Row : Type 0
 Row = List Bool
 
--- what is live before an instruction, of what is live after it
+-- what is live before an instruction, of what is live after it; a perhaps written range "no longer ends a slot's life" (document 02, L5)
 unfoldable pub liveBefore : Tables → Cell → Row → Row
 liveBefore T x row =
     let reads = allReads T x in
-    let written = writes T x in
+    let written = sureWrites T x in
     mapFrom (λ t live. anyOf (rangeHas t) reads || (live && not (anyOf (rangeHas t) written))) 0 row
 
 unfoldable pub union : Row → Row → Row

@@ -60,7 +60,6 @@ fn summarize_place(
         p,
         functions,
         externs,
-        cases,
     );
     touch::live_before(
         &mut memory[uses..uses + w],

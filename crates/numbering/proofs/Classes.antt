@@ -18,8 +18,8 @@ use Rattle.instruction.specs.Class.{numberOf, namedClass}
 use Rattle.effects.specs.Shape.{Sections}
 use Rattle.flow.proofs.Classes.{tag, of-tag}
 use Rattle.values.specs.Values.{Values, valueOf}
-use Rattle.values.specs.Number.{numberUnary, numberBinary, numberJump, cleared as clearedBy, numberBy}
-use Rattle.numbering.specs.laws.Walk.{foldBy, secondOf, binaryClass, operatorClass, onZero, combined, operated, takes, pureBy, otherBy, by-other}
+use Rattle.values.specs.Number.{numberUnaryWith, numberBinaryWith, numberJump, cleared as clearedBy, numberBy, numberByWith}
+use Rattle.numbering.specs.laws.Walk.{foldBy, secondOf, binaryClass, operatorClass, onZero, operated, takes, pureBy, otherBy, by-other}
 use Rattle.values.specs.laws.Named.{Named}
 
 pub not-number : (k : Class) (ks : List ℕ) (j : ℕ) → (OneOf ks j → ⊥) → OneOf ks (variantOf class-type k) → eqb (numberOf k) j ≡ false
@@ -61,7 +61,7 @@ operator-named k s i o h =
     (operator-class k o)
 
 pub operator-pure : (S : Sections) (k : Class) (p : ℕ) (i : Instruction) (v : Values) → operatorClass k ≡ true → operated S (binaryClass k) p i v ≡ pureBy S k p i v
-unfolding pureBy numberOf operated combined secondOf foldBy numberUnary numberBinary
+unfolding pureBy numberOf operated secondOf foldBy numberUnaryWith numberBinaryWith
 operator-pure S k p i v o = ⊎-elim (λ e. rw e) (λ e. rw e) (operator-class k o)
 
 -- a jump on a word that is 0, or on one that is not
@@ -71,7 +71,7 @@ jump-named k s i o h = ⊎-elim (λ e. rw e at h) (λ e. rw e at h) (jump-class 
 
 pub jump-by : (S : Sections) (k : Class) (p : ℕ) (i : Instruction) (v : Values) → OneOf (8 ∷ 9 ∷ []) (variantOf class-type k)
     → numberJump S (takes (onZero k)) i v (valueOf v (i .a)) ≡ numberBy S k p i v
-unfolding numberBy numberOf takes
+unfolding numberByWith numberOf takes
 jump-by S k p i v o = ⊎-elim (λ e. rw e) (λ e. rw e) (jump-class k o)
 
 -- the other classes

@@ -2,26 +2,21 @@
 -- Assumes nothing.
 use mathlib.Core.Path.{_≡_, refl, sym, ap, _∙_}
 use mathlib.Core.List.{List}
-use mathlib.Core.Option.{none, some}
+use mathlib.Core.Option.{Option, none, some}
 use Prim.Native.Nat.{ℕ, zero, suc, _+_, _≤_, _<_}
 use native.Mathlib.Omega.{arith}
 use lib.ListN.{length, getD}
-use Rattle.instruction.specs.declared.Instruction.{Instruction}
-use Rattle.instruction.specs.Instruction.{plain}
-use Rattle.effects.specs.Shape.{Tables}
-use Rattle.values.specs.Values.{Values, valueOf, expressionIn, recordedSlot}
-use Rattle.values.specs.Number.{copyOrStay}
+use Rattle.values.specs.Values.{Values, valueOf, expressionIn, lowestSlot, orItself}
 use Rattle.values.specs.laws.Folded.{expressionOf}
 use Rattle.values.specs.laws.Entries.{Key, value, newest}
 use Rattle.values.specs.laws.Search.{newest-le}
-use Rattle.values.specs.laws.Memory.{memoryOf, numberAt, expressionKey, slotFound, limit, usableAt, expressionIf, expressionAt, Ready, atomIn, atomFound, Holds}
-use Rattle.values.specs.laws.Promises.{Kept, Same}
-use Rattle.numbering.specs.laws.Walk.{sectionsWith, Room}
+use Rattle.values.specs.laws.Memory.{memoryOf, numberAt, expressionKey, limit, expressionIf, expressionAt, Ready, atomIn, atomFound, Holds}
+use Rattle.values.specs.laws.Lowest.{lowest-found}
+use Rattle.values.specs.laws.Promises.{Kept, Same, Shares}
+use Rattle.numbering.specs.laws.Walk.{Room}
 use Rattle.values.specs.declared.Atom.{Atom}
 use Rattle.values.specs.declared.Found.{Found}
-use Rattle.values.specs.declared.Found.the-variants.{At, Nothing}
-use Rattle.values.proofs.Holding.{usable-holds}
-use Rattle.values.proofs.Recording.{few}
+use Rattle.values.specs.declared.Found.the-variants.{At}
 
 -- ---- what stays in order
 
@@ -63,8 +58,8 @@ module _ {n S : ℕ} {t t₁ : List ℕ} (s : Same n S t t₁) where
   same-limit l = omega (arith, s .constants)
 
   -- the value of a slot that had the number d
-  pub same-value : {dest : ℕ → ℕ} {v : Values} (r d : ℕ) → r < S → numberAt (memoryOf n S t) r ≡ d → Holds n S dest v (memoryOf n S t₁) → atomIn n S dest (memoryOf n S t₁) d ≡ valueOf v r
-  same-value {dest} r d l e h = ap (atomIn n S dest (memoryOf n S t₁)) (sym (s .numbers r l ∙ e)) ∙ h .slots r l
+  pub same-value : {types : List ℕ} {dest : ℕ → ℕ} {v : Values} (r d : ℕ) → r < S → numberAt (memoryOf n S t) r ≡ d → Holds n S types dest v (memoryOf n S t₁) → atomIn n S dest (memoryOf n S t₁) d ≡ valueOf v r
+  same-value {dest = dest} r d l e h = ap (atomIn n S dest (memoryOf n S t₁)) (sym (s .numbers r l ∙ e)) ∙ h .slots r l
 
 pub same-then : {n S : ℕ} {t t₁ t₂ : List ℕ} → Same n S t t₁ → Same n S t₁ t₂ → Same n S t t₂
 same-then s r = record { numbers = λ x l. r .numbers x l ∙ s .numbers x l; constants = r .constants ∙ s .constants; table = r .table ∙ s .table }
@@ -74,32 +69,28 @@ abbrev pub valueAt : ℕ → List ℕ → List ℕ → (ℕ → ℕ) → ℕ →
 valueAt n types t dest d = atomIn n (length types) dest (memoryOf n (length types) t) d
 
 abbrev pub Knows : ℕ → List ℕ → List ℕ → (ℕ → ℕ) → Values → Type 0
-Knows n types t dest v = Holds n (length types) dest v (memoryOf n (length types) t)
+Knows n types t dest v = Holds n (length types) types dest v (memoryOf n (length types) t)
 
-module _ {n : ℕ} (types : List ℕ) {t : List ℕ} where
-  -- a copy of the recorded slot
-  pub copy-found : {f : Found} {r d : ℕ} (i : Instruction) {j : Instruction} → Ready n (length types) t → d < limit n (length types) (memoryOf n (length types) t)
-      → f ≡ usableAt types (memoryOf n (length types) t) d (getD types (i .a) 0) → f ≡ At r → j ≡ plain 3 (i .a) r 0
-      → (j .a ≡ i .a) × ((dest : ℕ → ℕ) (z : List ℕ) (l : ℕ) (T : Tables) (v : Values) → Knows n types t dest v
-      → j ≡ copyOrStay (sectionsWith types z l T) i (recordedSlot types v (valueAt n types t dest d) (getD types (i .a) 0)))
-  unfolding copyOrStay slotFound
-  copy-found {f} {r} {d} i {j} g low e q s = (
-    rw s,
-    λ dest z l T v h.
-        let known : some r ≡ recordedSlot types v (valueAt n types t dest d) (getD types (i .a) 0)
-        = ap slotFound (sym (sym e ∙ q)) ∙ usable-holds n (length types) (few g) (g .order) dest h types d (getD types (i .a) 0) low in
-        rw (sym known) s,
-  )
+-- the slot that `share` answers, and what the definition finds
+module _ {n : ℕ} {types t t′ : List ℕ} {s d r : ℕ} (w : Shares n (length types) types t s d r t′) (dest : ℕ → ℕ) (v : Values) (h : Knows n types t dest v) where
+  abbrev asked : Option ℕ
+  asked = lowestSlot types v (valueAt n types t dest d) (getD types s 0)
 
-  pub copy-none : {f : Found} {d : ℕ} (i : Instruction) → Ready n (length types) t → d < limit n (length types) (memoryOf n (length types) t)
-      → f ≡ usableAt types (memoryOf n (length types) t) d (getD types (i .a) 0) → f ≡ Nothing
-      → (dest : ℕ → ℕ) (z : List ℕ) (l : ℕ) (T : Tables) (v : Values) → Knows n types t dest v
-      → i ≡ copyOrStay (sectionsWith types z l T) i (recordedSlot types v (valueAt n types t dest d) (getD types (i .a) 0))
-  unfolding copyOrStay slotFound
-  copy-none {f} {d} i g low e q dest z l T v h =
-      let known : none ≡ recordedSlot types v (valueAt n types t dest d) (getD types (i .a) 0)
-      = ap slotFound (sym (sym e ∙ q)) ∙ usable-holds n (length types) (few g) (g .order) dest h types d (getD types (i .a) 0) low in
-      rw (sym known)
+  pub shared-slot : r < length types → lowestSlot types v (valueAt n types t dest d) (getD types s 0) ≡ some r
+  unfolding orItself
+  shared-slot l = go asked (w .lowest dest v h)
+    where
+      go : (o : Option ℕ) → r ≡ orItself (length types) o → o ≡ some r
+      go (some q) e = ap some (sym e)
+      go none e = absurd (omega arith)
+
+  pub shared-none : length types ≤ r → lowestSlot types v (valueAt n types t dest d) (getD types s 0) ≡ none
+  unfolding orItself
+  shared-none l = go asked refl (w .lowest dest v h)
+    where
+      go : (o : Option ℕ) → asked ≡ o → r ≡ orItself (length types) o → o ≡ none
+      go (some q) a e = absurd (omega (arith, lowest-found v (valueAt n types t dest d) (getD types s 0) types q a .1))
+      go none a e = refl
 
 -- the number of an expression's value is in use
 pub found-low : {n S : ℕ} {t : List ℕ} {f : Found} → Ready n S t → (k : Key) (d : ℕ) → f ≡ expressionAt n S (memoryOf n S t) k → f ≡ At d → d < limit n S (memoryOf n S t)
@@ -114,8 +105,8 @@ found-low {n} {S} {t} g k d e q = go (newest (memoryOf n S t .expressionTable) n
         rw (← same) (g .order .values-low j low)
 
 -- the value of an expression of two numbers
-pub known-expression : {n S : ℕ} (t : List ℕ) {k : Key} {f : Found} {dest : ℕ → ℕ} {v : Values} (op flags left right : ℕ) → op < 256 → flags < 256
-    → left < limit n S (memoryOf n S t) → right < limit n S (memoryOf n S t) → k ≡ expressionKey op flags left right → f ≡ expressionAt n S (memoryOf n S t) k → Holds n S dest v (memoryOf n S t)
+pub known-expression : {n S : ℕ} (t : List ℕ) {k : Key} {f : Found} {types : List ℕ} {dest : ℕ → ℕ} {v : Values} (op flags left right : ℕ) → op < 256 → flags < 256
+    → left < limit n S (memoryOf n S t) → right < limit n S (memoryOf n S t) → k ≡ expressionKey op flags left right → f ≡ expressionAt n S (memoryOf n S t) k → Holds n S types dest v (memoryOf n S t)
     → atomFound n S dest (memoryOf n S t) f ≡ expressionIn (v .expressions) (expressionOf op flags (atomIn n S dest (memoryOf n S t) left) (atomIn n S dest (memoryOf n S t) right))
-known-expression {n} {S} t {k} {f} {dest} op flags left right a b c d q e h =
+known-expression {n} {S} t {k} {f} {dest = dest} op flags left right a b c d q e h =
     ap (atomFound n S dest (memoryOf n S t)) (e ∙ ap (expressionAt n S (memoryOf n S t)) q) ∙ h .expressions op flags left right a b c d

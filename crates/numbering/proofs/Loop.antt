@@ -36,10 +36,10 @@ stands code n p h = record { op = omega arith; flags = omega arith; a = omega ar
 
 -- a block's start
 pub enters-cleared : {n S leader : ℕ} {t t′ : List ℕ} → leader ≡ 1 → Clears n S t t′ → Enters n S leader t t′
-enters-cleared e d = rw e (record { kept = d .kept; holds = λ dest v h. d .holds dest })
+enters-cleared e d = rw e (record { kept = d .kept; holds = λ types dest v h. d .holds types dest })
 
 pub enters-same : {n S leader : ℕ} {t : List ℕ} → (leader ≡ 1 → ⊥) → Ready n S t → Enters n S leader t t
-enters-same {leader = leader} e g = record { kept = unchanged g; holds = λ dest v h. rw (ne-eqb leader 1 e) h }
+enters-same {leader = leader} e g = record { kept = unchanged g; holds = λ types dest v h. rw (ne-eqb leader 1 e) h }
 
 pub enter-room : {n S : ℕ} {t t₁ : List ℕ} → Room n S t → memoryOf n S t .epoch + 1 < 4294967295 → Kept n S 1 0 0 t t₁ → Room n S t₁
 enter-room g more d =
@@ -52,11 +52,11 @@ enter-room g more d =
 
 pub turns : {n : ℕ} {types t t₁ t′ constants : List ℕ} {leader w p y : ℕ} {x : Instruction} → Enters n (length types) leader t t₁
     → Becomes n types 1 1 1 t₁ x t′ (λ dest c. Stands n p (ofWord w) dest × (c ≡ constants)) (λ dest S v. number S p (ofWord w) v) → y ≡ toWord x → Turns n types constants leader w p t y t′
-turns {constants = constants} {leader = leader} d b e =
+turns {types = types} {constants = constants} {leader = leader} d b e =
     record {
       kept = kept-then (d .kept) (b .kept);
       holds = λ dest l T v z h.
-          let r = b .holds dest constants l T (cond (eqb leader 1) empty v) (z, refl) (d .holds dest v h) in
+          let r = b .holds dest constants l T (cond (eqb leader 1) empty v) (z, refl) (d .holds types dest v h) in
           (e ∙ ap toWord (r .0), r .1);
     }
 
@@ -70,7 +70,7 @@ pub record Progress (code₀ leaders types constants : List ℕ) (n : ℕ) (code
   pub expressions-few : memoryOf n (length types) memory .expressions ≤ p
   pub epochs-few : memoryOf n (length types) memory .epoch ≤ 2 * p + 1
   pub later : (q : ℕ) → p ≤ q → getD code q 0 ≡ getD code₀ q 0
-  pub walk : (locals : ℕ) (tables : Tables) → (v : Values) × Holds n (length types) (destOf code₀) v (memoryOf n (length types) memory)
+  pub walk : (locals : ℕ) (tables : Tables) → (v : Values) × Holds n (length types) types (destOf code₀) v (memoryOf n (length types) memory)
       × (take p code ++ numberWords (sectionsWith types constants locals tables) leaders p v (drop p code₀) ≡ numberWords (sectionsWith types constants locals tables) leaders 0 empty code₀)
 
 module _ {code₀ leaders types constants : List ℕ} {n : ℕ} where
@@ -86,7 +86,7 @@ module _ {code₀ leaders types constants : List ℕ} {n : ℕ} where
         expressions-few = omega (arith, b .expressions);
         epochs-few = omega (arith, b .epoch);
         later = λ q h. refl;
-        walk = λ locals tables. (empty, b .holds (destOf code₀), refl);
+        walk = λ locals tables. (empty, b .holds types (destOf code₀), refl);
       }
 
   -- room for a turn

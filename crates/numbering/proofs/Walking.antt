@@ -17,13 +17,13 @@ use Rattle.instruction.specs.declared.Class.the-variants.{Return}
 use Rattle.instruction.specs.Instruction.{plain, withImm32}
 use Rattle.values.specs.Fold.{fitsImm32}
 use Rattle.effects.specs.Shape.{Sections, Tables}
-use Rattle.values.specs.Values.{Values, Expression, valueOf, expressionIn, recordedSlot, representative, learn}
-use Rattle.values.specs.Number.{Numbered, setA, setB, setBC, loadOrStay, stored as storedBy, copyOrStay, byExpression, byValue, numberCopy, numberConstant, numberRead, decided, numberJump, cleared as clearedBy, numberBy}
+use Rattle.values.specs.Values.{Values, Expression, valueOf, expressionIn, lowestSlot, representative, learn}
+use Rattle.values.specs.Number.{Numbered, setA, setB, setBC, heldOrStays, folded, stored as storedBy, copyOrStay, copied, byExpression, byValue, byValueWith, numberCopy, numberConstant, numberRead, decided, numberJump, cleared as clearedBy, numberBy, numberByWith}
 use Rattle.values.specs.laws.Folded.{integerOf, expressionOf}
 use Rattle.values.specs.laws.Entries.{Key}
 use Rattle.values.specs.laws.Memory.{memoryOf, numberAt, keyAtom, constantKey, expressionKey, limit, integerAt, expressionAt, Ready, atomIn, atomFound, Holds}
-use Rattle.values.specs.laws.Promises.{Kept, Clears, Represents, Stores, Interns, Learns}
-use Rattle.numbering.specs.laws.Walk.{sectionsWith, wordOf, Stands, Becomes, Second, secondNumber, foldBy, secondOf, atomOf, KindOf, combined, operated, scalarIn, undecidedBy, pureBy, otherBy}
+use Rattle.values.specs.laws.Promises.{Kept, Clears, Represents, Stores, Shares, Interns, Learns}
+use Rattle.numbering.specs.laws.Walk.{sectionsWith, loadOf, wordOf, Stands, Becomes, Second, secondNumber, foldBy, secondOf, atomOf, KindOf, operated, scalarIn, undecidedBy, pureBy, otherBy}
 use Rattle.values.specs.declared.Atom.{Atom}
 use Rattle.values.specs.declared.Atom.the-variants.{Integer, Float, Definition}
 use Rattle.values.specs.declared.Found.{Found}
@@ -35,7 +35,7 @@ use Rattle.values.specs.declared.Folded.the-variants.{Word, Not}
 use Rattle.values.proofs.Atom.{the-type}
 use Rattle.values.proofs.Atoms.{atom-place, atom-zero, integer-at}
 use Rattle.values.proofs.Recording.{unchanged, same-self}
-use Rattle.numbering.proofs.Keeping.{widen, kept-then, same-value, same-then, valueAt, Knows, known-expression}
+use Rattle.numbering.proofs.Keeping.{widen, kept-then, same-value, same-then, valueAt, Knows, shared-slot, shared-none, known-expression}
 
 -- ---- steps
 
@@ -78,7 +78,7 @@ module _ {n : ℕ} {types : List ℕ} {t : List ℕ} where
   pub store-interned : (i : Instruction) {x : Instruction} {kind bits d : ℕ} {t₁ t′ : List ℕ} → Interns n (length types) t kind bits d t₁
       → Becomes n types 0 0 0 t₁ x t′ (λ dest z. Unit {0}) (λ dest S v. storedBy S i v (valueAt n types t₁ dest d))
       → Becomes n types 0 1 0 t x t′ (λ dest z. Unit {0}) (λ dest S v. storedBy S i v (keyAtom (constantKey kind bits)))
-  store-interned i d b = after (λ dest v. v) (d .kept) (d .holds) (λ dest z l T v y h. (tt, rw (d .is dest))) b
+  store-interned i d b = after (λ dest v. v) (d .kept) (d .holds types) (λ dest z l T v y h. (tt, rw (d .is dest))) b
 
   -- all values are forgotten
   pub forget-becomes : {i x : Instruction} {t′ : List ℕ} {c e : ℕ} {Good : (ℕ → ℕ) → List ℕ → Type 0} {f : (ℕ → ℕ) → Sections → Values → Numbered} → (x ≡ i) × Clears n (length types) t t′
@@ -86,7 +86,7 @@ module _ {n : ℕ} {types : List ℕ} {t : List ℕ} where
   forget-becomes p e =
       record {
         kept = widen (omega arith) (omega arith) (omega arith) (p .1 .kept);
-        holds = λ dest z l T v y h. rw (e dest z l T v) (p .0, p .1 .holds dest);
+        holds = λ dest z l T v y h. rw (e dest z l T v) (p .0, p .1 .holds types dest);
       }
 
   -- nothing changes but the instruction
@@ -95,15 +95,28 @@ module _ {n : ℕ} {types : List ℕ} {t : List ℕ} where
       → f dest (sectionsWith types z l T) v ≡ record { instruction = x; table = v }) → Becomes n types k c e t x t Good f
   stay-becomes g e = record { kept = unchanged g; holds = λ dest z l T v y h. rw (e dest z l T v h) (refl, h) }
 
-  pub copied-becomes : (d : ℕ) (i : Instruction) {j x : Instruction} {t′ : List ℕ}
+  -- a store, and a copy of the lowest slot that held the value
+  copied-becomes : (i : Instruction) {d r : ℕ} {j : Instruction} {t′ : List ℕ} → Shares n (length types) types t (i .a) d r t′ → j .a ≡ i .a
       → ((dest : ℕ → ℕ) (z : List ℕ) (l : ℕ) (T : Tables) (v : Values) → Knows n types t dest v
-      → j ≡ copyOrStay (sectionsWith types z l T) i (recordedSlot types v (valueAt n types t dest d) (getD types (i .a) 0)))
-      → Becomes n types 0 0 0 t x t′ (λ dest z. Unit {0}) (λ dest S v. storedBy S j v (valueAt n types t dest d))
-      → Becomes n types 0 0 0 t x t′ (λ dest z. Unit {0})
-      (λ dest S v. storedBy S (copyOrStay S i (recordedSlot (S .types) v (valueAt n types t dest d) (getD (S .types) (i .a) 0))) v (valueAt n types t dest d))
-  copied-becomes d i g b =
+      → j ≡ copied (sectionsWith types z l T) i v (valueAt n types t dest d))
+      → Becomes n types 0 0 0 t j t′ (λ dest z. Unit {0})
+      (λ dest S v. storedBy S (copied S i v (valueAt n types t dest d)) v (valueAt n types t dest d))
+  copied-becomes i {d} {t′ = t′} w a g =
+      let b : Stores n (length types) types t (i .a) d t′ = w .stores in
       as-becomes (omega arith) (omega arith) (omega arith)
-      (λ dest z l T v y h. (y, ap (λ (j : Instruction). storedBy (sectionsWith types z l T) j v (valueAt n types t dest d)) (g dest z l T v h))) b
+      (λ dest z l T v y h. (y, ap (λ (j : Instruction). storedBy (sectionsWith types z l T) j v (valueAt n types t dest d)) (g dest z l T v h))) (store-becomes (rw (sym a) at b))
+
+  pub copy-found : (i : Instruction) {d r : ℕ} {j : Instruction} {t′ : List ℕ} → Shares n (length types) types t (i .a) d r t′ → r < length types → j ≡ plain 3 (i .a) r 0
+      → Becomes n types 0 0 0 t j t′ (λ dest z. Unit {0})
+      (λ dest S v. storedBy S (copied S i v (valueAt n types t dest d)) v (valueAt n types t dest d))
+  unfolding copied copyOrStay
+  copy-found i w l e = copied-becomes i w (rw e) (λ dest z k T v h. rw (shared-slot w dest v h l) e)
+
+  pub copy-none : (i : Instruction) {d r : ℕ} {t′ : List ℕ} → Shares n (length types) types t (i .a) d r t′ → length types ≤ r
+      → Becomes n types 0 0 0 t i t′ (λ dest z. Unit {0})
+      (λ dest S v. storedBy S (copied S i v (valueAt n types t dest d)) v (valueAt n types t dest d))
+  unfolding copied copyOrStay
+  copy-none i w l = copied-becomes i w refl (λ dest z k T v h. rw (shared-none w dest v h l))
 
   -- a new expression, whose value is what place p defines
   pub defines : {i x : Instruction} {p op flags left right : ℕ} {t₁ t′ : List ℕ} → Learns n (length types) t op flags left right (length types + p) t₁
@@ -115,7 +128,7 @@ module _ {n : ℕ} {types : List ℕ} {t : List ℕ} where
       (λ dest v.
       learn v (expressionOf op flags (valueAt n types t dest left) (valueAt n types t dest right))
       (valueAt n types t dest (length types + p)))
-      (d .kept) (d .holds)
+      (d .kept) (d .holds types)
       (λ dest z l T v y h.
       let here : valueAt n types t dest (length types + p) ≡ Definition p (i .a)
       = atom-place n (length types) dest (memoryOf n (length types) t .constantTable) p (y .place) ∙ ap (Definition p) (sym (y .own)) in
@@ -129,7 +142,7 @@ module _ {n : ℕ} {types : List ℕ} {t : List ℕ} where
       (q : k ≡ expressionKey (i .op) (i .flags) left right) where
     pub expression-found : {f : Found} (d : ℕ) → f ≡ expressionAt n (length types) (memoryOf n (length types) t) k → f ≡ At d
         → Becomes n types 0 0 0 t x t′ (λ dest z. Unit {0})
-        (λ dest S v. storedBy S (copyOrStay S i (recordedSlot (S .types) v (valueAt n types t dest d) (getD (S .types) (i .a) 0))) v (valueAt n types t dest d))
+        (λ dest S v. storedBy S (copied S i v (valueAt n types t dest d)) v (valueAt n types t dest d))
         → Becomes n types 0 0 1 t x t′ (λ dest z. Stands n p i dest)
         (λ dest S v. byExpression S p i v (expressionOf (i .op) (i .flags) (valueAt n types t dest left) (valueAt n types t dest right)) (expressionIn (v .expressions) (expressionOf (i .op) (i .flags) (valueAt n types t dest left) (valueAt n types t dest right))))
     unfolding byExpression atomFound
@@ -156,27 +169,35 @@ module _ {n : ℕ} {types : List ℕ} {t : List ℕ} where
         (y, rw (sym known)))
         (b (i .op) (i .flags) left right a c lowl lowr q)
 
-  -- folded, or looked up
-  pub folded-word : (i : Instruction) (p : ℕ) (g : (ℕ → ℕ) → Expression) {f : Folded} {j : Instruction} {w : ℕ} {x : Instruction} {t′ : List ℕ} → f ≡ Word w → j ≡ loadOrStay i w
+  -- a folded value that fits, and one that does not
+  pub word-fits : (i : Instruction) (w : ℕ) {b : Bool} {x j : Instruction} {t′ : List ℕ} → b ≡ fitsImm32 w → b ≡ true → j ≡ loadOf i w
       → Becomes n types 0 1 0 t x t′ (λ dest z. Unit {0}) (λ dest S v. storedBy S j v (keyAtom (constantKey 0 w)))
+      → Becomes n types 0 1 0 t x t′ (λ dest z. Unit {0}) (λ dest S v. storedBy S (folded S (heldOrStays S) i v w) v (Integer w))
+  unfolding folded keyAtom
+  word-fits i w e q s b =
+      let fits = sym e ∙ q in
+      as-becomes (omega arith) (omega arith) (omega arith) (λ dest z l T v y h. (tt, rw (fits, s))) b
+
+  pub word-wide : (i : Instruction) (w : ℕ) {d : ℕ} {b : Bool} {x : Instruction} {t₁ t′ : List ℕ} → b ≡ fitsImm32 w → b ≡ false → Interns n (length types) t 0 w d t₁
+      → Becomes n types 0 0 0 t₁ x t′ (λ dest z. Unit {0}) (λ dest S v. storedBy S (copied S i v (valueAt n types t₁ dest d)) v (valueAt n types t₁ dest d))
+      → Becomes n types 0 1 0 t x t′ (λ dest z. Unit {0}) (λ dest S v. storedBy S (folded S (heldOrStays S) i v w) v (Integer w))
+  unfolding folded keyAtom
+  word-wide i w e q d b =
+      let wide = sym e ∙ q in
+      after (λ dest v. v) (d .kept) (d .holds types) (λ dest z l T v y h. (tt, rw (d .is dest, wide))) b
+
+  -- folded, or looked up
+  pub folded-word : (i : Instruction) (p : ℕ) (g : (ℕ → ℕ) → Expression) {f : Folded} {w : ℕ} {x : Instruction} {t′ : List ℕ} → f ≡ Word w
+      → Becomes n types 0 1 0 t x t′ (λ dest z. Unit {0}) (λ dest S v. storedBy S (folded S (heldOrStays S) i v w) v (Integer w))
       → Becomes n types 0 1 1 t x t′ (λ dest z. Stands n p i dest) (λ dest S v. byValue S p i v (g dest) (wordOf f))
-  unfolding byValue wordOf keyAtom
-  folded-word i p g q s b = as-becomes (omega arith) (omega arith) (omega arith) (λ dest z l T v y h. (tt, rw (q, s))) b
+  unfolding byValueWith wordOf
+  folded-word i p g q b = as-becomes (omega arith) (omega arith) (omega arith) (λ dest z l T v y h. (tt, rw q)) b
 
   pub folded-not : (i : Instruction) (p : ℕ) (g : (ℕ → ℕ) → Expression) {f : Folded} {x : Instruction} {t′ : List ℕ} → f ≡ Not
       → Becomes n types 0 0 1 t x t′ (λ dest z. Stands n p i dest) (λ dest S v. byExpression S p i v (g dest) (expressionIn (v .expressions) (g dest)))
       → Becomes n types 0 1 1 t x t′ (λ dest z. Stands n p i dest) (λ dest S v. byValue S p i v (g dest) (wordOf f))
-  unfolding byValue wordOf
+  unfolding byValueWith wordOf
   folded-not i p g q b = as-becomes (omega arith) (omega arith) (omega arith) (λ dest z l T v y h. (y, rw q)) b
-
--- an instruction that becomes LoadInt keeps its destination
-pub load-a : (i : Instruction) (v : ℕ) → loadOrStay i v .a ≡ i .a
-unfolding loadOrStay
-load-a i v = go (fitsImm32 v)
-  where
-    go : (t : Bool) → cond t (withImm32 (plain 1 (i .a) 0 0) (v % 2 ^ 32)) i .a ≡ i .a
-    go true = refl
-    go false = refl
 
 -- other operands, the same destination
 other-operands : {n p : ℕ} {i : Instruction} {dest : ℕ → ℕ} (b c : ℕ) → Stands n p i dest → Stands n p (setBC i b c) dest
@@ -209,7 +230,7 @@ known-integer n types t dest v h s d w low e q =
 
 pub return-other : (types : List ℕ) (i : Instruction) (z : List ℕ) (l : ℕ) (T : Tables) (v : Values) → (eqb (i .b) 1 && scalarIn types (i .a)) ≡ false
     → numberBy (sectionsWith types z l T) Return 0 i v ≡ clearedBy (sectionsWith types z l T) i
-unfolding numberBy
+unfolding numberByWith
 return-other types i z l T v e = rw e
 
 -- no store to a scalar
@@ -235,59 +256,51 @@ kind-known h e = rw e at h
 
 -- the second operand of a binary opcode; a unary one has none
 module _ {n S : ℕ} (types : List ℕ) {t : List ℕ} where
-  pub second-chosen : {s d slot : ℕ} {b : Bool} {t₁ : List ℕ} → b ≡ true → Represents n S types t s d slot t₁ → Second n S types t s d b slot t₁
+  pub second-chosen : {s d slot : ℕ} {b : Bool} {t₁ : List ℕ} → b ≡ true → Represents n S types t s d slot t₁ → Second n S types t s b slot t₁
   unfolding secondOf
-  second-chosen e d = rw e (record { kept = d .kept; same = d .same; low = λ z. d .low; number = λ z. d .number; holds = d .holds })
+  second-chosen e d = rw e (record { kept = d .kept; same = d .same; holds = d .holds })
 
-  pub second-none : {s d : ℕ} {b : Bool} → Ready n S t → b ≡ false → Second n S types t s d b s t
+  pub second-none : {s : ℕ} {b : Bool} → Ready n S t → b ≡ false → Second n S types t s b s t
   unfolding secondOf
-  second-none g e =
-      rw e (record {
-        kept = unchanged g;
-        same = same-self g;
-        low = λ z. let f : _≡_ {A = ℕ} 0 1 = cc in absurd (omega arith);
-        number = λ z. let f : _≡_ {A = ℕ} 0 1 = cc in absurd (omega arith);
-        holds = λ dest v h. (refl, h);
-      })
+  second-none g e = rw e (record { kept = unchanged g; same = same-self g; holds = λ dest v h. (refl, h) })
 
   -- its value
-  second-value : {s d slot : ℕ} (b : Bool) {t₁ : List ℕ} {dest : ℕ → ℕ} {v : Values} → d ≡ secondNumber n S (memoryOf n S t) s b → Second n S types t s d b slot t₁ → Holds n S dest v (memoryOf n S t₁)
-      → atomIn n S dest (memoryOf n S t₁) d ≡ cond b (valueOf v slot) (Integer 0)
+  second-value : {s d slot : ℕ} (b : Bool) {t₁ : List ℕ} {dest : ℕ → ℕ} {v : Values} → (b ≡ true → s < S) → d ≡ secondNumber n S (memoryOf n S t) s b → Second n S types t s b slot t₁
+      → Holds n S types dest v (memoryOf n S t₁) → atomIn n S dest (memoryOf n S t₁) d ≡ cond b (valueOf v s) (Integer 0)
   unfolding secondNumber
-  second-value {s} {d} {slot} true e w h = same-value (w .same) slot d (w .low refl) (w .number refl) h
-  second-value {s} {d} {slot} false {t₁} {dest} e w h = ap (atomIn n S dest (memoryOf n S t₁)) e ∙ atom-zero n S dest (memoryOf n S t₁ .constantTable)
+  second-value {s} {d} true l e w h = same-value (w .same) s d (l refl) (sym e) h
+  second-value {s} {d} false {t₁} {dest} l e w h = ap (atomIn n S dest (memoryOf n S t₁)) e ∙ atom-zero n S dest (memoryOf n S t₁ .constantTable)
 
 module _ {n : ℕ} {types : List ℕ} {t : List ℕ} where
   pub operator-becomes : (i : Instruction) (p : ℕ) (b : Bool) {left right slot slot₂ : ℕ} {t₁ t₂ : List ℕ} (f : Folded) {x : Instruction} {t′ : List ℕ}
+      → i .b < length types → (b ≡ true → i .c < length types) → left ≡ numberAt (memoryOf n (length types) t) (i .b)
       → Represents n (length types) types t (i .b) left slot t₁ → right ≡ secondNumber n (length types) (memoryOf n (length types) t₁) (i .c) b
-      → Second n (length types) types t₁ (i .c) right b slot₂ t₂
+      → Second n (length types) types t₁ (i .c) b slot₂ t₂
       → ((dest : ℕ → ℕ) → wordOf f ≡ foldBy b (expressionOf (i .op) (i .flags) (valueAt n types t₂ dest left) (valueAt n types t₂ dest right)))
       → Becomes n types 0 1 1 t₂ x t′ (λ dest z. Stands n p (setBC i slot slot₂) dest)
       (λ dest S v. byValue S p (setBC i slot slot₂) v (expressionOf (i .op) (i .flags) (valueAt n types t₂ dest left) (valueAt n types t₂ dest right)) (wordOf f))
       → Becomes n types 0 1 1 t x t′ (λ dest z. Stands n p i dest) (λ dest S v. operated S b p i v)
-  unfolding operated combined
-  operator-becomes i p b {left} {right} {slot} {slot₂} {t₁} {t₂} f d e d₂ g w =
-      after (λ dest v. secondOf types (representative types v (i .b) .table) (i .c) b .table) (kept-then (d .kept) (d₂ .kept))
-      (λ dest v h. d₂ .holds dest (representative types v (i .b) .table) (d .holds dest v h .1) .1)
+  unfolding operated
+  operator-becomes i p b {left} {right} {slot} {slot₂} {t₁} {t₂} f lb lc is d e d₂ g w =
+      after (λ dest v. v) (kept-then (d .kept) (d₂ .kept)) (λ dest v h. d₂ .holds dest v (d .holds dest v h .1) .1)
       (λ dest z l T v y h.
       let h₁ = d .holds dest v h in
-      let h₂ = d₂ .holds dest (representative types v (i .b) .table) (h₁ .1) in
-      let lefts : valueAt n types t₂ dest left ≡ valueOf (secondOf types (representative types v (i .b) .table) (i .c) b .table) slot
-      = same-value (same-then (d .same) (d₂ .same)) slot left (d .low) (d .number) (h₂ .1) in
-      let rights : valueAt n types t₂ dest right ≡ cond b (valueOf (secondOf types (representative types v (i .b) .table) (i .c) b .table) slot₂) (Integer 0)
-      = second-value types b e d₂ (h₂ .1) in
+      let h₂ = d₂ .holds dest v (h₁ .1) in
+      let lefts : valueAt n types t₂ dest left ≡ valueOf v (i .b) = same-value (same-then (d .same) (d₂ .same)) (i .b) left lb (sym is) (h₂ .1) in
+      let rights : valueAt n types t₂ dest right ≡ cond b (valueOf v (i .c)) (Integer 0) = second-value types b lc e d₂ (h₂ .1) in
       (other-operands slot slot₂ y, rw (g dest, lefts, rights, h₁ .0, h₂ .0)))
       w
 
-  pub copy-becomes : (i : Instruction) {d slot : ℕ} {t₁ : List ℕ} {x : Instruction} {t′ : List ℕ} → Represents n (length types) types t (i .b) d slot t₁
+  pub copy-becomes : (i : Instruction) {d slot : ℕ} {t₁ : List ℕ} {x : Instruction} {t′ : List ℕ} → i .b < length types → d ≡ numberAt (memoryOf n (length types) t) (i .b)
+      → Represents n (length types) types t (i .b) d slot t₁
       → Becomes n types 0 0 0 t₁ x t′ (λ dest z. Unit {0}) (λ dest S v. storedBy S (setB i slot) v (valueAt n types t₁ dest d))
       → Becomes n types 0 0 0 t x t′ (λ dest z. Unit {0}) (λ dest S v. numberCopy S i v)
   unfolding numberCopy
-  copy-becomes i {d} {slot} {t₁} r b =
-      after (λ dest v. representative types v (i .b) .table) (r .kept) (λ dest v h. r .holds dest v h .1)
+  copy-becomes i {d} {slot} {t₁} low is r b =
+      after (λ dest v. v) (r .kept) (λ dest v h. r .holds dest v h .1)
       (λ dest z l T v y h.
       let q = r .holds dest v h in
-      let known : valueAt n types t₁ dest d ≡ valueOf (representative types v (i .b) .table) slot = same-value (r .same) slot d (r .low) (r .number) (q .1) in
+      let known : valueAt n types t₁ dest d ≡ valueOf v (i .b) = same-value (r .same) (i .b) d low (sym is) (q .1) in
       (tt, rw (known, q .0)))
       b
 
@@ -346,7 +359,7 @@ module _ {n : ℕ} {types : List ℕ} {t : List ℕ} where
   -- a return
   pub return-read : (i : Instruction) {s : Bool} {x : Instruction} {t′ : List ℕ} → i .b ≡ 1 → s ≡ scalarIn types (i .a) → s ≡ true
       → Becomes n types 0 0 0 t x t′ (λ dest z. Unit {0}) (λ dest S v. numberRead S i v) → Becomes n types 1 0 0 t x t′ (λ dest z. Unit {0}) (λ dest S v. numberBy S Return 0 i v)
-  unfolding numberBy
+  unfolding numberByWith
   return-read i r e q b =
       let known : scalarIn types (i .a) ≡ true = sym e ∙ q in
       as-becomes (omega arith) (omega arith) (omega arith) (λ dest z l T v y h. (y, rw (eq-eqb (i .b) 1 r, known))) b

@@ -3,21 +3,21 @@ ghost use mathlib.Core.Path.{_≡_};
 ghost use mathlib.Core.Bool.{true};
 ghost use mathlib.Core.List.{List, map};
 ghost use Prim.Native.Nat.{ℕ, _+_, _≤_, _<_};
-ghost use lib.ListN.{length, getD};
+ghost use lib.ListN.{length};
 ghost use borrow.Rule.Slice.PartMut.{midOf};
 ghost use Rattle.instruction.specs.Instruction.{class, ofWord, toWord};
 ghost use Rattle.effects.specs.Shape.{Cell, Tables};
 ghost use Rattle.effects.specs.laws.Cells.{cellsBy};
-ghost use Rattle.values.specs.Values.{valueOf, expressionIn, recordedSlot, learn};
-ghost use Rattle.values.specs.Number.{loadOrStay, copyOrStay, constantAtom, stored as storedBy, byExpression, byValue, numberCopy, numberConstant, numberRead, numberJump, numberBy, number, numberCode};
+ghost use Rattle.values.specs.Values.{valueOf, expressionIn, learn};
+ghost use Rattle.values.specs.Number.{heldOrStays, copied, folded, constantAtom, stored as storedBy, byExpression, byValue, numberCopy, numberConstant, numberRead, numberJump, numberBy, number, numberCode};
 ghost use Rattle.values.specs.laws.Folded.{expressionOf};
 ghost use Rattle.values.specs.laws.Memory.{memoryOf, keyAtom, constantKey, expressionKey, limit, expressionAt, atomIn, endAt, Ready};
 ghost use Rattle.values.specs.laws.Entries.{key, bucketOf, headAt};
 ghost use Rattle.values.specs.laws.Promises.{Clears};
-ghost use Rattle.numbering.specs.laws.Walk.{wordOf, Stands, Becomes, Room, Coded, Second, secondNumber, foldBy, binaryClass, operatorClass, onZero, atomOf, KindOf, operated, scalarIn, pureBy, undecidedBy, takes, otherBy, sectionsWith, Begins, Enters, Turns, Numberable, limitAt, expressionWith};
+ghost use Rattle.numbering.specs.laws.Walk.{loadOf, wordOf, Stands, Becomes, Room, Coded, Second, secondNumber, foldBy, binaryClass, operatorClass, onZero, atomOf, KindOf, operated, scalarIn, pureBy, undecidedBy, takes, otherBy, sectionsWith, Begins, Enters, Turns, Numberable, limitAt, expressionWith};
 ghost use Rattle.values.specs.laws.Named.{Named};
 ghost use Rattle.instruction.specs.declared.Class.the-variants.{Return};
-ghost use Rattle.values.specs.declared.Atom.the-variants.{Definition};
+ghost use Rattle.values.specs.declared.Atom.the-variants.{Integer, Definition};
 ghost use Rattle.values.specs.declared.Found.the-variants.{Nothing};
 use crate::Loaded;
 use instruction::Class;
@@ -31,14 +31,11 @@ use values::entries;
 use values::fold;
 use values::table;
 
-// "A folded result becomes LoadInt exactly if its signed reading fits 32 bits; otherwise the instruction stays"
-fn load_or_stay(i: Instruction, v: u64) -> Instruction
-    ensures { λ r. ⌜ r ≡ loadOrStay i v ⌝ }
+// LoadInt of a word that fits 32 bits.
+fn load(i: Instruction, v: u64) -> Instruction
+    ensures { λ r. ⌜ r ≡ loadOf i v ⌝ }
 {
-    if fold::fits_imm32(v) {
-        return Instruction::new(opcode::LOAD_INT, i.a, 0, 0).with_imm32((v % 4294967296) as u32);
-    }
-    i
+    Instruction::new(opcode::LOAD_INT, i.a, 0, 0).with_imm32((v % 4294967296) as u32)
 }
 
 // The instruction stays as it is given, and its destination has the value with the number d.
@@ -75,17 +72,18 @@ fn expression_word(op: u8, flags: u8, left: u64, right: u64) -> u64
     (op as u64) + 256 * (flags as u64) + 65536 * left + 1099511627776 * right
 }
 
-// An equal expression, whose value has the number d: "becomes Copy from the recorded slot under the same two conditions, the type
-// being the destination's; otherwise it stays"
+// An equal expression, whose value has the number d: "becomes Copy from" the lowest slot that holds it, "the type being the
+// destination's; otherwise it stays"
 fn copy_or_stay(t: &mut [u64], types: &[u8], n: usize, i: Instruction, d: u64) -> Instruction
     requires { ⌜ Ready n (length (now types)) (now t) × (i .a < length (now types)) × (d < limit n (length (now types)) (memoryOf n (length (now types)) (now t))) ⌝ }
-    ensures { λ r. ⌜ Becomes n (now (types .entry)) 0 0 0 (now (t .entry)) r (now (t .exit)) (λ dest constants. Unit {0}) (λ dest S x. storedBy S (copyOrStay S i (recordedSlot (S .types) x (atomIn n (length (now (types .entry))) dest (memoryOf n (length (now (types .entry))) (now (t .entry))) d) (getD (S .types) (i .a) 0))) x (atomIn n (length (now (types .entry))) dest (memoryOf n (length (now (types .entry))) (now (t .entry))) d)) ⌝ }
+    ensures { λ r. ⌜ Becomes n (now (types .entry)) 0 0 0 (now (t .entry)) r (now (t .exit)) (λ dest constants. Unit {0}) (λ dest S x. storedBy S (copied S i x (atomIn n (length (now (types .entry))) dest (memoryOf n (length (now (types .entry))) (now (t .entry))) d)) x (atomIn n (length (now (types .entry))) dest (memoryOf n (length (now (types .entry))) (now (t .entry))) d)) ⌝ }
 {
     let a = i.a;
-    match table::store(t, types, n, a, d) {
-        Found::At(r) => Instruction::new(opcode::COPY, i.a, r as u16, 0),
-        Found::Nothing => i,
+    let r = table::share(t, types, n, a, d);
+    if r < types.len() {
+        return Instruction::new(opcode::COPY, i.a, r as u16, 0);
     }
+    i
 }
 
 // A new expression: its value is what this place defines.
@@ -130,6 +128,18 @@ fn by_expression(
     }
 }
 
+// "LoadInt if it fits; else Copy from the slot of L1 that holds the same known integer in the same type; else the instruction stays"
+fn by_word(t: &mut [u64], types: &[u8], n: usize, i: Instruction, v: u64) -> Instruction
+    requires { ⌜ Room n (length (now types)) (now t) × (i .a < length (now types)) ⌝ }
+    ensures { λ r. ⌜ Becomes n (now (types .entry)) 0 1 0 (now (t .entry)) r (now (t .exit)) (λ dest constants. Unit {0}) (λ dest S x. storedBy S (folded S (heldOrStays S) i x v) x (Integer v)) ⌝ }
+{
+    if fold::fits_imm32(v) {
+        return store_constant(t, types, n, load(i, v), 0, v);
+    }
+    let d = table::constant(t, n, types.len(), 0, v);
+    copy_or_stay(t, types, n, i, d)
+}
+
 // Folded, or looked up.
 fn by_value(
     t: &mut [u64],
@@ -145,7 +155,7 @@ fn by_value(
     ensures { λ r. ⌜ Becomes n (now (types .entry)) 0 1 1 (now (t .entry)) r (now (t .exit)) (λ dest constants. Stands n p i dest) (λ dest S x. byValue S p i x (expressionWith n (now (types .entry)) (now (t .entry)) dest (i .op) (i .flags) left right) (wordOf folded)) ⌝ }
 {
     match folded {
-        Folded::Word(v) => store_constant(t, types, n, load_or_stay(i, v), 0, v),
+        Folded::Word(v) => by_word(t, types, n, i, v),
         Folded::Not => by_expression(t, types, n, i, p, left, right),
     }
 }
@@ -164,7 +174,7 @@ fn second_number(t: &[u64], n: usize, locals: usize, s: u16, binary: bool) -> u6
 // The second operand of a binary opcode; a unary one has none.
 fn second(t: &mut [u64], types: &[u8], n: usize, s: u16, d: u64, binary: bool) -> u16
     requires { ⌜ Ready n (length (now types)) (now t) × (binary ≡ true → s < length (now types)) × (d ≡ secondNumber n (length (now types)) (memoryOf n (length (now types)) (now t)) s binary) ⌝ }
-    ensures { λ r. ⌜ Second n (length (now (types .entry))) (now (types .entry)) (now (t .entry)) s d binary r (now (t .exit)) ⌝ }
+    ensures { λ r. ⌜ Second n (length (now (types .entry))) (now (types .entry)) (now (t .entry)) s binary r (now (t .exit)) ⌝ }
 {
     if binary {
         return table::representative(t, types, n, s, d);
@@ -464,9 +474,9 @@ fn begin(t: &mut [u64], n: usize, locals: usize)
     requires { ⌜ (0 < n) × (n ≤ 65536) × (locals ≤ 65536) × (endAt n locals ≤ length (now t)) ⌝ }
     ensures { λ _. ⌜ Begins n locals (now (t .entry)) (now (t .exit)) ⌝ }
 {
-    let heads = 4 + 2 * locals + 3 * n;
+    let heads = 5 + 3 * locals + 5 * n;
     words::fill::zero_u64(&mut t[0..heads]);
-    let expressions = 4 + 2 * locals + 7 * n;
+    let expressions = 5 + 3 * locals + 9 * n;
     words::fill::zero_u64(&mut t[expressions..expressions + n]);
     t[0] = 1;
 }
@@ -493,7 +503,7 @@ fn turn(t: &mut [u64], types: &[u8], constants: &[u8], n: usize, leader: u32, w:
 }
 
 // Value numbering of a whole function: its code, one word an instruction at the memory's start, is rewritten. `leaders` has 1 where
-// a block starts. The table of values takes 12 numbers of the memory after the code for each instruction, 2 for each slot and 4
+// a block starts. The table of values takes 14 numbers of the memory after the code for each instruction, 3 for each slot and 5
 // more; what they hold, before and after, is free.
 pub fn number_code(memory: &mut [u64], leaders: &[u32], types: &[u8], constants: &[u8])
     requires { ⌜ Numberable (midOf 0 (length (now leaders)) (now memory)) (now leaders) (now types) (now memory) ⌝ }

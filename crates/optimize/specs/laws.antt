@@ -6,3 +6,5 @@ pub mod NumberedWords
 pub mod Chain
 pub mod Concluded
 pub mod Loading
+pub mod Outcomes
+pub mod Lines

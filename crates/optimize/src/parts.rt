@@ -44,7 +44,7 @@ fn conclude(
     kept: &[u32],
     out: &mut [u8],
 ) -> Answer
-    requires { ⌜ Listed (now keep) (now bounds) (now kept) (length (now words)) × (instructionSize * length (now words) ≤ length (now code)) × (metadataSize * length (now words) ≤ length (now metadata)) × BranchesInside (now words) × (resultSize (length (now words)) ≤ length (now out)) × Controls (now words) (now list) (length (now words)) ⌝ }
+    requires { ⌜ Listed (now keep) (now bounds) (now kept) (length (now words)) × (instructionSize * length (now words) ≤ length (now code)) × (metadataSize * length (now words) ≤ length (now metadata)) × BranchesInside (now words) × (resultSize (length (now words)) 0 ≤ length (now out)) × Controls (now words) (now list) (length (now words)) ⌝ }
     ensures { λ r. ⌜ Answers (removal (cellsIn (length (now (words .entry))) (now (code .entry)) (now (metadata .entry))) (cellsBy (now (words .entry)) (now (metadata .entry))) (now (keep .entry))) r (now (out .entry)) (now (out .exit)) ⌝ }
 {
     let n = words.len();

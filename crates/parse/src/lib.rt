@@ -6,9 +6,9 @@ ghost use lib.Dec.{eqb};
 ghost use lib.ListN.{length};
 ghost use Rattle.words.specs.Le.{u32At};
 ghost use Rattle.words.specs.Lists.{every, lowestBelow};
-ghost use Rattle.unit.specs.Size.{headerSize, metadataSize, constantSize, caseSize};
-ghost use Rattle.unit.specs.Entry.{metadataAt, goodMetadata, isWideSelect, typeAt, goodType, goodConstant, caseAt, goodCase};
-ghost use Rattle.unit.specs.Layout.{headerOf, sectionsFollow, goodCounts, goodEntries, hasSections, wideSelect, layoutOf};
+ghost use Rattle.unit.specs.Size.{headerSize, metadataSize, constantSize, caseSize, lineSize};
+ghost use Rattle.unit.specs.Entry.{metadataAt, goodMetadata, isWideSelect, typeAt, goodType, goodConstant, caseAt, goodCase, goodLine};
+ghost use Rattle.unit.specs.Layout.{headerOf, sectionsFollow, goodCounts, goodEntries, hasSections, linesRise, wideSelect, layoutOf};
 ghost use Rattle.unit.specs.laws.UnitLaws.{Sections};
 use unit::Counts;
 use unit::Header;
@@ -44,6 +44,7 @@ fn counts(unit: &[u8]) -> Counts
         functions: section::word(unit, field::FUNCTIONS),
         externs: section::word(unit, field::EXTERNS),
         cases: section::word(unit, field::CASES),
+        lines: section::word(unit, field::LINES),
     }
 }
 
@@ -59,6 +60,7 @@ fn offsets(unit: &[u8]) -> Offsets
         functions: section::word(unit, field::FUNCTIONS_AT),
         externs: section::word(unit, field::EXTERNS_AT),
         cases: section::word(unit, field::CASES_AT),
+        lines: section::word(unit, field::LINES_AT),
     }
 }
 
@@ -73,7 +75,7 @@ pub fn header(unit: &[u8]) -> Header
 
 // Does the section whose start stands at byte `next` follow the one of `offset`, `count` and `size`?
 fn meets(unit: &[u8], offset: usize, count: usize, size: usize, next: usize) -> bool
-    requires { ⌜ (headerSize ≤ length (now unit)) × (offset ≤ 60) × (count ≤ 60) × (size ≤ 16) × (next ≤ 60) ⌝ }
+    requires { ⌜ (headerSize ≤ length (now unit)) × (offset ≤ 68) × (count ≤ 68) × (size ≤ 16) × (next ≤ 68) ⌝ }
     ensures { λ r. ⌜ r ≡ eqb (u32At (now (unit .entry)) next) (u32At (now (unit .entry)) offset + size * u32At (now (unit .entry)) count) ⌝ }
 {
     section::word(unit, next) == section::past(unit, offset, count, size)
@@ -127,7 +129,14 @@ fn sections_follow(unit: &[u8]) -> bool
             size::EXTERN,
             field::CASES_AT,
         )
-        & (unit.len() == section::past(unit, field::CASES_AT, field::CASES, size::CASE))
+        & meets(
+            unit,
+            field::CASES_AT,
+            field::CASES,
+            size::CASE,
+            field::LINES_AT,
+        )
+        & (unit.len() == section::past(unit, field::LINES_AT, field::LINES, size::LINE))
 }
 
 fn good_counts(unit: &[u8]) -> bool
@@ -277,6 +286,44 @@ fn sweep(unit: &[u8]) -> Entries
     }
 }
 
+// Is the place of the k-th of l lines below that of the next, or below n where it is the last?
+fn good_line(section: &[u8], k: usize, l: usize, n: usize) -> bool
+    requires { ⌜ (lineSize * k + lineSize ≤ length (now section)) × (l ≡ length (now section) / lineSize) ⌝ }
+    ensures { λ r. ⌜ r ≡ goodLine n (now (section .entry)) k ⌝ }
+{
+    let place = entry::line(section, k).place as usize;
+    if k + 1 < l {
+        place < entry::line(section, k + 1).place as usize
+    } else {
+        place < n
+    }
+}
+
+fn every_line(section: &[u8], n: usize) -> bool
+    ensures { λ r. ⌜ r ≡ every (length (now (section .entry)) / lineSize) (λ k. goodLine n (now (section .entry)) k) ⌝ }
+{
+    let l = section.len() / size::LINE;
+    let mut k = 0;
+    while k < l {
+        if !good_line(section, k, l, n) {
+            return false;
+        }
+        k += 1;
+    }
+    true
+}
+
+fn lines_rise(unit: &[u8]) -> bool
+    requires { ⌜ Sections (headerOf (now unit)) (length (now unit)) ⌝ }
+    ensures { λ r. ⌜ r ≡ linesRise (now (unit .entry)) ⌝ }
+{
+    let n = section::word(unit, field::INSTRUCTIONS);
+    every_line(
+        section::part(unit, field::LINES_AT, field::LINES, size::LINE),
+        n,
+    )
+}
+
 fn has_sections(unit: &[u8]) -> bool
     ensures { λ r. ⌜ r ≡ hasSections (now (unit .entry)) ⌝ }
 {
@@ -286,7 +333,7 @@ fn has_sections(unit: &[u8]) -> bool
     sections_follow(unit) & good_counts(unit)
 }
 
-// The header of a unit, or the refusal of its bytes: 1 at place 0, or 13 at the lowest select of too many cases.
+// The header of a unit, or the refusal of its bytes: 1 or 11 at place 0, or 13 at the lowest select of too many cases.
 pub fn check(unit: &[u8]) -> Layout
     ensures { λ r. ⌜ r ≡ layoutOf (now (unit .entry)) ⌝ }
 {
@@ -296,6 +343,9 @@ pub fn check(unit: &[u8]) -> Layout
     let entries = sweep(unit);
     if !entries.good {
         return Layout::Refused(refusal::NOT_UNIT, 0);
+    }
+    if !lines_rise(unit) {
+        return Layout::Refused(refusal::LINE_PLACES, 0);
     }
     let wide = entries.wide;
     if wide < section::word(unit, field::METADATA) {

@@ -14,7 +14,7 @@ use Rattle.instruction.specs.declared.Instruction.{Instruction}
 use Rattle.instruction.specs.Instruction.{toWord, ofWord, imm32Unsigned, class}
 use Rattle.unit.specs.declared.Metadata.{Metadata}
 use Rattle.unit.specs.Entry.{metadataAt, metadataBytes}
-use Rattle.unit.specs.Result.{Retained, resultMetadataAt, resultPlacesAt, resultHeader, codeBytes, metadataBytesAll, placeBytes, resultBytes}
+use Rattle.unit.specs.Result.{Retained, resultMetadataAt, resultPlacesAt, resultHeader, codeBytes, metadataBytesAll, placeBytes, lineBytesAll, resultBytes}
 use Rattle.unit.specs.laws.UnitLaws.{result-header-long, code-bytes-long, metadata-bytes-all-long}
 use Rattle.unit.specs.Size.{resultHeaderSize, resultSize}
 use Rattle.effects.specs.Shape.{Cell, cellAt}
@@ -102,25 +102,25 @@ put-on : (k j : ℕ) (out ys zs : List ℕ) → length ys ≡ k → k ≤ length
 put-on k j out ys zs e h =
     ap (λ (m : ℕ). putMid m j (putMid 0 k out ys) zs) (sym (zero-add k)) ∙ put-put out 0 k ys e (rw (zero-add k) h) j zs
 
-pub all-written : (k : ℕ) (xs : List Retained) (out : List ℕ) {o₁ o₂ o₃ o₄ : List ℕ} → length xs ≡ k → resultSize k ≤ length out
-    → o₁ ≡ putMid 0 resultHeaderSize out (resultHeader k) → o₂ ≡ putMid 16 (8 * k) o₁ (codeBytes xs) → o₃ ≡ putMid (resultMetadataAt k) (16 * k) o₂ (metadataBytesAll xs)
-    → o₄ ≡ putMid (resultPlacesAt k) (4 * k) o₃ (placeBytes xs) → o₄ ≡ putMid 0 (resultSize k) out (resultBytes xs)
-unfolding resultBytes
+pub all-written : (k : ℕ) (xs : List Retained) (out : List ℕ) {o₁ o₂ o₃ o₄ : List ℕ} → length xs ≡ k → resultSize k 0 ≤ length out
+    → o₁ ≡ putMid 0 resultHeaderSize out (resultHeader k 0) → o₂ ≡ putMid resultHeaderSize (8 * k) o₁ (codeBytes xs) → o₃ ≡ putMid (resultMetadataAt k) (16 * k) o₂ (metadataBytesAll xs)
+    → o₄ ≡ putMid (resultPlacesAt k) (4 * k) o₃ (placeBytes xs) → o₄ ≡ putMid 0 (resultSize k 0) out (resultBytes xs [])
+unfolding resultBytes lineBytesAll
 all-written k xs out long room e₁ e₂ e₃ e₄ =
-    let h = resultHeader k in
+    let h = resultHeader k 0 in
     let c = codeBytes xs in
     let d = metadataBytesAll xs in
-    let header = result-header-long k in
-    let code : length (h ++ c) ≡ 16 + 8 * k = omega (arith, length-append h c, code-bytes-long xs) in
-    let entries : length (h ++ c ++ d) ≡ 16 + 8 * k + 16 * k = omega (arith, length-append (h ++ c) d, metadata-bytes-all-long xs) in
-    let size : 16 + 28 * k ≡ 16 + 8 * k + 16 * k + 4 * k = omega arith in
-    rw (long, size)
+    let header = result-header-long k 0 in
+    let code : length (h ++ c) ≡ resultHeaderSize + 8 * k = omega (arith, length-append h c, code-bytes-long xs) in
+    let entries : length (h ++ c ++ d) ≡ resultHeaderSize + 8 * k + 16 * k = omega (arith, length-append (h ++ c) d, metadata-bytes-all-long xs) in
+    let size : resultSize k 0 ≡ resultHeaderSize + 8 * k + 16 * k + 4 * k = omega arith in
+    rw (long, size, append-nil (h ++ c ++ d ++ placeBytes xs))
     (e₄
     ∙ rw (
       e₃,
       e₂,
       e₁,
-      put-on 16 (8 * k) out h c header (omega arith),
-      put-on (16 + 8 * k) (16 * k) out (h ++ c) d code (omega arith),
-      put-on (16 + 8 * k + 16 * k) (4 * k) out (h ++ c ++ d) (placeBytes xs) entries (omega arith),
+      put-on resultHeaderSize (8 * k) out h c header (omega arith),
+      put-on (resultHeaderSize + 8 * k) (16 * k) out (h ++ c) d code (omega arith),
+      put-on (resultHeaderSize + 8 * k + 16 * k) (4 * k) out (h ++ c ++ d) (placeBytes xs) entries (omega arith),
     ))

@@ -7,7 +7,7 @@ ghost use lib.ListN.{length, getD};
 ghost use borrow.Rule.Slice.PartMut.{putMid};
 ghost use Rattle.instruction.specs.Instruction.{ofWord};
 ghost use Rattle.unit.specs.Result.{codeBytes, metadataBytesAll, placeBytes, resultBytes};
-ghost use Rattle.unit.specs.Size.{maxInstructions, metadataSize, resultSize};
+ghost use Rattle.unit.specs.Size.{maxInstructions, metadataSize, resultHeaderSize, resultSize};
 ghost use Rattle.effects.specs.laws.Cells.{cellOf, cellsBy};
 ghost use Rattle.pc_map.specs.laws.Boundaries.{Mapped};
 ghost use Rattle.pc_map.specs.laws.Listed.{keptList, Listed};
@@ -31,8 +31,8 @@ fn write_instruction(words: &[u64], bounds: &[u32], p: usize, out: &mut [u8], at
 }
 
 fn write_code(words: &[u64], bounds: &[u32], kept: &[u32], out: &mut [u8])
-    requires { ⌜ (length (now words) ≤ maxInstructions) × (length (now bounds) ≡ length (now words) + 1) × AllMovable (now kept) (now words) × (16 + 8 * length (now kept) ≤ length (now out)) ⌝ }
-    ensures { λ _. ⌜ ((keep metadata : List ℕ) → Listed keep (now (bounds .entry)) (now (kept .entry)) (length (now (words .entry))) → now (out .exit) ≡ putMid 16 (8 * length (now (kept .entry))) (now (out .entry)) (codeBytes (retainFrom keep 0 (cellsBy (now (words .entry)) metadata)))) ⌝ }
+    requires { ⌜ (length (now words) ≤ maxInstructions) × (length (now bounds) ≡ length (now words) + 1) × AllMovable (now kept) (now words) × (resultHeaderSize + 8 * length (now kept) ≤ length (now out)) ⌝ }
+    ensures { λ _. ⌜ ((keep metadata : List ℕ) → Listed keep (now (bounds .entry)) (now (kept .entry)) (length (now (words .entry))) → now (out .exit) ≡ putMid resultHeaderSize (8 * length (now (kept .entry))) (now (out .entry)) (codeBytes (retainFrom keep 0 (cellsBy (now (words .entry)) metadata)))) ⌝ }
 {
     let k = kept.len();
     let mut q: usize = 0;
@@ -98,10 +98,10 @@ fn write_places(kept: &[u32], out: &mut [u8], a: usize)
     }
 }
 
-// Writes the result: its header, then code, metadata and old places.
+// Writes the result, without lines: its header, then code, metadata and old places.
 pub fn write_retained(words: &[u64], metadata: &[u8], bounds: &[u32], kept: &[u32], out: &mut [u8])
     requires { ⌜ Writable (now words) (now metadata) (now bounds) (now kept) (length (now out)) ⌝ }
-    ensures { λ _. ⌜ ((keep : List ℕ) → Listed keep (now (bounds .entry)) (now (kept .entry)) (length (now (words .entry))) → now (out .exit) ≡ putMid 0 (resultSize (length (now (kept .entry)))) (now (out .entry)) (resultBytes (retainFrom keep 0 (cellsBy (now (words .entry)) (now (metadata .entry)))))) ⌝ }
+    ensures { λ _. ⌜ ((keep : List ℕ) → Listed keep (now (bounds .entry)) (now (kept .entry)) (length (now (words .entry))) → now (out .exit) ≡ putMid 0 (resultSize (length (now (kept .entry))) 0) (now (out .entry)) (resultBytes (retainFrom keep 0 (cellsBy (now (words .entry)) (now (metadata .entry)))) [])) ⌝ }
 {
     let k = kept.len();
     result::write_header(out, k);

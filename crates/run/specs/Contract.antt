@@ -5,8 +5,9 @@ use mathlib.Core.List.{List}
 use Prim.Native.Nat.{ℕ}
 use lib.ListN.{length, replicate}
 use Rattle.answer.specs.Pass.{Outcome, outputAfter}
-use Rattle.answer.specs.Answer.{Lent, lentOf, passAnswer}
-use Rattle.answer.specs.Clean.{Cleaned, cleanAnswer}
+use Rattle.answer.specs.Answer.{Lent, lentOf, passAnswer, passLines}
+use Rattle.unit.specs.declared.Line.{Line}
+use Rattle.answer.specs.Clean.{Cleaned, cleanAnswer, cleanLines}
 use Rattle.run.specs.Returned.{PreservesRuns}
 
 -- what the lent buffers hold
@@ -30,7 +31,7 @@ Zeroed before after = after ≡ replicate (length before) 0
 pub record PassContract {A : Type 0} (form : Outcome → A) (u : List ℕ) (before : Buffers) (r : A) (after : Buffers) : Type 0 where
   -- demand 2: the answer that is defined
   pub answer : r ≡ form (passAnswer u (lengths before))
-  pub output : after .out ≡ outputAfter (passAnswer u (lengths before)) (before .out)
+  pub output : after .out ≡ outputAfter (passAnswer u (lengths before)) (passLines u (lengths before)) (before .out)
   pub work32 : Zeroed (before .work32) (after .work32)
   pub work64 : Zeroed (before .work64) (after .work64)
   -- demand 3: what is returned runs as what was given
@@ -47,9 +48,12 @@ spares first second = record { first = first; second = second }
 abbrev pub cleaning : List ℕ → Buffers → Spare → Cleaned
 cleaning u b s = cleanAnswer u (lengths b) (length (s .first)) (length (s .second))
 
+abbrev pub cleaningLines : List ℕ → Buffers → Spare → List Line
+cleaningLines u b s = cleanLines u (lengths b) (length (s .first)) (length (s .second))
+
 pub record CleanContract {A : Type 0} (form : Cleaned → A) (u : List ℕ) (before : Buffers) (spare : Spare) (r : A) (after : Buffers) (spare′ : Spare) : Type 0 where
   pub answer : r ≡ form (cleaning u before spare)
-  pub output : after .out ≡ outputAfter (cleaning u before spare .outcome) (before .out)
+  pub output : after .out ≡ outputAfter (cleaning u before spare .outcome) (cleaningLines u before spare) (before .out)
   pub work32 : Zeroed (before .work32) (after .work32)
   pub work64 : Zeroed (before .work64) (after .work64)
   pub first : Zeroed (spare .first) (spare′ .first)

@@ -1,6 +1,6 @@
 -- Demand 3 for whole units: what one pass or the cleaning returns runs as the unit's function does.
 -- Assumes nothing.
-use mathlib.Core.Path.{_≡_, refl, ap}
+use mathlib.Core.Path.{_≡_, refl, ap, _∙_}
 use mathlib.Core.Bool.{Bool, true, false, cond, not, _&&_, _||_, true≢false}
 use mathlib.Core.List.{List, [], _∷_, _++_}
 use mathlib.Core.Option.{some}
@@ -16,8 +16,10 @@ use Rattle.instruction.specs.Instruction.{instructionAt}
 use Rattle.instruction.specs.laws.Instruction.{Fields}
 use Rattle.unit.specs.declared.Constant.{Constant}
 use Rattle.unit.specs.declared.Constant.the-variants.{Nil, Bool as BoolConstant, Int, Float as FloatConstant, String, Missing}
-use Rattle.unit.specs.Entry.{metadataAt, constantOf, constantAt, constantKind, constantValue}
-use Rattle.unit.specs.Layout.{headerOf, codeOf, metadataOf, constantsOf, isUnit, layoutOf}
+use Rattle.unit.specs.declared.Line.{Line}
+use Rattle.lines.specs.Lines.{movedLines, placesOf}
+use Rattle.unit.specs.Entry.{metadataAt, linesIn, constantOf, constantAt, constantKind, constantValue}
+use Rattle.unit.specs.Layout.{headerOf, codeOf, metadataOf, constantsOf, linesOf, isUnit, linesRise, layoutOf}
 use Rattle.unit.specs.laws.UnitLaws.{MetadataFields, unit-laid, layout-unit}
 use Rattle.unit.specs.Result.{Retained, resultBytes, readResult}
 use Rattle.unit.specs.Size.{instructionSize, metadataSize, constantSize, resultSize, maxInstructions}
@@ -30,7 +32,7 @@ use Rattle.values.specs.declared.Atom.the-variants.{Integer, Float}
 use Rattle.values.specs.Number.{constantAtom}
 use Rattle.answer.specs.Pass.{Outcome, unchanged, refused, rewritten, outputAfter, isWorkedOn, optimized, pass}
 use Rattle.answer.specs.Answer.{Lent, cellsOf, sectionsOf, roomFor, isSkipped, afterRoom, afterSkipped, afterLayout, laidOut, answerWith, passAnswer}
-use Rattle.answer.specs.Clean.{retainedCell, cellsAfter, placedBy, afterPass, cleanFrom, cleanedFirst, spareFor, cleanAnswer}
+use Rattle.answer.specs.Clean.{retainedCell, cellsAfter, placedBy, afterPass, cleanFrom, cleanedFirst, spareFor, cleanAnswer, linesPast, linesFrom, linesFirst, cleanLines}
 use Rattle.run.specs.Machine.{SameRuns}
 use Rattle.run.specs.laws.Machine.{same-runs-refl, same-runs-trans}
 use Rattle.run.specs.Program.{Function, programOf}
@@ -40,6 +42,8 @@ use Rattle.run.specs.laws.RelocatedRun.{pick}
 use Rattle.run.specs.laws.Checked.{Well}
 use Rattle.run.specs.laws.Passed.{Good, worked-size, optimized-runs, pass-worked, pass-runs}
 use Rattle.run.specs.laws.Reading.{AllFit, noRetained, result-back}
+use Rattle.lines.specs.laws.Below.{Rising}
+use Rattle.run.specs.laws.MovedLines.{placed-rising, lines-placed}
 use Rattle.run.specs.laws.Fitting.{AllSound, Again, optimized-again, again-fits, placed-long, placed-fits}
 
 -- ---- the function of a unit of bytes is well
@@ -91,12 +95,14 @@ pub cells-long : (u : List ℕ) → length (cellsOf u) ≡ headerOf u .counts .i
 unfolding cellsOf
 cells-long u = length-tabulate (headerOf u .counts .instructions) _
 
-pub given-well : (u : List ℕ) → Bytes u → isUnit u ≡ true → headerOf u .counts .metadata ≡ headerOf u .counts .instructions → Well (givenFunction u)
+pub given-well : (u : List ℕ) → Bytes u → isUnit u ≡ true → headerOf u .counts .metadata ≡ headerOf u .counts .instructions
+    → headerOf u .counts .types ≡ headerOf u .counts .locals → Well (givenFunction u)
 unfolding givenFunction sectionsOf
-given-well u b e m =
+given-well u b e m t =
     record {
       locals = unit-laid u e .locals;
       described = rw (cells-long u, m) (omega arith);
+      typed = rw (unit-laid u e .lengths .types ∙ t) (omega arith);
       fields = λ p h. let k : p < headerOf u .counts .instructions = rw cells-long at h in rw (cell-given u p k) (instruction-fields (codeOf u) p (bytes-mid (headerOf u .offsets .code) (instructionSize * headerOf u .counts .instructions) u b));
       constants = constants-below (constantsOf u) (bytes-mid (headerOf u .offsets .constants) (constantSize * headerOf u .counts .constants) u b);
     }
@@ -132,7 +138,9 @@ given-sound u b laid described p h =
 pub record Returnable (F : Function) (cases : ℕ) (kept : List Retained) : Type 0 where
   pub good : Good F kept
   pub few : length kept ≤ maxInstructions
+  pub shorter : length kept ≤ length (F .cells)
   pub fits : AllFit cases kept
+  pub rising : Rising (placesOf kept)
 
 module _ (F : Function) (cases : ℕ) where
   optimized-returnable : Well F → AllSound cases (F .cells) → isWorkedOn (length (F .cells)) ≡ true → (kept : List Retained) → optimized (F .sections) (F .cells) ≡ rewritten kept
@@ -141,7 +149,7 @@ module _ (F : Function) (cases : ℕ) where
       let small = worked-size (length (F .cells)) on .1 in
       let again = optimized-again F w cases sound on kept e in
       let fewer = again .few in
-      record { good = optimized-runs F w on kept e; few = omega arith; fits = again-fits cases (length (F .cells)) kept small again }
+      record { good = optimized-runs F w on kept e; few = omega arith; shorter = again .few; fits = again-fits cases (length (F .cells)) kept small again; rising = again .rising }
 
 -- ---- one pass
 
@@ -157,15 +165,33 @@ left-kept false o kept e = (refl, e)
 not-refused : (k p : ℕ) (kept : List Retained) → refused k p ≡ rewritten kept → ⊥
 not-refused k p kept e = let z : _≡_ {A = ℕ} 0 1 = cc in omega arith
 
-laid-kept : (u : List ℕ) (o : Outcome) (kept : List Retained) → laidOut (layoutOf u) o ≡ rewritten kept → (isUnit u ≡ true) × (o ≡ rewritten kept)
+laid-kept : (u : List ℕ) (o : Outcome) (kept : List Retained) → laidOut (layoutOf u) o ≡ rewritten kept → (isUnit u ≡ true) × (o ≡ rewritten kept) × (linesRise u ≡ true)
 unfolding laidOut
 laid-kept u o kept = go (layoutOf u) refl
   where
-    go : (y : Layout) → layoutOf u ≡ y → laidOut y o ≡ rewritten kept → (isUnit u ≡ true) × (o ≡ rewritten kept)
-    go (LaidUnit h) q e = (layout-unit u h q .0, e)
+    go : (y : Layout) → layoutOf u ≡ y → laidOut y o ≡ rewritten kept → (isUnit u ≡ true) × (o ≡ rewritten kept) × (linesRise u ≡ true)
+    go (LaidUnit h) q e = let l = layout-unit u h q in (l .0, e, l .2)
     go (LaidRefused k p) q e = absurd (not-refused k p kept e)
 
 -- What a rewritten unit went through, whatever room it was lent.
+pub record Worked (u : List ℕ) (room : Bool) : Type 0 where
+  pub laid : isUnit u ≡ true
+  pub rise : linesRise u ≡ true
+  pub few : headerOf u .counts .instructions ≤ maxInstructions
+  pub lent : room ≡ true
+
+pub answer-worked : (u : List ℕ) (room : Bool) (kept : List Retained) → answerWith room u ≡ rewritten kept → Worked u room
+unfolding answerWith afterLayout afterSkipped isSkipped
+answer-worked u room kept e =
+    let laid = laid-kept u _ kept e in
+    let worked = left-kept (not (isWorkedOn (headerOf u .counts .instructions)) || eqb (headerOf u .counts .defer) 1) _ kept (laid .1) in
+    let lent = outcome-kept room _ (refused shortBuffer 0) kept (not-refused shortBuffer 0) (worked .1) in
+    record { laid = laid .0; rise = laid .2; few = worked-size (headerOf u .counts .instructions) (go (isWorkedOn (headerOf u .counts .instructions)) _ (worked .0)) .1; lent = lent .0 }
+  where
+    go : (s t : Bool) → (not s || t) ≡ false → s ≡ true
+    go true t e = refl
+    go false t e = absurd (true≢false e)
+
 module _ (u : List ℕ) (b : Bytes u) (room : Bool) where
   pub answer-returnable : (kept : List Retained) → answerWith room u ≡ rewritten kept → Returnable (givenFunction u) (headerOf u .counts .cases) kept
   unfolding answerWith afterLayout afterSkipped afterRoom isSkipped givenFunction
@@ -177,29 +203,30 @@ module _ (u : List ℕ) (b : Bytes u) (room : Bool) where
       let typed = outcome-kept (eqb (headerOf u .counts .types) (headerOf u .counts .locals)) _ (refused typeCount 0) kept (not-refused typeCount 0) (described .1) in
       let same = eqb-true (headerOf u .counts .metadata) (headerOf u .counts .instructions) (described .0) in
       let on : isWorkedOn (length (cellsOf u)) ≡ true = rw (cells-long u) (go (isWorkedOn (headerOf u .counts .instructions)) _ (worked .0)) in
-      optimized-returnable (givenFunction u) (headerOf u .counts .cases) (given-well u b (laid .0) same) (given-sound u b (laid .0) same) on kept (typed .1)
+      optimized-returnable (givenFunction u) (headerOf u .counts .cases) (given-well u b (laid .0) same (eqb-true (headerOf u .counts .types) (headerOf u .counts .locals) (typed .0))) (given-sound u b (laid .0) same) on kept (typed .1)
     where
       go : (s t : Bool) → (not s || t) ≡ false → s ≡ true
       go true t e = refl
       go false t e = absurd (true≢false e)
 
 -- the function in the output's bytes is the one that was retained
-returned-runs : (u : List ℕ) (cases : ℕ) (kept : List Retained) (out : List ℕ) → Returnable (givenFunction u) cases kept
-    → SameRuns (programOf (givenFunction u)) (programOf (outputFunction u (outputAfter (rewritten kept) out)))
+returned-runs : (u : List ℕ) (cases : ℕ) (kept : List Retained) (lines : List Line) (out : List ℕ) → Returnable (givenFunction u) cases kept
+    → SameRuns (programOf (givenFunction u)) (programOf (outputFunction u (outputAfter (rewritten kept) lines out)))
 unfolding outputFunction outputAfter givenFunction
-returned-runs u cases kept out r =
-    let e : readResult (resultBytes kept ++ drop (resultSize (length kept)) out) ≡ kept = result-back cases kept (drop (resultSize (length kept)) out) (r .few) (r .fits) in
+returned-runs u cases kept lines out r =
+    let size = resultSize (length kept) (length lines) in
+    let e : readResult (resultBytes kept lines ++ drop size out) ≡ kept = result-back cases kept lines (drop size out) (r .few) (r .fits) in
     rw e (r .good .runs)
 
--- Demand 3 for one pass: of the bytes in the output after it.
-pub pass-preserves : (u : List ℕ) (l : Lent) (out : List ℕ) → Bytes u → PreservesRuns u (passAnswer u l) (outputAfter (passAnswer u l) out)
+-- Demand 3 for one pass: of the bytes in the output after it, whatever lines they have.
+pub pass-preserves : (u : List ℕ) (l : Lent) (lines : List Line) (out : List ℕ) → Bytes u → PreservesRuns u (passAnswer u l) (outputAfter (passAnswer u l) lines out)
 unfolding passAnswer PreservesRuns
-pass-preserves u l out b = go (passAnswer u l) refl
+pass-preserves u l lines out b = go (passAnswer u l) refl
   where
-    go : (o : Outcome) → answerWith (roomFor (headerOf u .counts) l) u ≡ o → PreservesRuns u o (outputAfter o out)
+    go : (o : Outcome) → answerWith (roomFor (headerOf u .counts) l) u ≡ o → PreservesRuns u o (outputAfter o lines out)
     go unchanged e = same-runs-refl (programOf (givenFunction u))
     go (refused k p) e = tt
-    go (rewritten kept) e = returned-runs u _ kept out (answer-returnable u b (roomFor (headerOf u .counts) l) kept e)
+    go (rewritten kept) e = returned-runs u _ kept lines out (answer-returnable u b (roomFor (headerOf u .counts) l) kept e)
 
 -- ---- cleaning
 
@@ -224,21 +251,29 @@ module _ (F : Function) (cases : ℕ) where
       }
 
   -- a pass more
-  placed-returnable : (before kept : List Retained) → Returnable F cases before → pass (F .sections) (cellsAfter before) ≡ rewritten kept → Returnable F cases (placedBy before kept)
+  pass-again : (before kept : List Retained) → Returnable F cases before → pass (F .sections) (cellsAfter before) ≡ rewritten kept → Again cases (length before) kept
   unfolding resultFunction
-  placed-returnable before kept r e =
+  pass-again before kept r e =
       let G = resultFunction (F .sections) before in
       let worked = pass-worked (F .sections) (cellsAfter before) kept e in
       let sound : AllSound cases (cellsAfter before) = λ p h.
       let l : p < length before = rw (length-map before retainedCell) at h in
       rw (List·getD-map retainedCell before p noRetained) (r .fits p l .metadata) in
-      let again : Again cases (length before) kept = rw (length-map before retainedCell) at (optimized-again G (r .good .well) cases sound (worked .0) kept (worked .1)) in
+      rw (length-map before retainedCell) at (optimized-again G (r .good .well) cases sound (worked .0) kept (worked .1))
+
+  placed-returnable : (before kept : List Retained) → Returnable F cases before → pass (F .sections) (cellsAfter before) ≡ rewritten kept → Returnable F cases (placedBy before kept)
+  unfolding resultFunction
+  placed-returnable before kept r e =
+      let G = resultFunction (F .sections) before in
+      let again = pass-again before kept r e in
       let fewer = again .few in
       let few = r .few in
       record {
         good = placed-good before kept (r .good) (pass-runs G (r .good .well) kept e);
         few = rw (placed-long before kept) (omega arith);
+        shorter = let short = r .shorter in rw (placed-long before kept) (omega arith);
         fits = placed-fits cases before kept (λ p h. r .fits p h .place) again;
+        rising = placed-rising before kept again (r .rising);
       }
 
   -- up to k passes more keep the run
@@ -254,21 +289,65 @@ module _ (F : Function) (cases : ℕ) where
       go (refused m p) q e ih = let z : _≡_ {A = ℕ} 0 1 = cc in absurd (omega arith)
       go (rewritten next) q e ih = ih (placedBy before next) (placed-returnable before next r q) e
 
+  -- and lines moved pass by pass are moved by the old places in the given unit
+  lines-returnable : (k j : ℕ) (before kept : List Retained) (given : List Line) → Returnable F cases before → cleanFrom (F .sections) k j before .outcome ≡ rewritten kept
+      → linesFrom (F .sections) k before (movedLines (placesOf before) given) ≡ movedLines (placesOf kept) given
+  unfolding cleanFrom afterPass linesFrom linesPast
+  lines-returnable zero j before kept given r e = let q : before ≡ kept = cc in rw q
+  lines-returnable (suc k) j before kept given r e = go (pass (F .sections) (cellsAfter before)) refl e (λ b c. lines-returnable k (suc j) b kept given c)
+    where
+      moved : List Line
+      moved = movedLines (placesOf before) given
+
+      go : (o : Outcome) → pass (F .sections) (cellsAfter before) ≡ o → afterPass (suc j) before (λ kept. cleanFrom (F .sections) k (suc j) (placedBy before kept)) o .outcome ≡ rewritten kept
+          → ((b : List Retained) → Returnable F cases b → cleanFrom (F .sections) k (suc j) b .outcome ≡ rewritten kept → linesFrom (F .sections) k b (movedLines (placesOf b) given) ≡ movedLines (placesOf kept) given)
+          → linesPast moved (λ kept. linesFrom (F .sections) k (placedBy before kept) (movedLines (placesOf kept) moved)) o ≡ movedLines (placesOf kept) given
+      go unchanged q e ih = let same : before ≡ kept = cc in rw same
+      go (refused m p) q e ih = let z : _≡_ {A = ℕ} 0 1 = cc in absurd (omega arith)
+      go (rewritten next) q e ih = rw (lines-placed before next (pass-again before next r q) (r .rising) given) (ih (placedBy before next) (placed-returnable before next r q) e)
+
+-- What a cleaning went through that gives `kept`.
+module _ (u : List ℕ) (b : Bytes u) (l : Lent) (first second : ℕ) where
+  abbrev room : Bool
+  room = roomFor (headerOf u .counts) l && spareFor (headerOf u .counts) first second
+
+  pub clean-kept : (kept : List Retained) → cleanAnswer u l first second .outcome ≡ rewritten kept → Worked u room × Returnable (givenFunction u) (headerOf u .counts .cases) kept
+  unfolding cleanAnswer cleanedFirst givenFunction
+  clean-kept kept e = go (answerWith room u) refl e
+    where
+      go : (o : Outcome) → answerWith room u ≡ o → cleanedFirst (sectionsOf u) o .outcome ≡ rewritten kept → Worked u room × Returnable (givenFunction u) (headerOf u .counts .cases) kept
+      go unchanged f e = let z : _≡_ {A = ℕ} 0 1 = cc in absurd (omega arith)
+      go (refused k p) f e = let z : _≡_ {A = ℕ} 0 1 = cc in absurd (omega arith)
+      go (rewritten one) f e = (answer-worked u room one f, clean-returnable (givenFunction u) _ 2 1 one kept (answer-returnable u b room one f) e)
+
+  -- Document 02, L3: "An entry moves to the boundary of its place", of all passes at once.
+  pub clean-lines : (kept : List Retained) → cleanAnswer u l first second .outcome ≡ rewritten kept → cleanLines u l first second ≡ movedLines (placesOf kept) (linesIn (linesOf u))
+  unfolding cleanAnswer cleanedFirst cleanLines linesFirst givenFunction
+  clean-lines kept e = go (answerWith room u) refl e
+    where
+      given : List Line
+      given = linesIn (linesOf u)
+
+      go : (o : Outcome) → answerWith room u ≡ o → cleanedFirst (sectionsOf u) o .outcome ≡ rewritten kept → linesFirst (sectionsOf u) given o ≡ movedLines (placesOf kept) given
+      go unchanged f e = let z : _≡_ {A = ℕ} 0 1 = cc in absurd (omega arith)
+      go (refused k p) f e = let z : _≡_ {A = ℕ} 0 1 = cc in absurd (omega arith)
+      go (rewritten one) f e = lines-returnable (givenFunction u) _ 2 1 one kept given (answer-returnable u b room one f) e
+
 -- Demand 3 for cleaning: of the bytes in the output after it.
-pub clean-preserves : (u : List ℕ) (l : Lent) (first second : ℕ) (out : List ℕ) → Bytes u
-    → PreservesRuns u (cleanAnswer u l first second .outcome) (outputAfter (cleanAnswer u l first second .outcome) out)
+pub clean-preserves : (u : List ℕ) (l : Lent) (first second : ℕ) (lines : List Line) (out : List ℕ) → Bytes u
+    → PreservesRuns u (cleanAnswer u l first second .outcome) (outputAfter (cleanAnswer u l first second .outcome) lines out)
 unfolding cleanAnswer cleanedFirst PreservesRuns givenFunction
-clean-preserves u l first second out b = go (answerWith room u) refl
+clean-preserves u l first second lines out b = go (answerWith room u) refl
   where
     room : Bool
     room = roomFor (headerOf u .counts) l && spareFor (headerOf u .counts) first second
 
-    later : (o : Outcome) (kept : List Retained) → Returnable (givenFunction u) (headerOf u .counts .cases) kept → cleanFrom (sectionsOf u) 2 1 kept .outcome ≡ o → PreservesRuns u o (outputAfter o out)
+    later : (o : Outcome) (kept : List Retained) → Returnable (givenFunction u) (headerOf u .counts .cases) kept → cleanFrom (sectionsOf u) 2 1 kept .outcome ≡ o → PreservesRuns u o (outputAfter o lines out)
     later unchanged kept r e = same-runs-refl (programOf (givenFunction u))
     later (refused k p) kept r e = tt
-    later (rewritten last) kept r e = returned-runs u _ last out (clean-returnable (givenFunction u) _ 2 1 kept last r e)
+    later (rewritten last) kept r e = returned-runs u _ last lines out (clean-returnable (givenFunction u) _ 2 1 kept last r e)
 
-    go : (o : Outcome) → answerWith room u ≡ o → PreservesRuns u (cleanedFirst (sectionsOf u) o .outcome) (outputAfter (cleanedFirst (sectionsOf u) o .outcome) out)
+    go : (o : Outcome) → answerWith room u ≡ o → PreservesRuns u (cleanedFirst (sectionsOf u) o .outcome) (outputAfter (cleanedFirst (sectionsOf u) o .outcome) lines out)
     go unchanged e = same-runs-refl (programOf (givenFunction u))
     go (refused k p) e = tt
     go (rewritten kept) e = later (cleanFrom (sectionsOf u) 2 1 kept .outcome) kept (answer-returnable u b room kept e) refl

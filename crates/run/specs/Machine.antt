@@ -1,7 +1,7 @@
 -- Definitions. The machine of document 01's "How a function runs", over nodes: a node is what one instruction at its place does. Nothing here
 -- knows of opcodes. Assumes nothing.
 use mathlib.Core.Path.{_≡_, refl}
-use mathlib.Core.Bool.{Bool, true, false, cond}
+use mathlib.Core.Bool.{Bool, true, false, cond, _&&_, _||_}
 use mathlib.Core.List.{List, [], _∷_}
 use mathlib.Core.Option.{Option, none, some}
 use Prim.Native.Nat.{ℕ, suc}
@@ -29,9 +29,10 @@ pub record Event : Type 0 where
 pub data Way : Type 0 where
   byReturn byPanic byReply byCode : Way
 
--- "it gives one word for each slot declared written, .. ForLoop's way, or an end"
+-- "it gives one word for each slot declared written, .. ForLoop's way, or an end". "the outside reply says for each perhaps written range
+-- whether it was stored" (document 02, L5): by the range's number.
 pub data Reply : Type 0 where
-  words : Words → Bool → Reply
+  words : Words → (ℕ → Bool) → Bool → Reply
   finish : Reply
 
 -- "Both use .. the same replies and free words, which may be any that fit the above": the reply to a record (newest event first),
@@ -48,10 +49,11 @@ pub data Act : Type 0 where
   stop : Event → Way → Act
   fail : Act
 
--- what it does, the slots that it gives a word, and where it branches to
+-- what it does, the slots that it surely gives a word, those of each range that it perhaps writes, and where it branches to
 pub record Node : Type 0 where
   pub act : Words → Act
   pub gives : ℕ → Bool
+  pub perhaps : List (ℕ → Bool)
   pub target : ℕ
 
 pub record Program : Type 0 where
@@ -71,10 +73,19 @@ put g w σ s = cond (g s) (w s) (σ s)
 unfoldable pub goto : Node → ℕ → Bool → ℕ
 goto N p branch = cond branch (N .target) (suc p)
 
+-- a slot is one of a perhaps written range that was stored
+unfoldable pub isStored : List (ℕ → Bool) → (ℕ → Bool) → ℕ → Bool
+isStored [] stored s = false
+isStored (g ∷ gs) stored s = stored 0 && g s || isStored gs (λ i. stored (suc i)) s
+
+-- the slots that a reply gives a word; those of a range that was not stored keep theirs
+unfoldable pub replied : Node → (ℕ → Bool) → ℕ → Bool
+replied N stored s = N .gives s || isStored (N .perhaps) stored s
+
 -- A reply says whether the step branches, "ForLoop's way". Every other outside instruction has the next place for its target
 -- (`targetBy` of flow/specs/Branch), so that the way plays no part in it.
 unfoldable pub answered : Node → ℕ → Words → List Event → Reply → State
-answered N p σ R (words w branch) = at (goto N p branch) (put (N .gives) w σ) R
+answered N p σ R (words w stored branch) = at (goto N p branch) (put (replied N stored) w σ) R
 answered N p σ R finish = over byReply R
 
 unfoldable pub perform : World → Node → ℕ → Words → List Event → Act → State

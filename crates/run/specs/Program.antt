@@ -16,7 +16,7 @@ use Rattle.unit.specs.declared.Constant.the-variants.{Nil, Bool as BoolConstant
 use Rattle.unit.specs.Entry.{constantAt}
 use Rattle.effects.specs.declared.Range.{Range}
 use Rattle.effects.specs.Shape.{Tables, Sections, Cell, cellAt}
-use Rattle.effects.specs.Effects.{allReads, arrays, writes, rangeHas, anyOf}
+use Rattle.effects.specs.Effects.{allReads, arrays, sureWrites, perhapsWrites, rangeHas, anyOf}
 use Rattle.effects.specs.Check.{operandRefusal}
 use Rattle.flow.specs.Branch.{targetBy}
 use Rattle.values.specs.Fold.{foldWord, foldingUnary, foldingBinary}
@@ -31,9 +31,14 @@ unfoldable pub slotsOf : List Range → List ℕ
 slotsOf [] = []
 slotsOf (r ∷ rs) = slotsFrom (r .start) (r .count) ++ slotsOf rs
 
--- the slots that a step gives a word: those "declared written, the array range for SlotSet and SlotSetN"
+-- the slots that a step surely gives a word: those "declared written, the array range for SlotSet and SlotSetN". "The premise of whole
+-- writing covers the sure ranges only" (document 02, L5).
 unfoldable pub givenRanges : Tables → Cell → List Range
-givenRanges T x = writes T x ++ cond (isIn (x .instruction .op) (op.SlotSet ∷ op.SlotSetN ∷ [])) (arrays T x) []
+givenRanges T x = sureWrites T x ++ cond (isIn (x .instruction .op) (op.SlotSet ∷ op.SlotSetN ∷ [])) (arrays T x) []
+
+-- the slots of each range that it perhaps writes
+unfoldable pub perhapsSlots : Tables → Cell → List (ℕ → Bool)
+perhapsSlots T x = map (λ r t. rangeHas t r) (perhapsWrites T x)
 
 -- "LoadConst its constant's word (Nil 0)"; "of a String or a missing constant gives some word fixed by b"
 unfoldable pub constantWord : World → ℕ → Constant → ℕ
@@ -107,6 +112,7 @@ nodeBy F k W p x =
     record {
       act = actBy (F .sections) W x k;
       gives = λ t. anyOf (rangeHas t) (givenRanges (F .sections .tables) x);
+      perhaps = perhapsSlots (F .sections .tables) x;
       target = targetBy k p (x .instruction);
     }
 

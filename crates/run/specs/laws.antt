@@ -25,3 +25,4 @@ pub mod Checked
 pub mod Passed
 pub mod Reading
 pub mod Fitting
+pub mod MovedLines

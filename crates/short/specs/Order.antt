@@ -27,7 +27,7 @@ use Rattle.short.specs.declared.Found.the-variants.{At, None}
 
 -- "Produce each .. as a unit"
 pub each-unit : (k : ℕ) → k < shortCount → layoutOf (unitOf k) ≡ Laid (headerOf (unitOf k))
-unfolding digits littleEndian headerWords unitOfCode le.toLe le.fromLe lists.every lists.lowestBelow lists.tabulate lists.tabulateFrom entry.metadataAt entry.goodMetadata entry.isWideSelect entry.goodConstant entry.caseAt entry.goodCase layout.headerOf layout.sectionsFollow layout.goodCounts layout.hasSections layout.goodEntries layout.isUnit layout.wideSelect layout.afterUnit layout.layoutOf
+unfolding digits littleEndian headerWords unitOfCode le.toLe le.fromLe lists.every lists.lowestBelow lists.tabulate lists.tabulateFrom entry.metadataAt entry.goodMetadata entry.isWideSelect entry.goodConstant entry.caseAt entry.goodCase layout.headerOf layout.sectionsFollow layout.goodCounts layout.hasSections layout.goodEntries layout.isUnit layout.wideSelect layout.linesRise layout.afterLines layout.afterUnit layout.layoutOf entry.goodLine entry.lineAt
 each-unit k h =
     by-length (λ n. (r : ℕ) → layoutOf (unitAt n r) ≡ Laid (headerOf (unitAt n r))) (λ r. refl) (λ r. refl) (λ r. refl) (lengthOf k) (parts k h .two) (parts k h .four) (rankOf k)
 

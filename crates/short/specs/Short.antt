@@ -107,6 +107,8 @@ headerWords n =
     ∷ unitSize n
     ∷ unitSize n
     ∷ unitSize n
+    ∷ 0
+    ∷ unitSize n
     ∷ []
 
 -- the metadata and the types are zeros: kind None, type Value

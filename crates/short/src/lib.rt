@@ -144,7 +144,7 @@ fn unit_size(n: usize) -> usize
 }
 
 fn header_word(n: usize, q: usize) -> u64
-    requires { ⌜ (n ≤ 4) × (q < 16) ⌝ }
+    requires { ⌜ (n ≤ 4) × (q < 18) ⌝ }
     ensures { λ r. ⌜ r ≡ getD (headerWords n) q 0 ⌝ }
 {
     let end = unit_size(n) as u64;
@@ -164,6 +164,8 @@ fn header_word(n: usize, q: usize) -> u64
         end,
         end,
         end,
+        end,
+        0,
         end,
     ];
     words[q]

@@ -2,11 +2,12 @@
 -- Assumes nothing.
 use mathlib.Core.Bool.{Bool, true, false, cond, _&&_}
 use mathlib.Core.List.{List, _∷_, _++_}
-use Prim.Native.Nat.{ℕ, _+_, _*_, _/_}
+use Prim.Native.Nat.{ℕ, suc, _+_, _*_, _/_}
 use lib.Dec.{eqb, leb, ltb}
 use lib.ListN.{length, getD}
 use Rattle.words.specs.Le.{u16At, u32At, u64At, toLe}
-use Rattle.unit.specs.Size.{metadataSize, constantSize, functionSize, externSize, caseSize, maxSelectCases}
+use Rattle.words.specs.Lists.{tabulate}
+use Rattle.unit.specs.Size.{metadataSize, constantSize, functionSize, externSize, caseSize, lineSize, maxSelectCases}
 use Rattle.unit.specs.declared.Metadata.{Metadata}
 use Rattle.unit.specs.declared.Constant.{Constant}
 use Rattle.unit.specs.declared.Constant.the-variants.{Nil, Bool as BoolConstant, Int, Float, String, Missing as MissingConstant}
@@ -15,6 +16,7 @@ use Rattle.unit.specs.declared.Callee.the-variants.{Slots, Missing as Mi
 use Rattle.unit.specs.declared.Extern.{Extern}
 use Rattle.unit.specs.declared.Extern.the-variants.{Returns, Missing as MissingExtern}
 use Rattle.unit.specs.declared.SelectCase.{SelectCase}
+use Rattle.unit.specs.declared.Line.{Line}
 
 -- "Metadata, 16 bytes: kind .., has_ok .., array length (16 bits), first layout's length, second's, end_pc (32 bits each)"
 unfoldable pub metadataAt : List ℕ → ℕ → Metadata
@@ -151,3 +153,19 @@ caseAt l k =
 
 unfoldable pub goodCase : SelectCase → Bool
 goodCase x = cond (leb (x .kind) 1) (leb (x .ok) 1) false
+
+-- Document 02, L3: "each entry an old place and a line of 32 bits"
+unfoldable pub lineAt : List ℕ → ℕ → Line
+lineAt l k = record { place = u32At l (lineSize * k); line = u32At l (lineSize * k + 4) }
+
+-- its bytes
+unfoldable pub lineBytes : Line → List ℕ
+lineBytes e = toLe 4 (e .place) ++ toLe 4 (e .line)
+
+-- "places strictly rising", "below n": the place of entry k is below that of the next one, and that of the last below n
+unfoldable pub goodLine : ℕ → List ℕ → ℕ → Bool
+goodLine n l k = let next = lineAt l (suc k) .place in ltb (lineAt l k .place) (cond (ltb (suc k) (length l / lineSize)) next n)
+
+-- the entries of a section
+abbrev pub linesIn : List ℕ → List Line
+linesIn l = tabulate (length l / lineSize) (lineAt l)

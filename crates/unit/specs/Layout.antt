@@ -8,15 +8,16 @@ use lib.ListN.{length}
 use borrow.Rule.Slice.PartMut.{midOf}
 use Rattle.words.specs.Le.{u32At}
 use Rattle.words.specs.Lists.{every, lowestBelow}
-use Rattle.unit.specs.Refusal.{notUnit, tooManyCases}
-use Rattle.unit.specs.Size.{headerSize, instructionSize, metadataSize, constantSize, functionSize, externSize, caseSize, maxLocalSlots}
-use Rattle.unit.specs.Entry.{metadataAt, goodMetadata, isWideSelect, typeAt, goodType, goodConstant, caseAt, goodCase}
+use Rattle.unit.specs.Refusal.{notUnit, linePlaces, tooManyCases}
+use Rattle.unit.specs.Size.{headerSize, instructionSize, metadataSize, constantSize, functionSize, externSize, caseSize, lineSize, maxLocalSlots}
+use Rattle.unit.specs.Entry.{metadataAt, goodMetadata, isWideSelect, typeAt, goodType, goodConstant, caseAt, goodCase, goodLine}
 use Rattle.unit.specs.declared.Header.{Header}
 use Rattle.unit.specs.declared.Layout.{Layout}
 use Rattle.unit.specs.declared.Layout.the-variants.{Unit, Refused}
 
 -- "a header of counts and offsets: instructions n, metadata m, local slots s .., slot types, defer .., constants, functions,
--- externs, select cases; then the byte offsets of code, metadata, types, constants, functions, externs, cases"
+-- externs, select cases; then the byte offsets of code, metadata, types, constants, functions, externs, cases"; document 02, L3:
+-- "The unit's header gains two last words, a count and an offset"
 unfoldable pub headerOf : List ℕ → Header
 headerOf u =
     record {
@@ -30,6 +31,7 @@ headerOf u =
         functions = u32At u 24;
         externs = u32At u 28;
         cases = u32At u 32;
+        lines = u32At u 64;
       };
       offsets = record {
         code = u32At u 36;
@@ -39,10 +41,11 @@ headerOf u =
         functions = u32At u 52;
         externs = u32At u 56;
         cases = u32At u 60;
+        lines = u32At u 68;
       };
     }
 
--- "Sections follow in that order from byte 64, without gaps, to the unit's end"
+-- "Sections follow in that order from byte 64, without gaps, to the unit's end", from byte 72 now; "the line section comes last"
 unfoldable pub sectionsFollow : Header → ℕ → Bool
 sectionsFollow h size =
     eqb (h .offsets .code) headerSize
@@ -52,7 +55,8 @@ sectionsFollow h size =
     && eqb (h .offsets .functions) (h .offsets .constants + constantSize * h .counts .constants)
     && eqb (h .offsets .externs) (h .offsets .functions + functionSize * h .counts .functions)
     && eqb (h .offsets .cases) (h .offsets .externs + externSize * h .counts .externs)
-    && eqb size (h .offsets .cases + caseSize * h .counts .cases)
+    && eqb (h .offsets .lines) (h .offsets .cases + caseSize * h .counts .cases)
+    && eqb size (h .offsets .lines + lineSize * h .counts .lines)
 
 -- "local slots s (at most 65,535)", "defer (0 or 1)"
 unfoldable pub goodCounts : Header → Bool
@@ -79,6 +83,9 @@ externsOf u = midOf (headerOf u .offsets .externs) (externSize * headerOf u .cou
 
 abbrev pub casesOf : List ℕ → List ℕ
 casesOf u = midOf (headerOf u .offsets .cases) (caseSize * headerOf u .counts .cases) u
+
+abbrev pub linesOf : List ℕ → List ℕ
+linesOf u = midOf (headerOf u .offsets .lines) (lineSize * headerOf u .counts .lines) u
 
 -- every entry of every section is as "Entries" says
 unfoldable pub goodEntries : List ℕ → Bool
@@ -107,11 +114,22 @@ isUnit u = let entries = goodEntries u in cond (hasSections u) entries false
 unfoldable pub wideSelect : List ℕ → ℕ
 wideSelect u = let metadata = metadataOf u in lowestBelow (headerOf u .counts .metadata) (λ k. isWideSelect (metadataAt metadata k))
 
+-- document 02, L3: "each entry an old place and a line of 32 bits, places strictly rising"
+unfoldable pub linesRise : List ℕ → Bool
+linesRise u =
+    let n = headerOf u .counts .instructions in
+    let lines = linesOf u in
+    every (headerOf u .counts .lines) (λ k. goodLine n lines k)
+
 -- The first rows of the table of answers, which are those of the unit's own bytes, from the last upward.
 
 -- "13, place of the lowest such record"
+unfoldable pub afterLines : List ℕ → Layout
+afterLines u = cond (ltb (wideSelect u) (headerOf u .counts .metadata)) (Refused tooManyCases (wideSelect u)) (Unit (headerOf u))
+
+-- "11, place 0: places not strictly rising or not below n; checked directly after 1"
 unfoldable pub afterUnit : List ℕ → Layout
-afterUnit u = cond (ltb (wideSelect u) (headerOf u .counts .metadata)) (Refused tooManyCases (wideSelect u)) (Unit (headerOf u))
+afterUnit u = let rest = afterLines u in cond (linesRise u) rest (Refused linePlaces 0)
 
 -- "refused 1, place 0: unit not as above"
 unfoldable pub layoutOf : List ℕ → Layout

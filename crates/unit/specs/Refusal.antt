@@ -40,6 +40,10 @@ unsoundLoop = 9
 abbrev pub lostLoop : ℕ
 lostLoop = 10
 
+-- document 02, L3: "places not strictly rising or not below n"
+abbrev pub linePlaces : ℕ
+linePlaces = 11
+
 -- document 02, L9: "a SelectExecLayout of more than 24"
 abbrev pub tooManyCases : ℕ
 tooManyCases = 13

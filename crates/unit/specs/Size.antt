@@ -4,7 +4,7 @@ use Prim.Native.Nat.{ℕ, _+_, _*_, _/_, min}
 
 -- bytes of the header and of one entry of each section
 abbrev pub headerSize : ℕ
-headerSize = 64
+headerSize = 72
 
 abbrev pub instructionSize : ℕ
 instructionSize = 8
@@ -24,20 +24,23 @@ externSize = 2
 abbrev pub caseSize : ℕ
 caseSize = 8
 
+abbrev pub lineSize : ℕ
+lineSize = 8
+
 -- bytes of one old place of a result
 abbrev pub placeSize : ℕ
 placeSize = 4
 
--- bytes of the result's header, and of a result of k instructions: "16 + 28n'"
+-- bytes of the result's header, and of a result of k instructions and l lines
 abbrev pub resultHeaderSize : ℕ
-resultHeaderSize = 16
+resultHeaderSize = 24
 
-abbrev pub resultSize : ℕ → ℕ
-resultSize k = resultHeaderSize + 28 * k
+abbrev pub resultSize : ℕ → ℕ → ℕ
+resultSize k l = resultHeaderSize + 28 * k + lineSize * l
 
--- "Output buffer: 16 + 28n bytes"
-abbrev pub outputRoom : ℕ → ℕ
-outputRoom n = resultSize n
+-- "Output buffer: 16 + 28n bytes"; document 02, L3: "Output room grows by 8 bytes and 8 per entry"
+abbrev pub outputRoom : ℕ → ℕ → ℕ
+outputRoom n l = resultSize n l
 
 -- "Work: 16n + 16 numbers of 32 bits"
 abbrev pub work32Room : ℕ → ℕ

@@ -3,11 +3,12 @@ ghost use mathlib.Core.Path.{_≡_};
 ghost use Prim.Native.Nat.{_+_, _*_, _≤_, _<_};
 ghost use lib.ListN.{length};
 ghost use borrow.Rule.Slice.PartMut.{putMid};
-ghost use Rattle.unit.specs.Size.{metadataSize, caseSize};
-ghost use Rattle.unit.specs.Entry.{metadataAt, metadataBytes, typeAt, constantOf, constantAt, functionAt, externAt, caseAt};
+ghost use Rattle.unit.specs.Size.{metadataSize, caseSize, lineSize};
+ghost use Rattle.unit.specs.Entry.{metadataAt, metadataBytes, typeAt, constantOf, constantAt, functionAt, externAt, caseAt, lineAt, lineBytes};
 use crate::Callee;
 use crate::Constant;
 use crate::Extern;
+use crate::Line;
 use crate::Metadata;
 use crate::SelectCase;
 use crate::size;
@@ -96,4 +97,24 @@ pub fn select_case(section: &[u8], k: usize) -> SelectCase
         slot: le::read_u16(section, at + 4),
         elements: le::read_u16(section, at + 6),
     }
+}
+
+pub fn line(section: &[u8], k: usize) -> Line
+    requires { ⌜ lineSize * k + lineSize ≤ length (now section) ⌝ }
+    ensures { λ r. ⌜ r ≡ lineAt (now (section .entry)) k ⌝ }
+{
+    let at = size::LINE * k;
+    Line {
+        place: le::read_u32(section, at),
+        line: le::read_u32(section, at + 4),
+    }
+}
+
+// The eight bytes of an entry at a byte of a buffer.
+pub fn write_line(d: &mut [u8], at: usize, e: Line)
+    requires { ⌜ at + lineSize ≤ length (now d) ⌝ }
+    ensures { λ _. ⌜ now (d .exit) ≡ putMid at lineSize (now (d .entry)) (lineBytes e) ⌝ }
+{
+    le::write_u32(d, at, e.place);
+    le::write_u32(d, at + 4, e.line);
 }

@@ -30,3 +30,8 @@ pub const FUNCTIONS_AT: usize = 52;
 pub const EXTERNS_AT: usize = 56;
 
 pub const CASES_AT: usize = 60;
+
+// Document 02, L3: the lines' count and where they start.
+pub const LINES: usize = 64;
+
+pub const LINES_AT: usize = 68;

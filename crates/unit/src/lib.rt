@@ -17,6 +17,7 @@ pub struct Counts {
     pub functions: usize,
     pub externs: usize,
     pub cases: usize,
+    pub lines: usize,
 }
 
 // The byte at which each section starts.
@@ -28,6 +29,7 @@ pub struct Offsets {
     pub functions: usize,
     pub externs: usize,
     pub cases: usize,
+    pub lines: usize,
 }
 
 pub struct Header {
@@ -77,4 +79,10 @@ pub struct SelectCase {
     pub queue: u16,
     pub slot: u16,
     pub elements: u16,
+}
+
+// A place and its line.
+pub struct Line {
+    pub place: u32,
+    pub line: u32,
 }

@@ -19,4 +19,6 @@ pub const UNSOUND_LOOP: u32 = 9;
 
 pub const LOST_LOOP: u32 = 10;
 
+pub const LINE_PLACES: u32 = 11;
+
 pub const TOO_MANY_CASES: u32 = 13;

@@ -6,14 +6,14 @@ ghost use lib.ListN.{length};
 ghost use borrow.Rule.Slice.PartMut.{midOf};
 ghost use Rattle.words.specs.Le.{u32At};
 ghost use Rattle.unit.specs.Size.{headerSize};
-ghost use Rattle.unit.specs.Layout.{isUnit, codeOf, metadataOf, typesOf, constantsOf, functionsOf, externsOf, casesOf};
+ghost use Rattle.unit.specs.Layout.{isUnit, codeOf, metadataOf, typesOf, constantsOf, functionsOf, externsOf, casesOf, linesOf};
 use crate::field;
 use crate::size;
 use words::le;
 
 // The header's number at a byte.
 pub fn word(unit: &[u8], at: usize) -> usize
-    requires { ⌜ (headerSize ≤ length (now unit)) × (at ≤ 60) ⌝ }
+    requires { ⌜ (headerSize ≤ length (now unit)) × (at ≤ 68) ⌝ }
     ensures { λ r. ⌜ (r ≡ u32At (now (unit .entry)) at) × (r < 2 ^ 32) ⌝ }
 {
     le::read_u32(unit, at) as usize
@@ -21,7 +21,7 @@ pub fn word(unit: &[u8], at: usize) -> usize
 
 // The byte past a section: the header has its start at byte `offset`, and its number of entries, of `size` bytes, at byte `count`.
 pub fn past(unit: &[u8], offset: usize, count: usize, size: usize) -> usize
-    requires { ⌜ (headerSize ≤ length (now unit)) × (offset ≤ 60) × (count ≤ 60) × (size ≤ 16) ⌝ }
+    requires { ⌜ (headerSize ≤ length (now unit)) × (offset ≤ 68) × (count ≤ 68) × (size ≤ 16) ⌝ }
     ensures { λ r. ⌜ r ≡ u32At (now (unit .entry)) offset + size * u32At (now (unit .entry)) count ⌝ }
 {
     word(unit, offset) + size * word(unit, count)
@@ -29,7 +29,7 @@ pub fn past(unit: &[u8], offset: usize, count: usize, size: usize) -> usize
 
 // That section.
 pub fn part(unit: &[u8], offset: usize, count: usize, size: usize) -> &[u8]
-    requires { ⌜ (headerSize ≤ length (now unit)) × (offset ≤ 60) × (count ≤ 60) × (size ≤ 16) × (u32At (now unit) offset + size * u32At (now unit) count ≤ length (now unit)) ⌝ }
+    requires { ⌜ (headerSize ≤ length (now unit)) × (offset ≤ 68) × (count ≤ 68) × (size ≤ 16) × (u32At (now unit) offset + size * u32At (now unit) count ≤ length (now unit)) ⌝ }
     ensures { λ r. ⌜ now r ≡ midOf (u32At (now (unit .entry)) offset) (size * u32At (now (unit .entry)) count) (now (unit .entry)) ⌝ }
 {
     let start = word(unit, offset);
@@ -84,4 +84,11 @@ pub fn cases(unit: &[u8]) -> &[u8]
     ensures { λ r. ⌜ now r ≡ casesOf (now (unit .entry)) ⌝ }
 {
     part(unit, field::CASES_AT, field::CASES, size::CASE)
+}
+
+pub fn lines(unit: &[u8]) -> &[u8]
+    requires { ⌜ isUnit (now unit) ≡ true ⌝ }
+    ensures { λ r. ⌜ now r ≡ linesOf (now (unit .entry)) ⌝ }
+{
+    part(unit, field::LINES_AT, field::LINES, size::LINE)
 }

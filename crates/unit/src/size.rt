@@ -4,7 +4,7 @@ ghost use Prim.Native.Nat.{_^_, _≤_, _<_, min};
 ghost use Rattle.unit.specs.Size.{outputRoom, work32Room, setWords, work64Room, maxLocalSlots};
 
 // Bytes of the header and of one entry of each section.
-pub const HEADER: usize = 64;
+pub const HEADER: usize = 72;
 
 pub const INSTRUCTION: usize = 8;
 
@@ -20,8 +20,10 @@ pub const EXTERN: usize = 2;
 
 pub const CASE: usize = 8;
 
+pub const LINE: usize = 8;
+
 // Bytes of the result's header, of one old place, and of all that a retained instruction takes.
-pub const RESULT_HEADER: usize = 16;
+pub const RESULT_HEADER: usize = 24;
 
 pub const PLACE: usize = 4;
 
@@ -37,11 +39,12 @@ pub const MAX_SET_WORDS: usize = 2097152;
 // The most cases of a select.
 pub const MAX_SELECT_CASES: u32 = 24;
 
-pub fn output_room(n: usize) -> usize
-    requires { ⌜ n < 2 ^ 32 ⌝ }
-    ensures { λ r. ⌜ r ≡ outputRoom n ⌝ }
+// A result of n instructions and l lines, at most.
+pub fn output_room(n: usize, l: usize) -> usize
+    requires { ⌜ (n < 2 ^ 32) × (l < 2 ^ 32) ⌝ }
+    ensures { λ r. ⌜ r ≡ outputRoom n l ⌝ }
 {
-    RESULT_HEADER + RETAINED * n
+    RESULT_HEADER + RETAINED * n + LINE * l
 }
 
 pub fn work32_room(n: usize) -> usize

@@ -1,7 +1,8 @@
 // What an instruction reads and writes, as sets of slots.
 ghost use mathlib.Core.Path.{_≡_};
 ghost use mathlib.Core.Bool.{true, false};
-ghost use Prim.Native.Nat.{_+_, _*_, _≤_, _<_};
+ghost use mathlib.Core.List.{List};
+ghost use Prim.Native.Nat.{ℕ, _+_, _*_, _≤_, _<_};
 ghost use lib.Dec.{eqb};
 ghost use lib.ListN.{length, getD};
 ghost use Rattle.words.specs.laws.Bits.{member};
@@ -12,12 +13,12 @@ ghost use Rattle.unit.specs.declared.Metadata.{Metadata};
 ghost use Rattle.unit.specs.Entry.{metadataAt};
 ghost use Rattle.unit.specs.Size.{metadataSize};
 ghost use Rattle.effects.specs.Shape.{Tables, tablesOf};
-ghost use Rattle.effects.specs.Effects.{allReads, writes};
+ghost use Rattle.effects.specs.Effects.{allReads};
 ghost use Rattle.effects.specs.laws.Form.{emptyRange};
 ghost use Rattle.effects.specs.laws.Ranges.{CasesInside};
 ghost use Rattle.effects.specs.laws.ByClass.{isOutside, readsByClass, writesByClass};
 ghost use Rattle.use_def.specs.laws.Sets.{Put, Same};
-ghost use Rattle.use_def.specs.laws.Touched.{cell, Within, reading, writing, Fits, Before};
+ghost use Rattle.use_def.specs.laws.Touched.{cell, Within, reading, writing, Fits, WritesFit, Before};
 ghost use Rattle.use_def.specs.laws.SingleSets.{SingleFits};
 ghost use Rattle.use_def.specs.laws.BranchSets.{BranchFits};
 ghost use Rattle.use_def.specs.laws.PlainSets.{SameRanges};
@@ -114,6 +115,7 @@ fn put_each_read(
     }
 }
 
+// Only surely written ranges: a perhaps written one "no longer ends a slot's life".
 fn put_each_write(
     row: &mut [u64],
     on: bool,
@@ -121,15 +123,14 @@ fn put_each_write(
     m: Metadata,
     functions: &[u8],
     externs: &[u8],
-    cases: &[u8],
 )
-    requires { ⌜ (length (now row) ≤ 1024) × CasesInside (now cases) (record { instruction = i; metadata = m }) × Within (64 * length (now row)) (writes (tablesOf (now functions) (now externs) (now cases)) (record { instruction = i; metadata = m })) ⌝ }
-    ensures { λ _. ⌜ Put on (writing (tablesOf (now (functions .entry)) (now (externs .entry)) (now (cases .entry))) (record { instruction = i; metadata = m })) (now (row .entry)) (now (row .exit)) ⌝ }
+    requires { ⌜ WritesFit (length (now row)) (now functions) (now externs) (record { instruction = i; metadata = m }) ⌝ }
+    ensures { λ _. ⌜ ((cases : List ℕ) → Put on (writing (tablesOf (now (functions .entry)) (now (externs .entry)) cases) (record { instruction = i; metadata = m })) (now (row .entry)) (now (row .exit))) ⌝ }
 {
-    let n = ranges::write_count(i, m);
+    let n = ranges::sure_count(i);
     let mut k: usize = 0;
     while k < n {
-        let r = ranges::write_range(k, i, m, functions, externs, cases);
+        let r = ranges::sure_range(k, i, m, functions, externs);
         row::put_range(row, r, on);
         k += 1;
     }
@@ -177,15 +178,14 @@ pub fn put_writes(
     p: usize,
     functions: &[u8],
     externs: &[u8],
-    cases: &[u8],
 )
-    requires { ⌜ (metadataSize * p + metadataSize ≤ length (now metadata)) × Fits (length (now row)) (tablesOf (now functions) (now externs) (now cases)) (record { instruction = i; metadata = metadataAt (now metadata) p }) ⌝ }
-    ensures { λ _. ⌜ Put on (writing (tablesOf (now (functions .entry)) (now (externs .entry)) (now (cases .entry))) (record { instruction = i; metadata = metadataAt (now (metadata .entry)) p })) (now (row .entry)) (now (row .exit)) ⌝ }
+    requires { ⌜ (metadataSize * p + metadataSize ≤ length (now metadata)) × WritesFit (length (now row)) (now functions) (now externs) (record { instruction = i; metadata = metadataAt (now metadata) p }) ⌝ }
+    ensures { λ _. ⌜ ((cases : List ℕ) → Put on (writing (tablesOf (now (functions .entry)) (now (externs .entry)) cases) (record { instruction = i; metadata = metadataAt (now (metadata .entry)) p })) (now (row .entry)) (now (row .exit))) ⌝ }
 {
     let c = i.class();
     if is_outside(c) {
         let m = ranges_metadata(i, metadata, p);
-        put_each_write(row, on, i, m, functions, externs, cases);
+        put_each_write(row, on, i, m, functions, externs);
         return;
     }
     row::put_range(row, write(c, i), on);
@@ -253,6 +253,6 @@ pub fn live_before(
     requires { ⌜ (metadataSize * p + metadataSize ≤ length (now metadata)) × Fits (length (now row)) (tablesOf (now functions) (now externs) (now cases)) (record { instruction = i; metadata = metadataAt (now metadata) p }) ⌝ }
     ensures { λ _. ⌜ Before (tablesOf (now (functions .entry)) (now (externs .entry)) (now (cases .entry))) (record { instruction = i; metadata = metadataAt (now (metadata .entry)) p }) (now (row .entry)) (now (row .exit)) ⌝ }
 {
-    put_writes(row, false, i, metadata, p, functions, externs, cases);
+    put_writes(row, false, i, metadata, p, functions, externs);
     put_reads(row, i, metadata, p, functions, externs, cases);
 }

@@ -8,33 +8,14 @@ use Prim.Native.Nat.{ℕ, suc, _+_, _-_, _≤_, _<_}
 use native.Mathlib.Omega.{arith}
 use lib.Dec.{eqb, ltb}
 use borrow.Author.Tests.{eqb-true, eqb-false, eq-eqb, ne-eqb, lt-ltb, le-ltb, ltb-true, ltb-false}
-use Rattle.words.specs.laws.Truth.{both, same-bool}
+use Rattle.words.specs.laws.Truth.{same-bool}
 use Rattle.values.specs.Values.{atStart, sameAtom}
 use Rattle.values.specs.laws.Folded.{integerOf}
+use Rattle.values.specs.laws.Lowest.{same-atom, atom-same}
 use Rattle.values.specs.laws.Entries.{Key, key, keyAt, newest}
 use Rattle.values.specs.laws.Memory.{Memory, keyAtom, constantKey, limit, atomAt, integerAt, Ordered, atomIn}
 use Rattle.values.specs.declared.Atom.{Atom}
 use Rattle.values.specs.declared.Atom.the-variants.{Integer, Float, Definition}
-
-pub same-atom : (v w : Atom) → sameAtom v w ≡ true → v ≡ w
-unfolding sameAtom
-same-atom (Integer x) (Integer y) e = ap Integer (eqb-true x y e)
-same-atom (Integer x) (Float y) e = let z : _≡_ {A = ℕ} 0 1 = cc in absurd (omega arith)
-same-atom (Integer x) (Definition q t) e = let z : _≡_ {A = ℕ} 0 1 = cc in absurd (omega arith)
-same-atom (Float x) (Integer y) e = let z : _≡_ {A = ℕ} 0 1 = cc in absurd (omega arith)
-same-atom (Float x) (Float y) e = ap Float (eqb-true x y e)
-same-atom (Float x) (Definition q t) e = let z : _≡_ {A = ℕ} 0 1 = cc in absurd (omega arith)
-same-atom (Definition p s) (Integer y) e = let z : _≡_ {A = ℕ} 0 1 = cc in absurd (omega arith)
-same-atom (Definition p s) (Float y) e = let z : _≡_ {A = ℕ} 0 1 = cc in absurd (omega arith)
-same-atom (Definition p s) (Definition q t) e =
-    let b = both (eqb p q) (eqb s t) e in
-    ap (λ (x : ℕ). Definition x s) (eqb-true p q (b .0)) ∙ ap (λ (x : ℕ). Definition q x) (eqb-true s t (b .1))
-
-pub atom-same : (v : Atom) → sameAtom v v ≡ true
-unfolding sameAtom
-atom-same (Integer x) = eq-eqb x x refl
-atom-same (Float x) = eq-eqb x x refl
-atom-same (Definition p s) = rw (eq-eqb p p refl, eq-eqb s s refl)
 
 key-both : (k : Key) {x y : ℕ} → k .left ≡ x → k .right ≡ y → k ≡ key x y
 key-both k {x} {y} e f = ap (λ (z : ℕ). key z (k .right)) e ∙ ap (λ (z : ℕ). key x z) f

@@ -1,23 +1,21 @@
 -- The memory holds a table of values: after each change of its words it is in order and holds the table with that change.
 -- Assumes nothing.
 use mathlib.Core.Path.{_≡_, refl, sym, ap, _∙_}
-use mathlib.Core.Bool.{Bool, true, false, cond, _&&_}
+use mathlib.Core.Bool.{Bool, true, false}
 use mathlib.Core.List.{List, _∷_}
-use mathlib.Core.Option.{none, some}
 use Prim.Native.Nat.{ℕ, _+_, _*_, _/_, _%_, _≤_, _<_}
 use native.Mathlib.Omega.{arith}
 use lib.Dec.{eqb}
 use lib.ListN.{getD}
-use borrow.Author.Tests.{eqb-true, eqb-false, eq-eqb, ne-eqb}
-use Rattle.values.specs.Values.{Values, SlotEntry, empty, valueIn, slotIn, expressionIn, sameAtom, usable, recordedSlot}
-use Rattle.values.specs.laws.Entries.{value, newest, Linked}
-use Rattle.values.specs.laws.Memory.{Memory, numberAt, markedAt, expressionKey, slotFound, limit, usableIn, usableAt, expressionIf, expressionAt, Ordered, atomIn, atomFound, HasNumber, Holds}
-use Rattle.values.specs.declared.Atom.{Atom}
+use borrow.Author.Tests.{eqb-true, eqb-false, eq-eqb, ne-eqb, lt-ltb}
+use Rattle.values.specs.Values.{Values, empty, valueIn, expressionIn, store}
+use Rattle.values.specs.laws.Entries.{newest, Linked}
+use Rattle.values.specs.laws.Memory.{Memory, numberAt, boundsOf, firstOf, endOf, expressionKey, limit, expressionIf, expressionAt, Ordered, atomIn, atomFound, HasNumber, Holds}
 use Rattle.values.specs.declared.Found.{Found}
 use Rattle.values.specs.declared.Found.the-variants.{At, Nothing}
-use Rattle.values.proofs.Atoms.{same-atom, atom-same, atom-start, same-number}
+use Rattle.values.proofs.Atoms.{atom-start}
 
--- ---- the words of slots and marks
+-- ---- the words of slots and bounds
 
 module _ (epoch d : ℕ) (fits : d < 4294967296) where
   abbrev word : ℕ
@@ -34,99 +32,65 @@ module _ (epoch d : ℕ) (fits : d < 4294967296) where
   unfolding numberAt
   number-stored m s e f = rw (f, e, word-epoch, word-low, eq-eqb epoch epoch refl)
 
-module _ (epoch s : ℕ) (fits : s < 65536) where
-  pub mark-epoch : (65536 * epoch + s) / 65536 ≡ epoch
-  mark-epoch = omega arith
-
-  pub mark-found : (m : Memory) (d : ℕ) → m .epoch ≡ epoch → m .mark d ≡ 65536 * epoch + s → markedAt m d ≡ At s
-  unfolding markedAt
-  mark-found m d e f =
-      let low : (65536 * epoch + s) % 65536 ≡ s = omega arith in
-      rw (f, e, mark-epoch, low, eq-eqb epoch epoch refl)
-
 pub number-same : (m m′ : Memory) (s : ℕ) → m′ .epoch ≡ m .epoch → m′ .slot s ≡ m .slot s → numberAt m′ s ≡ numberAt m s
 unfolding numberAt
 number-same m m′ s e f = rw (e, f)
 
-pub mark-same : (m m′ : Memory) (d : ℕ) → m′ .epoch ≡ m .epoch → m′ .mark d ≡ m .mark d → markedAt m′ d ≡ markedAt m d
-unfolding markedAt
-mark-same m m′ d e f = rw (e, f)
+-- bounds of this epoch, from `low` to `high`
+module _ (epoch low high word : ℕ) (is : word ≡ 4294967296 * epoch + 65536 * low + high) (low-fits : low < 65536) (high-fits : high < 65536) where
+  pub bounds-epoch : word / 4294967296 ≡ epoch
+  bounds-epoch = omega arith
 
--- a mark of this epoch
-pub marked-word : (m : Memory) (d : ℕ) {r : ℕ} → markedAt m d ≡ At r → (m .mark d / 65536 ≡ m .epoch) × (m .mark d % 65536 ≡ r)
-unfolding markedAt
-marked-word m d {r} e = go (eqb (m .mark d / 65536) (m .epoch)) refl e
-  where
-    go : (t : Bool) → eqb (m .mark d / 65536) (m .epoch) ≡ t → cond t (At (m .mark d % 65536)) Nothing ≡ At r
-        → (m .mark d / 65536 ≡ m .epoch) × (m .mark d % 65536 ≡ r)
-    go true q z = (eqb-true (m .mark d / 65536) (m .epoch) q, cc)
-    go false q z = let w : _≡_ {A = ℕ} 0 1 = cc in absurd (omega arith)
+  pub bounds-high : word % 65536 ≡ high
+  bounds-high = omega arith
 
-pub marked-low : {n S : ℕ} {m : Memory} → Ordered n S m → (d : ℕ) {r : ℕ} → d < limit n S m → markedAt m d ≡ At r → r < S
-marked-low {m} o d used e =
-    let w = marked-word m d e in
-    let few = o .few-constants in
-    rw (← w .1) (o .marks-low d (omega arith) (w .0))
+  pub bounds-first : (d : ℕ) → firstOf epoch word d ≡ low
+  unfolding firstOf
+  bounds-first d =
+      let q : word / 65536 ≡ 65536 * epoch + low = omega arith in
+      let e : (65536 * epoch + low) % 65536 ≡ low = omega arith in
+      rw (bounds-epoch, eq-eqb epoch epoch refl, q, e)
 
--- ---- lists of entries of the table of values
-
--- the slot s recorded for the value w
-abbrev pub recording : Values → ℕ → Atom → Values
-recording v s w = record { slots = v .slots; recorded = record { slot = s; value = w } ∷ v .recorded; expressions = v .expressions }
-
-pub slot-same : (es : List SlotEntry) (s : ℕ) (x w : Atom) → sameAtom x w ≡ true → slotIn (record { slot = s; value = x } ∷ es) w ≡ some s
-unfolding slotIn
-slot-same es s x w e = rw e
-
-pub slot-other : (es : List SlotEntry) (s : ℕ) (x w : Atom) → sameAtom x w ≡ false → slotIn (record { slot = s; value = x } ∷ es) w ≡ slotIn es w
-unfolding slotIn
-slot-other es s x w e = rw e
-
--- what holds of the value of a new entry and of those that were there holds of all
-slot-more : (P : Atom → Type 0) (es : List SlotEntry) (s : ℕ) (x : Atom) → P x → ((w : Atom) (r : ℕ) → slotIn es w ≡ some r → P w)
-    → (w : Atom) (r : ℕ) → slotIn (record { slot = s; value = x } ∷ es) w ≡ some r → P w
-slot-more P es s x h f w r e = go (sameAtom x w) refl
-  where
-    go : (t : Bool) → sameAtom x w ≡ t → P w
-    go true q = rw (← same-atom x w q) h
-    go false q = f w r (sym (slot-other es s x w q) ∙ e)
+  pub bounds-end : (S d : ℕ) → endOf S epoch word d ≡ high + 1
+  unfolding endOf
+  bounds-end S d = rw (bounds-epoch, eq-eqb epoch epoch refl, bounds-high)
 
 -- ---- memories that differ from another one in some words
 
 abbrev pub turned : Memory → (ℕ → ℕ) → (ℕ → ℕ) → Memory
-turned m slot mark =
+turned m slot bounds =
     record {
       epoch = m .epoch;
       constants = m .constants;
       expressions = m .expressions;
       slot = slot;
-      mark = mark;
+      bounds = bounds;
       constantTable = m .constantTable;
       expressionTable = m .expressionTable;
     }
 
 -- with one constant more
 abbrev pub grown : Memory → (ℕ → ℕ) → (ℕ → ℕ) → List ℕ → Memory
-grown m slot mark u =
+grown m slot bounds u =
     record {
       epoch = m .epoch;
       constants = m .constants + 1;
       expressions = m .expressions;
       slot = slot;
-      mark = mark;
+      bounds = bounds;
       constantTable = u;
       expressionTable = m .expressionTable;
     }
 
 -- with one expression more
 abbrev pub taught : Memory → (ℕ → ℕ) → (ℕ → ℕ) → List ℕ → Memory
-taught m slot mark u =
+taught m slot bounds u =
     record {
       epoch = m .epoch;
       constants = m .constants;
       expressions = m .expressions + 1;
       slot = slot;
-      mark = mark;
+      bounds = bounds;
       constantTable = m .constantTable;
       expressionTable = u;
     }
@@ -136,36 +100,32 @@ module _ (n S : ℕ) (few : n ≤ 65536) where
   pub small : {m : Memory} → Ordered n S m → limit n S m ≤ 196609
   small o = let a = o .locals in let b = o .few-constants in omega arith
 
-  -- ---- a slot recorded for a number
-  module _ {m : Memory} (o : Ordered n S m) (d s : ℕ) (low : s < S) (used : d < limit n S m) (slot mark : ℕ → ℕ)
-      (slots : (r : ℕ) → r < S → slot r ≡ m .slot r) (here : mark d ≡ 65536 * m .epoch + s) (there : (e : ℕ) → (e ≡ d → ⊥) → mark e ≡ m .mark e) where
-    fits : s < 65536
-    fits = let a = o .locals in omega arith
+  -- ---- bounds x are now w, and some slots may have other numbers
+  module _ {m : Memory} (o : Ordered n S m) (slot bounds : ℕ → ℕ) (x w : ℕ) (here : bounds x ≡ w) (there : (y : ℕ) → (y ≡ x → ⊥) → bounds y ≡ m .bounds y) where
+    abbrev new : Memory
+    new = turned m slot bounds
 
-    number : (r : ℕ) → r < S → numberAt (turned m slot mark) r ≡ numberAt m r
-    number r l = number-same m (turned m slot mark) r refl (slots r l)
-
-    marks : (P : ℕ → ℕ → Type 0) → P d (65536 * m .epoch + s) → ((e : ℕ) → (e ≡ d → ⊥) → P e (m .mark e)) → (e : ℕ) → P e (mark e)
-    marks P h f e = go (eqb e d) refl
+    -- what holds of w and of the other bounds
+    bounds-by : (P : ℕ → ℕ → Type 0) → P x w → ((y : ℕ) → P y (m .bounds y)) → (y : ℕ) → P y (bounds y)
+    bounds-by P h f y = go (eqb y x) refl
       where
-        go : (t : Bool) → eqb e d ≡ t → P e (mark e)
-        go true q = rw (eqb-true e d q, here) h
-        go false q = rw (there e (eqb-false e d q)) (f e (eqb-false e d q))
+        go : (t : Bool) → eqb y x ≡ t → P y (bounds y)
+        go true q = rw (eqb-true y x q, here) h
+        go false q = rw (there y (eqb-false y x q)) (f y)
 
-    pub mark-ordered : Ordered n S (turned m slot mark)
-    mark-ordered =
+    pub turned-ordered : (w / 4294967296 ≡ m .epoch) → w % 65536 < S → ((r : ℕ) → r < S → slot r / 4294967296 ≤ m .epoch)
+        → ((r : ℕ) → r < S → numberAt (turned m slot bounds) r < limit n S m) → Ordered n S (turned m slot bounds)
+    turned-ordered now inside slots-past slots-low =
         record {
           locals = o .locals;
           constants = o .constants;
           expressions = o .expressions;
           few-constants = o .few-constants;
           few-expressions = o .few-expressions;
-          slots-past = λ r l. rw (slots r l) (o .slots-past r l);
-          marks-past = marks (λ e w. e < S + 2 * n + 1 → w / 65536 ≤ m .epoch) (λ l. omega (arith, mark-epoch (m .epoch) s fits)) (λ e g l. o .marks-past e l);
-          marks-low = marks (λ e w. e < S + 2 * n + 1 → w / 65536 ≡ m .epoch → w % 65536 < S)
-              (λ l q. omega arith) (λ e g. o .marks-low e);
-          fresh = marks (λ e w. limit n S m ≤ e → e < S + 2 * n + 1 → w / 65536 < m .epoch) (λ l g. absurd (omega arith)) (λ e g. o .fresh e);
-          slots-low = λ r l. rw (number r l) (o .slots-low r l);
+          slots-past = slots-past;
+          bounds-past = bounds-by (λ y z. y < 2 * (S + 2 * n + 1) → z / 4294967296 ≤ m .epoch) (λ l. omega arith) (o .bounds-past);
+          bounds-low = bounds-by (λ y z. y < 2 * (S + 2 * n + 1) → z / 4294967296 ≡ m .epoch → z % 65536 < S) (λ l e. inside) (o .bounds-low);
+          slots-low = slots-low;
           values-low = o .values-low;
           lefts-low = o .lefts-low;
           rights-low = o .rights-low;
@@ -173,46 +133,57 @@ module _ (n S : ℕ) (few : n ≤ 65536) where
           kinds = o .kinds;
         }
 
-    found-same : (dest : ℕ → ℕ) (f : Found) → atomFound n S dest (turned m slot mark) f ≡ atomFound n S dest m f
-    unfolding atomFound
-    found-same dest (At x) = refl
-    found-same dest Nothing = refl
+    module _ (types : List ℕ) (dest : ℕ → ℕ) {v : Values} (h : Holds n S types dest v m) where
+      abbrev index : ℕ → ℕ
+      index r = boundsOf (numberAt new r) (getD types r 0)
 
-    pub mark-holds : (dest : ℕ → ℕ) {v : Values} → Holds n S dest v m → Holds n S dest (recording v s (atomIn n S dest m d)) (turned m slot mark)
-    unfolding slotFound
-    mark-holds dest {v} h =
-        record {
-          slots = λ r l. rw (number r l) (h .slots r l);
-          recorded = λ e l. go e l (eqb d e) refl;
-          recorded-numbered = slot-more (λ w. HasNumber n S dest (turned m slot mark) w) (v .recorded) s (atomIn n S dest m d) (record { number = d; low = used; is = refl })
-              (λ w r q. let z = h .recorded-numbered w r q in record { number = z .number; low = z .low; is = z .is });
-          expressions = λ op flags left right a b c e. same-found op flags left right ∙ h .expressions op flags left right a b c e;
-          left-numbered = λ e w q. let z = h .left-numbered e w q in record { number = z .number; low = z .low; is = z .is };
-          right-numbered = λ e w q. let z = h .right-numbered e w q in record { number = z .number; low = z .low; is = z .is };
-        }
-      where
-        same-found : (op flags left right : ℕ) → atomFound n S dest (turned m slot mark) (expressionAt n S (turned m slot mark) (expressionKey op flags left right))
-            ≡ atomFound n S dest m (expressionAt n S m (expressionKey op flags left right))
-        same-found op flags left right = found-same dest (expressionAt n S m (expressionKey op flags left right))
+      found-same : (f : Found) → atomFound n S dest new f ≡ atomFound n S dest m f
+      unfolding atomFound
+      found-same (At d) = refl
+      found-same Nothing = refl
 
-        go : (e : ℕ) → e < limit n S m → (t : Bool) → eqb d e ≡ t
-            → slotFound (markedAt (turned m slot mark) e) ≡ slotIn (record { slot = s; value = atomIn n S dest m d } ∷ v .recorded) (atomIn n S dest m e)
-        go e l true q =
-            let z : d ≡ e = eqb-true d e q in
-            rw (← z, mark-found (m .epoch) s fits (turned m slot mark) d refl here) (sym (slot-same (v .recorded) s (atomIn n S dest m d) (atomIn n S dest m d) (atom-same (atomIn n S dest m d))))
-        go e l false q =
-            let z : e ≡ d → ⊥ = λ y. eqb-false d e q (sym y) in
-            rw (mark-same m (turned m slot mark) e refl (there e z))
-            (h .recorded e l ∙ sym (slot-other (v .recorded) s (atomIn n S dest m d) (atomIn n S dest m e) (same-number n S few dest o d e used l ∙ q)))
+      -- the slots that w is of lie within it, and the others have their numbers
+      pub turned-holds : {v′ : Values} → v′ .expressions ≡ v .expressions
+          → ((r : ℕ) → r < S → atomIn n S dest m (numberAt (turned m slot bounds) r) ≡ valueIn (v′ .slots) r)
+          → ((r : ℕ) → r < S → boundsOf (numberAt (turned m slot bounds) r) (getD types r 0) ≡ x
+          → (firstOf (m .epoch) w (numberAt (turned m slot bounds) r) ≤ r) × (r < endOf S (m .epoch) w (numberAt (turned m slot bounds) r)))
+          → ((r : ℕ) → r < S → (boundsOf (numberAt (turned m slot bounds) r) (getD types r 0) ≡ x → ⊥) → numberAt (turned m slot bounds) r ≡ numberAt m r)
+          → Holds n S types dest v′ (turned m slot bounds)
+      turned-holds {v′} same values inside others =
+          record {
+            slots = values;
+            first = λ r l. within r l (eqb (index r) x) refl .0;
+            end = λ r l. within r l (eqb (index r) x) refl .1;
+            expressions = λ op flags left right a b c d. rw same (found-same (expressionAt n S m (expressionKey op flags left right)) ∙ h .expressions op flags left right a b c d);
+            left-numbered = λ e u q. let z = h .left-numbered e u (rw same at q) in record { number = z .number; low = z .low; is = z .is };
+            right-numbered = λ e u q. let z = h .right-numbered e u (rw same at q) in record { number = z .number; low = z .low; is = z .is };
+          }
+        where
+          within : (r : ℕ) → r < S → (b : Bool) → eqb (index r) x ≡ b
+              → (firstOf (m .epoch) (bounds (index r)) (numberAt new r) ≤ r) × (r < endOf S (m .epoch) (bounds (index r)) (numberAt new r))
+          within r l true q = let e : index r ≡ x = eqb-true (index r) x q in rw (e, here) (inside r l e)
+          within r l false q =
+              let e = eqb-false (index r) x q in
+              rw (there (index r) e, others r l e) (h .first r l, h .end r l)
 
-  -- ---- a number stored in a slot
-  module _ {m : Memory} (o : Ordered n S m) (s d : ℕ) (low : s < S) (used : d < limit n S m) (slot mark : ℕ → ℕ)
-      (here : slot s ≡ 4294967296 * m .epoch + d) (there : (r : ℕ) → r < S → (r ≡ s → ⊥) → slot r ≡ m .slot r) (marks : (e : ℕ) → mark e ≡ m .mark e) where
+  -- ---- a number stored in a slot, and bounds that reach to it
+  module _ {m : Memory} (o : Ordered n S m) (s d type low high : ℕ) (is-slot : s < S) (used : d < limit n S m) (low-s : low ≤ s) (s-high : s ≤ high) (high-low : high < S)
+      (slot bounds : ℕ → ℕ) (here : slot s ≡ 4294967296 * m .epoch + d) (there : (r : ℕ) → r < S → (r ≡ s → ⊥) → slot r ≡ m .slot r)
+      (bounds-here : bounds (boundsOf d type) ≡ 4294967296 * m .epoch + 65536 * low + high) (bounds-there : (y : ℕ) → (y ≡ boundsOf d type → ⊥) → bounds y ≡ m .bounds y) where
+    abbrev put : Memory
+    put = turned m slot bounds
+
+    abbrev w : ℕ
+    w = 4294967296 * m .epoch + 65536 * low + high
+
     narrow : d < 4294967296
     narrow = omega (arith, small o)
 
-    abbrev put : Memory
-    put = turned m slot mark
+    low-fits : low < 65536
+    low-fits = let a = o .locals in omega arith
+
+    high-fits : high < 65536
+    high-fits = let a = o .locals in omega arith
 
     stored-here : numberAt put s ≡ d
     stored-here = number-stored (m .epoch) d narrow put s refl here
@@ -220,6 +191,7 @@ module _ (n S : ℕ) (few : n ≤ 65536) where
     stored-there : (r : ℕ) → r < S → (r ≡ s → ⊥) → numberAt put r ≡ numberAt m r
     stored-there r l g = number-same m put r refl (there r l g)
 
+    -- what holds of slot s and of the others
     slots-put : (P : ℕ → ℕ → Type 0) → P s d → ((r : ℕ) → r < S → (r ≡ s → ⊥) → P r (numberAt m r)) → (r : ℕ) → r < S → P r (numberAt put r)
     slots-put P h f r l = go (eqb r s) refl
       where
@@ -234,52 +206,67 @@ module _ (n S : ℕ) (few : n ≤ 65536) where
         go true q = rw (eqb-true r s q, here) (omega (arith, word-epoch (m .epoch) d narrow))
         go false q = rw (there r l (eqb-false r s q)) (o .slots-past r l)
 
-    pub put-ordered : Ordered n S (turned m slot mark)
+    pub put-ordered : Ordered n S (turned m slot bounds)
     put-ordered =
-        record {
-          locals = o .locals;
-          constants = o .constants;
-          expressions = o .expressions;
-          few-constants = o .few-constants;
-          few-expressions = o .few-expressions;
-          slots-past = past-put;
-          marks-past = λ e l. rw (marks e) (o .marks-past e l);
-          marks-low = λ e. rw (marks e) (o .marks-low e);
-          fresh = λ e l g. rw (marks e) (o .fresh e l g);
-          slots-low = slots-put (λ r x. x < limit n S m) used (λ r l g. o .slots-low r l);
-          values-low = o .values-low;
-          lefts-low = o .lefts-low;
-          rights-low = o .rights-low;
-          not-zero = o .not-zero;
-          kinds = o .kinds;
-        }
+        turned-ordered o slot bounds (boundsOf d type) w bounds-here bounds-there (bounds-epoch (m .epoch) low high w refl low-fits high-fits)
+        (rw (bounds-high (m .epoch) low high w refl low-fits high-fits) high-low) past-put
+        (slots-put (λ r x. x < limit n S m) used (λ r l g. o .slots-low r l))
 
-    pub put-number : numberAt (turned m slot mark) s ≡ d
-    put-number = stored-here
+    -- the slots of the group that held number d before lie within the bounds
+    pub put-holds : (types : List ℕ) (dest : ℕ → ℕ) {v : Values} → getD types s 0 ≡ type → Holds n S types dest v m
+        → ((r : ℕ) → r < S → numberAt m r ≡ d → getD types r 0 % 2 ≡ type % 2 → (low ≤ r) × (r ≤ high))
+        → Holds n S types dest (store v s (atomIn n S dest m d)) (turned m slot bounds)
+    unfolding store valueIn
+    put-holds types dest {v} is h cover =
+        turned-holds o slot bounds (boundsOf d type) w bounds-here bounds-there types dest h refl
+        (slots-put (λ r x. atomIn n S dest m x ≡ valueIn (record { slot = s; value = atomIn n S dest m d } ∷ v .slots) r)
+        (rw (eq-eqb s s refl)) (λ r l g. rw (ne-eqb s r (λ e. g (sym e))) (h .slots r l)))
+        (λ r l e. rw (bounds-first (m .epoch) low high w refl low-fits high-fits (numberAt put r), bounds-end (m .epoch) low high w refl low-fits high-fits S (numberAt put r)) (inside r l e))
+        (λ r l e. stored-there r l (λ q. e (rw (q, stored-here, is))))
+      where
+        apart : (a b c e : ℕ) → 2 * a + c % 2 ≡ 2 * b + e % 2 → (a ≡ b) × (c % 2 ≡ e % 2)
+        apart a b c e q = (omega arith, omega arith)
 
-    found-put : (dest : ℕ → ℕ) (f : Found) → atomFound n S dest put f ≡ atomFound n S dest m f
-    unfolding atomFound
-    found-put dest (At x) = refl
-    found-put dest Nothing = refl
+        inside : (r : ℕ) → r < S → boundsOf (numberAt put r) (getD types r 0) ≡ boundsOf d type → (low ≤ r) × (r < high + 1)
+        inside =
+            slots-put (λ r x. boundsOf x (getD types r 0) ≡ boundsOf d type → (low ≤ r) × (r < high + 1)) (λ e. (low-s, omega arith))
+            (λ r l g e. let q = apart (numberAt m r) d (getD types r 0) type e in let c = cover r l (q .0) (q .1) in (c .0, omega (arith, c .1)))
 
-    pub put-holds : (dest : ℕ → ℕ) {v : Values} → Holds n S dest v m
-        → Holds n S dest (record { slots = record { slot = s; value = atomIn n S dest m d } ∷ v .slots; recorded = v .recorded; expressions = v .expressions }) (turned m slot mark)
-    unfolding valueIn
-    put-holds dest {v} h =
-        record {
-          slots = slots-put (λ r x. atomIn n S dest m x ≡ valueIn (record { slot = s; value = atomIn n S dest m d } ∷ v .slots) r)
-              (rw (eq-eqb s s refl)) (λ r l g. rw (ne-eqb s r (λ e. g (sym e))) (h .slots r l));
-          recorded = λ e l. rw (mark-same m put e refl (marks e)) (h .recorded e l);
-          recorded-numbered = λ w r q. let z = h .recorded-numbered w r q in record { number = z .number; low = z .low; is = z .is };
-          expressions = λ op flags left right a b c e. found-put dest (expressionAt n S m (expressionKey op flags left right)) ∙ h .expressions op flags left right a b c e;
-          left-numbered = λ e w q. let z = h .left-numbered e w q in record { number = z .number; low = z .low; is = z .is };
-          right-numbered = λ e w q. let z = h .right-numbered e w q in record { number = z .number; low = z .low; is = z .is };
-        }
+  -- ---- the first slot of some bounds raised
+  module _ {m : Memory} (o : Ordered n S m) (x low high : ℕ) (low-narrow : low < 65536) (high-low : high < S)
+      (slot bounds : ℕ → ℕ) (slots : (r : ℕ) → r < S → slot r ≡ m .slot r)
+      (here : bounds x ≡ 4294967296 * m .epoch + 65536 * low + high) (there : (y : ℕ) → (y ≡ x → ⊥) → bounds y ≡ m .bounds y) where
+    abbrev raised : Memory
+    raised = turned m slot bounds
+
+    abbrev z : ℕ
+    z = 4294967296 * m .epoch + 65536 * low + high
+
+    high-narrow : high < 65536
+    high-narrow = let a = o .locals in omega arith
+
+    number : (r : ℕ) → r < S → numberAt raised r ≡ numberAt m r
+    number r l = number-same m raised r refl (slots r l)
+
+    pub raise-ordered : Ordered n S (turned m slot bounds)
+    raise-ordered =
+        turned-ordered o slot bounds x z here there (bounds-epoch (m .epoch) low high z refl low-narrow high-narrow)
+        (rw (bounds-high (m .epoch) low high z refl low-narrow high-narrow) high-low) (λ r l. rw (slots r l) (o .slots-past r l)) (λ r l. rw (number r l) (o .slots-low r l))
+
+    pub raise-holds : (types : List ℕ) (dest : ℕ → ℕ) {v : Values} → Holds n S types dest v m
+        → ((r : ℕ) → r < S → boundsOf (numberAt m r) (getD types r 0) ≡ x → (low ≤ r) × (r ≤ high))
+        → Holds n S types dest v (turned m slot bounds)
+    raise-holds types dest {v} h cover =
+        turned-holds o slot bounds x z here there types dest h refl (λ r l. rw (number r l) (h .slots r l))
+        (λ r l e.
+        let c = cover r l (rw (number r l) at e) in
+        rw (bounds-first (m .epoch) low high z refl low-narrow high-narrow (numberAt raised r), bounds-end (m .epoch) low high z refl low-narrow high-narrow S (numberAt raised r)) (c .0, omega (arith, c .1)))
+        (λ r l e. number r l)
 
   -- ---- nothing is known where all is of an earlier epoch
   module _ (m : Memory) (locals : S ≤ 65536) (constants : m .constants ≡ 0) (expressions : m .expressions ≡ 0)
       (linked : Linked (m .constantTable) n (m .epoch) 0) (terms-linked : Linked (m .expressionTable) n (m .epoch) 0)
-      (slots : (s : ℕ) → s < S → m .slot s / 4294967296 < m .epoch) (marks : (d : ℕ) → d < S + 2 * n + 1 → m .mark d / 65536 < m .epoch) where
+      (slots : (s : ℕ) → s < S → m .slot s / 4294967296 < m .epoch) (bounds : (x : ℕ) → x < 2 * (S + 2 * n + 1) → m .bounds x / 4294967296 < m .epoch) where
     own : (s : ℕ) → s < S → numberAt m s ≡ s
     unfolding numberAt
     own s l = let f = slots s l in rw (ne-eqb (m .slot s / 4294967296) (m .epoch) (λ e. omega arith))
@@ -293,9 +280,8 @@ module _ (n S : ℕ) (few : n ≤ 65536) where
           few-constants = omega arith;
           few-expressions = omega arith;
           slots-past = λ s l. let f = slots s l in omega arith;
-          marks-past = λ d l. let f = marks d l in omega arith;
-          marks-low = λ d l e. let f = marks d l in absurd (omega arith);
-          fresh = λ d l f. marks d f;
+          bounds-past = λ x l. let f = bounds x l in omega arith;
+          bounds-low = λ x l e. let f = bounds x l in absurd (omega arith);
           slots-low = λ s l. rw (own s l) (omega arith);
           values-low = λ j l. absurd (omega arith);
           lefts-low = λ j l. absurd (omega arith);
@@ -304,49 +290,27 @@ module _ (n S : ℕ) (few : n ≤ 65536) where
           kinds = λ j l. absurd (omega arith);
         }
 
-    unmarked : (d : ℕ) → d < S + 2 * n + 1 → markedAt m d ≡ Nothing
-    unfolding markedAt
-    unmarked d l = let f = marks d l in rw (ne-eqb (m .mark d / 65536) (m .epoch) (λ e. omega arith))
+    -- no bounds are of this epoch: those of a slot's own number are of that slot
+    module _ (types : List ℕ) (s : ℕ) (l : s < S) where
+      earlier : eqb (m .bounds (boundsOf s (getD types s 0)) / 4294967296) (m .epoch) ≡ false
+      earlier = let f = bounds (boundsOf s (getD types s 0)) (omega arith) in ne-eqb (m .bounds (boundsOf s (getD types s 0)) / 4294967296) (m .epoch) (λ e. omega arith)
 
-    pub nothing-holds : (dest : ℕ → ℕ) → Holds n S dest empty m
-    unfolding valueIn slotIn expressionIn slotFound atomFound expressionIf newest
-    nothing-holds dest =
+      own-first : firstOf (m .epoch) (m .bounds (boundsOf s (getD types s 0))) s ≤ s
+      unfolding firstOf
+      own-first = rw earlier (omega arith)
+
+      own-end : s < endOf S (m .epoch) (m .bounds (boundsOf s (getD types s 0))) s
+      unfolding endOf
+      own-end = rw (earlier, lt-ltb s S l) (omega arith)
+
+    pub nothing-holds : (types : List ℕ) (dest : ℕ → ℕ) → Holds n S types dest empty m
+    unfolding valueIn expressionIn atomFound expressionIf newest
+    nothing-holds types dest =
         record {
           slots = λ s l. rw (own s l) (atom-start n S dest (m .constantTable) s l);
-          recorded = λ d l. let f : d < S + 2 * n + 1 = omega arith in rw (unmarked d f);
-          recorded-numbered = λ w r e. let z : _≡_ {A = ℕ} 0 1 = cc in absurd (omega arith);
+          first = λ s l. rw (own s l) (own-first types s l);
+          end = λ s l. rw (own s l) (own-end types s l);
           expressions = λ op flags left right a b c d. rw expressions;
           left-numbered = λ e w q. let z : _≡_ {A = ℕ} 0 1 = cc in absurd (omega arith);
           right-numbered = λ e w q. let z : _≡_ {A = ℕ} 0 1 = cc in absurd (omega arith);
         }
-
-  -- ---- the recorded slot where it still holds the value and has the type
-  module _ {m : Memory} (o : Ordered n S m) (dest : ℕ → ℕ) {v : Values} (h : Holds n S dest v m) (types : List ℕ) (d type : ℕ) (used : d < limit n S m) where
-    usable-found : (f : Found) → markedAt m d ≡ f
-        → slotFound (usableIn types m d type f) ≡ usable types v (atomIn n S dest m d) type (slotFound f)
-    unfolding usableIn usable slotFound
-    usable-found Nothing e = refl
-    usable-found (At r) e =
-        let low = marked-low o d used e in
-        rw (← h .slots r low, same-number n S few dest o (numberAt m r) d (o .slots-low r low) used) (go (eqb (numberAt m r) d && eqb (getD types r 0) type))
-      where
-        go : (t : Bool) → slotFound (cond t (At r) Nothing) ≡ cond t (some r) none
-        go true = refl
-        go false = refl
-
-    pub usable-holds : slotFound (usableAt types m d type) ≡ recordedSlot types v (atomIn n S dest m d) type
-    unfolding recordedSlot
-    usable-holds = usable-found (markedAt m d) refl ∙ ap (usable types v (atomIn n S dest m d) type) (h .recorded d used)
-
--- a slot that is found to be usable is the recorded one, and has the number
-pub usable-marked : (types : List ℕ) (m : Memory) (d type : ℕ) (f : Found) {r : ℕ} → usableIn types m d type f ≡ At r
-    → (f ≡ At r) × (numberAt m r ≡ d)
-unfolding usableIn
-usable-marked types m d type Nothing e = let z : _≡_ {A = ℕ} 0 1 = cc in absurd (omega arith)
-usable-marked types m d type (At q) {r} e = go (eqb (numberAt m q) d) refl (eqb (getD types q 0) type) e
-  where
-    go : (x : Bool) → eqb (numberAt m q) d ≡ x → (y : Bool) → cond (x && y) (At q) Nothing ≡ At r
-        → (At q ≡ At r) × (numberAt m r ≡ d)
-    go true k true z = let p : q ≡ r = cc in rw (← p) (refl, eqb-true (numberAt m q) d k)
-    go true k false z = let w : _≡_ {A = ℕ} 0 1 = cc in absurd (omega arith)
-    go false k y z = let w : _≡_ {A = ℕ} 0 1 = cc in absurd (omega arith)

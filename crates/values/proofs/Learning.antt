@@ -7,17 +7,19 @@ use mathlib.Core.Option.{Option, none, some}
 use Prim.Native.Nat.{ℕ, zero, suc, _+_, _*_, _-_, _/_, _%_, _≤_, _<_}
 use native.Mathlib.Omega.{arith}
 use lib.Dec.{eqb, ltb}
+use lib.ListN.{getD}
 use borrow.Author.Tests.{eqb-true, eqb-false, eq-eqb, ne-eqb, ltb-true, ltb-false}
 use Rattle.words.specs.laws.Truth.{both, same-bool}
-use Rattle.values.specs.Values.{Values, Expression, slotIn, expressionIn, sameAtom, sameExpression, learn}
+use Rattle.values.specs.Values.{Values, Expression, expressionIn, sameAtom, sameExpression, learn}
 use Rattle.values.specs.laws.Entries.{Key, keyAt, value, newest, sameKey, Added}
 use Rattle.values.specs.laws.Search.{same-key, key-same, newest-le, newest-key}
-use Rattle.values.specs.laws.Memory.{Memory, numberAt, markedAt, keyAtom, constantKey, expressionKey, slotFound, limit, expressionIf, expressionAt, Ordered, atomIn, atomFound, HasNumber, Holds}
+use Rattle.values.specs.laws.Lowest.{same-atom}
+use Rattle.values.specs.laws.Memory.{Memory, numberAt, boundsOf, firstOf, endOf, keyAtom, constantKey, expressionKey, limit, expressionIf, expressionAt, Ordered, atomIn, atomFound, HasNumber, Holds}
 use Rattle.values.specs.declared.Atom.{Atom}
 use Rattle.values.specs.declared.Found.{Found}
 use Rattle.values.specs.declared.Found.the-variants.{At, Nothing}
-use Rattle.values.proofs.Atoms.{same-atom, atom-start, atom-place, atom-zero, atom-constant, same-number, no-number}
-use Rattle.values.proofs.Holding.{number-same, mark-same, grown, taught, small}
+use Rattle.values.proofs.Atoms.{atom-start, atom-place, atom-zero, atom-constant, same-number, no-number}
+use Rattle.values.proofs.Holding.{number-same, grown, taught, small}
 
 module _ (n S : ℕ) (few : n ≤ 65536) where
   -- ---- the key of an expression: its digits are in it
@@ -31,21 +33,23 @@ module _ (n S : ℕ) (few : n ≤ 65536) where
     pub key-right : (op + 256 * flags + 65536 * left + 1099511627776 * right) / 1099511627776 ≡ right
     key-right = omega arith
 
+  -- the bounds of a slot's number, where all bounds are as they were
+  kept-bounds : {m : Memory} (o : Ordered n S m) (bounds : ℕ → ℕ) → ((x : ℕ) → x < 2 * (S + 2 * n + 1) → bounds x ≡ m .bounds x) → (types : List ℕ) (r : ℕ) → r < S
+      → bounds (boundsOf (numberAt m r) (getD types r 0)) ≡ m .bounds (boundsOf (numberAt m r) (getD types r 0))
+  kept-bounds {m} o bounds same types r l = let f = o .slots-low r l in let g = o .few-constants in same (boundsOf (numberAt m r) (getD types r 0)) (omega arith)
+
   -- ---- a constant more, with the next number
   module _ {m : Memory} (o : Ordered n S m) (k : Key) (kind : k .right ≤ 1) (other : k ≡ constantKey 0 0 → ⊥) (new : newest (m .constantTable) n (m .constants) k ≡ 0) (room : m .constants < n)
-      (u : List ℕ) (g : Added (m .constantTable) u n (m .epoch) (m .constants) k 0) (slot mark : ℕ → ℕ)
-      (slots : (r : ℕ) → r < S → slot r ≡ m .slot r) (marks : (e : ℕ) → e < S + 2 * n + 1 → mark e ≡ m .mark e) where
+      (u : List ℕ) (g : Added (m .constantTable) u n (m .epoch) (m .constants) k 0) (slot bounds : ℕ → ℕ)
+      (slots : (r : ℕ) → r < S → slot r ≡ m .slot r) (bounds-same : (x : ℕ) → x < 2 * (S + 2 * n + 1) → bounds x ≡ m .bounds x) where
     abbrev more : Memory
-    more = grown m slot mark u
+    more = grown m slot bounds u
 
     abbrev next : ℕ
     next = S + n + 1 + m .constants
 
     kept-number : (r : ℕ) → r < S → numberAt more r ≡ numberAt m r
     kept-number r l = number-same m more r refl (slots r l)
-
-    kept-mark : (e : ℕ) → e < S + 2 * n + 1 → markedAt more e ≡ markedAt m e
-    kept-mark e f = mark-same m more e refl (marks e f)
 
     -- the keys of the entries, with the new one
     entries : (P : ℕ → Key → Type 0) → P (m .constants) k → ((j : ℕ) → j < m .constants → P j (keyAt (m .constantTable) n j)) → (j : ℕ) → j < m .constants + 1 → P j (keyAt u n j)
@@ -55,7 +59,7 @@ module _ (n S : ℕ) (few : n ≤ 65536) where
         go true q = rw (eqb-true j (m .constants) q, g .is-key) h
         go false q = let z = eqb-false j (m .constants) q in let y : j < m .constants = omega arith in rw (g .keys j y) (f j y)
 
-    pub more-ordered : Ordered n S (grown m slot mark u)
+    pub more-ordered : Ordered n S (grown m slot bounds u)
     more-ordered =
         record {
           locals = o .locals;
@@ -64,9 +68,8 @@ module _ (n S : ℕ) (few : n ≤ 65536) where
           few-constants = omega arith;
           few-expressions = o .few-expressions;
           slots-past = λ r l. rw (slots r l) (o .slots-past r l);
-          marks-past = λ e l. rw (marks e l) (o .marks-past e l);
-          marks-low = λ e l. rw (marks e l) (o .marks-low e l);
-          fresh = λ e l f. rw (marks e f) (o .fresh e (omega arith) f);
+          bounds-past = λ x l. rw (bounds-same x l) (o .bounds-past x l);
+          bounds-low = λ x l. rw (bounds-same x l) (o .bounds-low x l);
           slots-low = λ r l. rw (kept-number r l) (omega (arith, o .slots-low r l));
           values-low = λ j l. omega (arith, o .values-low j l);
           lefts-low = λ j l. omega (arith, o .lefts-low j l);
@@ -123,18 +126,7 @@ module _ (n S : ℕ) (few : n ≤ 65536) where
           go true q = rw (eqb-true d next q) h
           go false q = let z = eqb-false d next q in f d (omega arith)
 
-      no-mark : markedAt m next ≡ Nothing
-      unfolding markedAt
-      no-mark = let f = o .fresh next (omega arith) (omega arith) in rw (ne-eqb (m .mark next / 65536) (m .epoch) (λ e. omega arith))
-
-      module _ {v : Values} (h : Holds n S dest v m) where
-        recorded-more : (d : ℕ) → d < limit n S more → slotFound (markedAt more d) ≡ slotIn (v .recorded) (atomIn n S dest more d)
-        unfolding slotFound
-        recorded-more =
-            numbers (λ d. slotFound (markedAt more d) ≡ slotIn (v .recorded) (atomIn n S dest more d))
-            (rw (kept-mark next (omega arith), no-mark, atom-next) (sym (not-some (slotIn (v .recorded) (keyAtom k)) (λ r q. unnumbered refl (h .recorded-numbered (keyAtom k) r q)))))
-            (λ d l. let f : d < S + 2 * n + 1 = omega arith in rw (kept-mark d f, atom-kept d l) (h .recorded d l))
-
+      module _ (types : List ℕ) {v : Values} (h : Holds n S types dest v m) where
         -- an expression of the new number is not known
         abbrev asked : ℕ → ℕ → ℕ → ℕ → Type 0
         asked op flags left right =
@@ -203,12 +195,12 @@ module _ (n S : ℕ) (few : n ≤ 65536) where
                 (found-more (expressionAt n S m (expressionKey op flags x y)) (value-used (newest (m .expressionTable) n (m .expressions) (expressionKey op flags x y)) bound)
                 ∙ h .expressions op flags x y a b l f)
 
-        pub more-holds : Holds n S dest v (grown m slot mark u)
+        pub more-holds : Holds n S types dest v (grown m slot bounds u)
         more-holds =
             record {
               slots = λ r l. rw (kept-number r l, atom-kept (numberAt m r) (o .slots-low r l)) (h .slots r l);
-              recorded = recorded-more;
-              recorded-numbered = λ w r q. renumbered (h .recorded-numbered w r q);
+              first = λ r l. rw (kept-number r l, kept-bounds o bounds bounds-same types r l) (h .first r l);
+              end = λ r l. rw (kept-number r l, kept-bounds o bounds bounds-same types r l) (h .end r l);
               expressions = expressions-more;
               left-numbered = λ e w q. renumbered (h .left-numbered e w q);
               right-numbered = λ e w q. renumbered (h .right-numbered e w q);
@@ -216,10 +208,10 @@ module _ (n S : ℕ) (few : n ≤ 65536) where
 
   -- ---- an expression more
   module _ {m : Memory} (o : Ordered n S m) (op flags left right d : ℕ) (a : op < 256) (b : flags < 256) (l : left < limit n S m) (r : right < limit n S m) (used : d < limit n S m)
-      (room : m .expressions < n) (u : List ℕ) (g : Added (m .expressionTable) u n (m .epoch) (m .expressions) (expressionKey op flags left right) d) (slot mark : ℕ → ℕ)
-      (slots : (s : ℕ) → s < S → slot s ≡ m .slot s) (marks : (e : ℕ) → e < S + 2 * n + 1 → mark e ≡ m .mark e) where
+      (room : m .expressions < n) (u : List ℕ) (g : Added (m .expressionTable) u n (m .epoch) (m .expressions) (expressionKey op flags left right) d) (slot bounds : ℕ → ℕ)
+      (slots : (s : ℕ) → s < S → slot s ≡ m .slot s) (bounds-same : (x : ℕ) → x < 2 * (S + 2 * n + 1) → bounds x ≡ m .bounds x) where
     abbrev learnt : Memory
-    learnt = taught m slot mark u
+    learnt = taught m slot bounds u
 
     big-left : left < 16777216
     big-left = omega (arith, small n S few o)
@@ -233,7 +225,7 @@ module _ (n S : ℕ) (few : n ≤ 65536) where
         go true q = rw (eqb-true j (m .expressions) q, g .is-key, g .is-value) h
         go false q = let z = eqb-false j (m .expressions) q in let x : j < m .expressions = omega arith in rw (g .keys j x, g .values j x) (f j x)
 
-    pub learn-ordered : Ordered n S (taught m slot mark u)
+    pub learn-ordered : Ordered n S (taught m slot bounds u)
     learn-ordered =
         record {
           locals = o .locals;
@@ -242,9 +234,8 @@ module _ (n S : ℕ) (few : n ≤ 65536) where
           few-constants = o .few-constants;
           few-expressions = omega arith;
           slots-past = λ s y. rw (slots s y) (o .slots-past s y);
-          marks-past = λ e y. rw (marks e y) (o .marks-past e y);
-          marks-low = λ e y. rw (marks e y) (o .marks-low e y);
-          fresh = λ e y f. rw (marks e f) (o .fresh e y f);
+          bounds-past = λ x y. rw (bounds-same x y) (o .bounds-past x y);
+          bounds-low = λ x y. rw (bounds-same x y) (o .bounds-low x y);
           slots-low = λ s y. rw (number-same m learnt s refl (slots s y)) (o .slots-low s y);
           values-low = terms (λ j x y. y < limit n S m) used (λ j y. o .values-low j y);
           lefts-low = terms (λ j x y. x .left / 65536 % 16777216 < limit n S m) (rw (key-left op flags left right a b big-left) l) (λ j y. o .lefts-low j y);
@@ -253,7 +244,7 @@ module _ (n S : ℕ) (few : n ≤ 65536) where
           kinds = o .kinds;
         }
 
-    module _ (dest : ℕ → ℕ) {v : Values} (h : Holds n S dest v m) where
+    module _ (types : List ℕ) (dest : ℕ → ℕ) {v : Values} (h : Holds n S types dest v m) where
       abbrev term : ℕ → ℕ → ℕ → ℕ → Expression
       term op flags left right = record { opcode = op; flags = flags; left = atomIn n S dest m left; right = atomIn n S dest m right }
 
@@ -327,13 +318,13 @@ module _ (n S : ℕ) (few : n ≤ 65536) where
       renamed : {w : Atom} → HasNumber n S dest m w → HasNumber n S dest learnt w
       renamed z = record { number = z .number; low = z .low; is = z .is }
 
-      pub learn-holds : Holds n S dest (learn v (record { opcode = op; flags = flags; left = atomIn n S dest m left; right = atomIn n S dest m right }) (atomIn n S dest m d)) (taught m slot mark u)
+      pub learn-holds : Holds n S types dest (learn v (record { opcode = op; flags = flags; left = atomIn n S dest m left; right = atomIn n S dest m right }) (atomIn n S dest m d)) (taught m slot bounds u)
       unfolding learn
       learn-holds =
           record {
             slots = λ s y. rw (number-same m learnt s refl (slots s y)) (h .slots s y);
-            recorded = λ e y. let f : e < S + 2 * n + 1 = let z = o .few-constants in omega arith in rw (mark-same m learnt e refl (marks e f)) (h .recorded e y);
-            recorded-numbered = λ w s q. renamed (h .recorded-numbered w s q);
+            first = λ s y. rw (number-same m learnt s refl (slots s y), kept-bounds o bounds bounds-same types s y) (h .first s y);
+            end = λ s y. rw (number-same m learnt s refl (slots s y), kept-bounds o bounds bounds-same types s y) (h .end s y);
             expressions = asked-more;
             left-numbered = known-more (λ e. HasNumber n S dest learnt (e .left)) (record { number = left; low = l; is = refl }) (λ e w q. renamed (h .left-numbered e w q))
                 (λ e e′ q z. rw (← same-parts e e′ q .0) z);

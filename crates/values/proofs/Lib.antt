@@ -1,6 +1,7 @@
 pub mod Unfolded
 pub mod Parts
 pub mod Atoms
+pub mod Scanning
 pub mod Holding
 pub mod Learning
 pub mod Recording

@@ -12,22 +12,13 @@ use borrow.Author.Tests.{eq-eqb, ne-eqb, lt-ltb, le-ltb}
 use Rattle.words.specs.laws.Regions.{get-mid}
 use Rattle.values.specs.laws.Entries.{Key, keyAt, newest}
 use Rattle.values.specs.laws.Search.{newest-le}
-use Rattle.values.specs.laws.Memory.{constantsAt, expressionsAt, endAt, Memory, memoryOf, numberAt, markedAt, markedOr, slotOr, usableIn, usableAt, integerAt, expressionIf, expressionAt, limit, Ready}
-use Rattle.values.specs.declared.Found.{Found}
+use Rattle.values.specs.laws.Memory.{constantsAt, expressionsAt, endAt, Memory, memoryOf, numberAt, integerAt, expressionIf, expressionAt, limit, Ready}
 use Rattle.values.specs.declared.Found.the-variants.{At, Nothing}
-use Rattle.values.proofs.Holding.{marked-low, usable-marked}
 use Rattle.values.proofs.Recording.{few}
 
 module _ {n S : ℕ} {t : List ℕ} (g : Ready n S t) where
   abbrev m : Memory
   m = memoryOf n S t
-
-  -- the word of a mark is before the tables
-  pub mark-inside : (d : ℕ) → d < limit n S (memoryOf n S t) → 3 + S + d < constantsAt n S
-  mark-inside d l = let a = g .order .few-constants in omega arith
-
-  pub mark-long : (d : ℕ) → d < limit n S (memoryOf n S t) → 3 + S + d < length t
-  mark-long d l = let a = mark-inside d l in let b = g .long in omega arith
 
   -- numbers are small
   pub number-small : (d : ℕ) → d < limit n S (memoryOf n S t) → d < 16777216
@@ -36,49 +27,6 @@ module _ {n S : ℕ} {t : List ℕ} (g : Ready n S t) where
   -- a slot's number
   pub number-read : (s : ℕ) {x : ℕ} → s < S → x ≡ numberAt (memoryOf n S t) s → (x ≡ numberAt (memoryOf n S t) s) × (x < limit n S (memoryOf n S t))
   number-read s l e = (e, rw e (g .order .slots-low s l))
-
-  -- the recorded slot where it still has the number and the type
-  module _ (types : List ℕ) (d type : ℕ) {f : Found} (e : f ≡ markedAt (memoryOf n S t) d) where
-    pub usable-none : f ≡ Nothing → Nothing ≡ usableAt types (memoryOf n S t) d type
-    unfolding usableIn
-    usable-none q = rw (← e, q)
-
-    pub usable-by : {r x : ℕ} (b : Bool) → f ≡ At r → x ≡ numberAt (memoryOf n S t) r → eqb x d && eqb (getD types r 0) type ≡ b
-        → cond b (At r) Nothing ≡ usableAt types (memoryOf n S t) d type
-    unfolding usableIn
-    usable-by b q y z = rw (← e, q, ← y, z)
-
-  -- the recorded slot, or s
-  pub marked-yes : (d s : ℕ) → d < limit n S (memoryOf n S t) → memoryOf n S t .mark d / 65536 ≡ memoryOf n S t .epoch
-      → (memoryOf n S t .mark d % 65536 ≡ markedOr (memoryOf n S t) d s) × (memoryOf n S t .mark d % 65536 < S)
-  marked-yes d s l e =
-      let f = g .order .few-constants in
-      (rw (eq-eqb (m .mark d / 65536) (m .epoch) e), g .order .marks-low d (omega arith) e)
-
-  -- the slot that is usable, or s: s itself has the number and the type
-  pub usable-or : (types : List ℕ) (d s : ℕ) {c x : ℕ} (b : Bool) → c ≡ markedOr (memoryOf n S t) d s
-      → x ≡ numberAt (memoryOf n S t) c → eqb x d && eqb (getD types c 0) (getD types s 0) ≡ b
-      → cond b c s ≡ slotOr s (usableAt types (memoryOf n S t) d (getD types s 0))
-  unfolding usableIn markedAt slotOr
-  usable-or types d s {c} {x} b k y z = go (eqb (m .mark d / 65536) (m .epoch)) k b (rw y at z)
-    where
-      same : (b : Bool) → cond b s s ≡ s
-      same true = refl
-      same false = refl
-
-      go : (p : Bool) → c ≡ cond p (m .mark d % 65536) s → (b : Bool) → eqb (numberAt m c) d && eqb (getD types c 0) (getD types s 0) ≡ b
-          → cond b c s ≡ slotOr s (usableIn types m d (getD types s 0) (cond p (At (m .mark d % 65536)) Nothing))
-      go true e true z = rw (← e, z)
-      go true e false z = rw (← e, z)
-      go false e b z = rw e (same b)
-
-  -- a slot that is usable fits 16 bits
-  pub found-fits : (types : List ℕ) (d type : ℕ) {f : Found} {r : ℕ} → d < limit n S (memoryOf n S t)
-      → f ≡ usableAt types (memoryOf n S t) d type → f ≡ At r → r < 65536
-  found-fits types d type l e q =
-      let low = marked-low (g .order) d l (usable-marked types m d type (markedAt m d) (sym e ∙ q) .0) in
-      let a = g .order .locals in
-      omega arith
 
   -- the known integer of a number: none of a definition, 0, or what its entry says
   pub integer-none : (d : ℕ) → d < S + n → none ≡ integerAt n S (memoryOf n S t .constantTable) d
@@ -91,7 +39,7 @@ module _ {n S : ℕ} {t : List ℕ} (g : Ready n S t) where
 
   module _ (d : ℕ) (past : S + n ≤ d) (other : d ≡ S + n → ⊥) (used : d < limit n S (memoryOf n S t)) where
     abbrev at : ℕ
-    at = 4 + 2 * S + 3 * n + 4 * (d - (S + n) - 1)
+    at = 5 + 3 * S + 5 * n + 4 * (d - (S + n) - 1)
 
     abbrev j : ℕ
     j = d - (S + n + 1)
@@ -109,13 +57,13 @@ module _ {n S : ℕ} {t : List ℕ} (g : Ready n S t) where
         let f : at + 0 ≡ at = omega arith in
         ap (λ (x : ℕ). getD (m .constantTable) x 0) (sym e) ∙ entry-word 0 (omega arith) ∙ ap (λ (x : ℕ). getD t x 0) f
 
-    pub integer-entry : getD t (4 + 2 * S + 3 * n + 4 * (d - (S + n) - 1) + 1) 0 ≡ 0 → some (getD t (4 + 2 * S + 3 * n + 4 * (d - (S + n) - 1)) 0) ≡ integerAt n S (memoryOf n S t .constantTable) d
+    pub integer-entry : getD t (5 + 3 * S + 5 * n + 4 * (d - (S + n) - 1) + 1) 0 ≡ 0 → some (getD t (5 + 3 * S + 5 * n + 4 * (d - (S + n) - 1)) 0) ≡ integerAt n S (memoryOf n S t .constantTable) d
     unfolding integerAt
     integer-entry e = rw (le-ltb d (S + n) past, ne-eqb d (S + n) other, entry-word 1 (omega arith), e, left-word)
 
-    pub float-entry : (getD t (4 + 2 * S + 3 * n + 4 * (d - (S + n) - 1) + 1) 0 ≡ 0 → ⊥) → none ≡ integerAt n S (memoryOf n S t .constantTable) d
+    pub float-entry : (getD t (5 + 3 * S + 5 * n + 4 * (d - (S + n) - 1) + 1) 0 ≡ 0 → ⊥) → none ≡ integerAt n S (memoryOf n S t .constantTable) d
     unfolding integerAt
-    float-entry e = rw (le-ltb d (S + n) past, ne-eqb d (S + n) other, entry-word 1 (omega arith), ne-eqb (getD t (4 + 2 * S + 3 * n + 4 * (d - (S + n) - 1) + 1) 0) 0 e)
+    float-entry e = rw (le-ltb d (S + n) past, ne-eqb d (S + n) other, entry-word 1 (omega arith), ne-eqb (getD t (5 + 3 * S + 5 * n + 4 * (d - (S + n) - 1) + 1) 0) 0 e)
 
   -- the number of an expression's value
   module _ (k : Key) where
@@ -127,11 +75,11 @@ module _ {n S : ℕ} {t : List ℕ} (g : Ready n S t) where
     found-few e = let a = g .order .few-expressions in let b = newest-le (m .expressionTable) n k (m .expressions) in omega arith
 
     pub expression-value : (f : ℕ) → f ≡ newest (memoryOf n S t .expressionTable) n (memoryOf n S t .expressions) k → (f ≡ 0 → ⊥)
-        → At (getD t (4 + 2 * S + 7 * n + n + 4 * (f - 1) + 2) 0) ≡ expressionAt n S (memoryOf n S t) k
+        → At (getD t (5 + 3 * S + 9 * n + n + 4 * (f - 1) + 2) 0) ≡ expressionAt n S (memoryOf n S t) k
     unfolding expressionIf
     expression-value zero e q = absurd (q refl)
     expression-value (suc i) e q =
         let a = found-few e in
         let inside : n + 4 * i + 2 < endAt n S - expressionsAt n S = omega arith in
-        let here : expressionsAt n S + (n + 4 * i + 2) ≡ 4 + 2 * S + 7 * n + n + 4 * (suc i - 1) + 2 = omega arith in
+        let here : expressionsAt n S + (n + 4 * i + 2) ≡ 5 + 3 * S + 9 * n + n + 4 * (suc i - 1) + 2 = omega arith in
         rw (← e) (ap At (sym (get-mid t (expressionsAt n S) (endAt n S - expressionsAt n S) (n + 4 * i + 2) 0 inside ∙ ap (λ (x : ℕ). getD t x 0) here)))

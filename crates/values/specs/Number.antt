@@ -19,7 +19,7 @@ use Rattle.effects.specs.Shape.{Sections, Cell}
 use Rattle.values.specs.declared.Atom.{Atom}
 use Rattle.values.specs.declared.Atom.the-variants.{Integer, Float, Definition}
 use Rattle.values.specs.Fold.{foldingUnary, foldingBinary, foldWord, fitsImm32}
-use Rattle.values.specs.Values.{Values, Expression, empty, valueOf, recordedSlot, representative, store, learn, expressionIn}
+use Rattle.values.specs.Values.{Values, Expression, empty, valueOf, lowestSlot, representative, store, learn, expressionIn}
 
 -- an instruction as it becomes, and the table after it
 pub record Numbered : Type 0 where
@@ -57,9 +57,13 @@ foldBinary e (Integer x) (Definition q t) = none
 foldBinary e (Float x) y = none
 foldBinary e (Definition p s) y = none
 
--- "A folded result becomes LoadInt exactly if its signed reading fits 32 bits; otherwise the instruction stays"
-unfoldable pub loadOrStay : Instruction → ℕ → Instruction
-loadOrStay i v = cond (fitsImm32 v) (withImm32 (plain op.LoadInt (i .a) 0 0) (v % 2 ^ 32)) i
+-- What becomes of an instruction with a folded value that does not fit 32 bits: a walk is told by which rule.
+abbrev pub Rule : Type 0
+Rule = Instruction → Values → ℕ → Instruction
+
+-- document 01: "otherwise the instruction stays"
+abbrev pub stays : Rule
+stays i t v = i
 
 module _ (S : Sections) where
   -- "scalar": a slot of type Value or Float
@@ -68,44 +72,23 @@ module _ (S : Sections) where
 
   -- a store of a known value: the instruction and the value of its destination
   unfoldable pub stored : Instruction → Values → Atom → Numbered
-  stored i t v = record { instruction = i; table = store (S .types) t (i .a) v }
+  stored i t v = record { instruction = i; table = store t (i .a) v }
 
-  -- "An equal expression .. becomes Copy from the recorded slot under the same two conditions, the type being the destination's;
-  -- otherwise it stays, with the same value"
+  -- "An equal expression .. becomes Copy from" the lowest slot that holds the value, "the type being the destination's; otherwise it
+  -- stays, with the same value"
   unfoldable pub copyOrStay : Instruction → Option ℕ → Instruction
   copyOrStay i (some r) = plain op.Copy (i .a) r 0
   copyOrStay i none = i
 
+  unfoldable pub copied : Instruction → Values → Atom → Instruction
+  copied i t v = copyOrStay i (lowestSlot (S .types) t v (getD (S .types) (i .a) 0))
+
   unfoldable pub byExpression : ℕ → Instruction → Values → Expression → Option Atom → Numbered
-  byExpression p i t e (some v) = stored (copyOrStay i (recordedSlot (S .types) t v (getD (S .types) (i .a) 0))) t v
+  byExpression p i t e (some v) = stored (copied i t v) t v
   byExpression p i t e none = stored i (learn t e (Definition p (i .a))) (Definition p (i .a))
 
-  -- folded, or looked up
-  unfoldable pub byValue : ℕ → Instruction → Values → Expression → Option ℕ → Numbered
-  byValue p i t e (some v) = stored (loadOrStay i v) t (Integer v)
-  byValue p i t e none = byExpression p i t e (expressionIn (t .expressions) e)
-
-  unfoldable pub numberUnary : ℕ → Instruction → Values → Numbered
-  numberUnary p i t =
-      let r = representative (S .types) t (i .b) in
-      let left = valueOf (r .table) (r .slot) in
-      let e : Expression = record { opcode = i .op; flags = i .flags; left = left; right = Integer 0 } in
-      byValue p (setB i (r .slot)) (r .table) e (foldUnary e left)
-
-  -- "(left first)"
-  unfoldable pub numberBinary : ℕ → Instruction → Values → Numbered
-  numberBinary p i t =
-      let l = representative (S .types) t (i .b) in
-      let r = representative (S .types) (l .table) (i .c) in
-      let left = valueOf (r .table) (l .slot) in
-      let right = valueOf (r .table) (r .slot) in
-      let e : Expression = record { opcode = i .op; flags = i .flags; left = left; right = right } in
-      byValue p (setBC i (l .slot) (r .slot)) (r .table) e (foldBinary e left right)
-
   unfoldable pub numberCopy : Instruction → Values → Numbered
-  numberCopy i t =
-      let r = representative (S .types) t (i .b) in
-      stored (setB i (r .slot)) (r .table) (valueOf (r .table) (r .slot))
+  numberCopy i t = stored (setB i (representative (S .types) t (i .b))) t (valueOf t (i .b))
 
   unfoldable pub numberConstant : Instruction → Values → Option Atom → Numbered
   numberConstant i t (some v) = stored i t v
@@ -113,9 +96,7 @@ module _ (S : Sections) where
 
   -- an operand a that is read: of "an undecided conditional jump on a scalar and of a one-scalar Return"
   unfoldable pub numberRead : Instruction → Values → Numbered
-  numberRead i t =
-      let r = representative (S .types) t (i .a) in
-      record { instruction = setA i (r .slot); table = r .table }
+  numberRead i t = record { instruction = setA i (representative (S .types) t (i .a)); table = t }
 
   -- "JumpIf and JumpIfNot on a known integer become Jump or plain Hint"
   unfoldable pub decided : Instruction → Bool → Instruction
@@ -129,35 +110,82 @@ module _ (S : Sections) where
   abbrev pub cleared : Instruction → Numbered
   cleared i = record { instruction = i; table = empty }
 
-  -- "CopyN, a non-scalar destination, LoadConst of a String or a missing constant, and every impure opcode clear all values, except
-  -- JumpIf, JumpIfNot, and a Return of one scalar."
-  unfoldable pub numberBy : Class → ℕ → Instruction → Values → Numbered
-  numberBy Hint p i t = cleared i
-  numberBy LoadInt p i t = let r = stored i t (Integer (imm32 i)) in cond (isScalar (i .a)) r (cleared i)
-  numberBy LoadConst p i t =
-      let r = numberConstant i t (constantAtom (constantAt (S .constants) (i .b))) in cond (isScalar (i .a)) r (cleared i)
-  numberBy Copy p i t = let r = numberCopy i t in cond (isScalar (i .a)) r (cleared i)
-  numberBy CopyN p i t = cleared i
-  numberBy Unary p i t = let r = numberUnary p i t in cond (isScalar (i .a)) r (cleared i)
-  numberBy Binary p i t = let r = numberBinary p i t in cond (isScalar (i .a)) r (cleared i)
-  numberBy Jump p i t = cleared i
-  numberBy JumpIf p i t = numberJump (λ v. not (eqb v 0)) i t (valueOf t (i .a))
-  numberBy JumpIfNot p i t = numberJump (λ v. eqb v 0) i t (valueOf t (i .a))
-  numberBy ForLoop p i t = cleared i
-  numberBy Return p i t = let r = numberRead i t in cond (eqb (i .b) 1 && isScalar (i .a)) r (cleared i)
-  numberBy Panic p i t = cleared i
-  numberBy Outside p i t = cleared i
-  numberBy Invalid p i t = cleared i
+  module _ (wide : Rule) where
+    -- "A folded result becomes LoadInt exactly if its signed reading fits 32 bits", and by the rule otherwise
+    unfoldable pub folded : Instruction → Values → ℕ → Instruction
+    folded i t v = cond (fitsImm32 v) (withImm32 (plain op.LoadInt (i .a) 0 0) (v % 2 ^ 32)) (wide i t v)
+
+    -- folded, or looked up
+    unfoldable pub byValueWith : ℕ → Instruction → Values → Expression → Option ℕ → Numbered
+    byValueWith p i t e (some v) = stored (folded i t v) t (Integer v)
+    byValueWith p i t e none = byExpression p i t e (expressionIn (t .expressions) e)
+
+    -- "Operands of .. unary and binary opcodes .. become" the slots that stand for them
+    unfoldable pub numberUnaryWith : ℕ → Instruction → Values → Numbered
+    numberUnaryWith p i t =
+        let e : Expression = record { opcode = i .op; flags = i .flags; left = valueOf t (i .b); right = Integer 0 } in
+        byValueWith p (setB i (representative (S .types) t (i .b))) t e (foldUnary e (e .left))
+
+    unfoldable pub numberBinaryWith : ℕ → Instruction → Values → Numbered
+    numberBinaryWith p i t =
+        let e : Expression = record { opcode = i .op; flags = i .flags; left = valueOf t (i .b); right = valueOf t (i .c) } in
+        byValueWith p (setBC i (representative (S .types) t (i .b)) (representative (S .types) t (i .c))) t e (foldBinary e (e .left) (e .right))
+
+    -- "CopyN, a non-scalar destination, LoadConst of a String or a missing constant, and every impure opcode clear all values, except
+    -- JumpIf, JumpIfNot, and a Return of one scalar."
+    unfoldable pub numberByWith : Class → ℕ → Instruction → Values → Numbered
+    numberByWith Hint p i t = cleared i
+    numberByWith LoadInt p i t = let r = stored i t (Integer (imm32 i)) in cond (isScalar (i .a)) r (cleared i)
+    numberByWith LoadConst p i t =
+        let r = numberConstant i t (constantAtom (constantAt (S .constants) (i .b))) in cond (isScalar (i .a)) r (cleared i)
+    numberByWith Copy p i t = let r = numberCopy i t in cond (isScalar (i .a)) r (cleared i)
+    numberByWith CopyN p i t = cleared i
+    numberByWith Unary p i t = let r = numberUnaryWith p i t in cond (isScalar (i .a)) r (cleared i)
+    numberByWith Binary p i t = let r = numberBinaryWith p i t in cond (isScalar (i .a)) r (cleared i)
+    numberByWith Jump p i t = cleared i
+    numberByWith JumpIf p i t = numberJump (λ v. not (eqb v 0)) i t (valueOf t (i .a))
+    numberByWith JumpIfNot p i t = numberJump (λ v. eqb v 0) i t (valueOf t (i .a))
+    numberByWith ForLoop p i t = cleared i
+    numberByWith Return p i t = let r = numberRead i t in cond (eqb (i .b) 1 && isScalar (i .a)) r (cleared i)
+    numberByWith Panic p i t = cleared i
+    numberByWith Outside p i t = cleared i
+    numberByWith Invalid p i t = cleared i
+
+    abbrev pub numberWith : ℕ → Instruction → Values → Numbered
+    numberWith p i t = numberByWith (class i) p i t
+
+    -- the code rewritten from place p on, the table being cleared where a block starts
+    unfoldable pub numberFromWith : List ℕ → ℕ → Values → List Cell → List Cell
+    numberFromWith leaders p t [] = []
+    numberFromWith leaders p t (x ∷ xs) =
+        let r = numberWith p (x .instruction) (cond (eqb (getD leaders p 0) 1) empty t) in
+        record { instruction = r .instruction; metadata = x .metadata } ∷ numberFromWith leaders (suc p) (r .table) xs
+
+    unfoldable pub numberCodeWith : List ℕ → List Cell → List Cell
+    numberCodeWith leaders cells = numberFromWith leaders 0 empty cells
+
+  -- Document 02, L2: "LoadInt if it fits; else Copy from the slot of L1 that holds the same known integer in the same type; else the
+  -- instruction stays"
+  abbrev pub heldOrStays : Rule
+  heldOrStays i t v = copied i t (Integer v)
+
+  abbrev pub byValue : ℕ → Instruction → Values → Expression → Option ℕ → Numbered
+  byValue = byValueWith heldOrStays
+
+  abbrev pub numberUnary : ℕ → Instruction → Values → Numbered
+  numberUnary = numberUnaryWith heldOrStays
+
+  abbrev pub numberBinary : ℕ → Instruction → Values → Numbered
+  numberBinary = numberBinaryWith heldOrStays
+
+  abbrev pub numberBy : Class → ℕ → Instruction → Values → Numbered
+  numberBy = numberByWith heldOrStays
 
   abbrev pub number : ℕ → Instruction → Values → Numbered
-  number p i t = numberBy (class i) p i t
+  number = numberWith heldOrStays
 
-  -- the code rewritten from place p on, the table being cleared where a block starts
-  unfoldable pub numberFrom : List ℕ → ℕ → Values → List Cell → List Cell
-  numberFrom leaders p t [] = []
-  numberFrom leaders p t (x ∷ xs) =
-      let r = number p (x .instruction) (cond (eqb (getD leaders p 0) 1) empty t) in
-      record { instruction = r .instruction; metadata = x .metadata } ∷ numberFrom leaders (suc p) (r .table) xs
+  abbrev pub numberFrom : List ℕ → ℕ → Values → List Cell → List Cell
+  numberFrom = numberFromWith heldOrStays
 
-  unfoldable pub numberCode : List ℕ → List Cell → List Cell
-  numberCode leaders cells = numberFrom leaders 0 empty cells
+  abbrev pub numberCode : List ℕ → List Cell → List Cell
+  numberCode = numberCodeWith heldOrStays

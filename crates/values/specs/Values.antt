@@ -4,7 +4,7 @@
 use mathlib.Core.Bool.{Bool, false, cond, _&&_}
 use mathlib.Core.List.{List, [], _∷_}
 use mathlib.Core.Option.{Option, none, some}
-use Prim.Native.Nat.{ℕ}
+use Prim.Native.Nat.{ℕ, suc}
 use lib.Dec.{eqb}
 use lib.ListN.{getD}
 use Rattle.values.specs.declared.Atom.{Atom}
@@ -42,13 +42,12 @@ pub record ExpressionEntry : Type 0 where
   pub value : Atom
 
 pub record Values : Type 0 where
-  -- the value of each slot; "Each value has at most one recorded slot"; the value of each expression
+  -- the value of each slot that was stored; the value of each expression
   pub slots : List SlotEntry
-  pub recorded : List SlotEntry
   pub expressions : List ExpressionEntry
 
 abbrev pub empty : Values
-empty = record { slots = []; recorded = []; expressions = [] }
+empty = record { slots = []; expressions = [] }
 
 -- the place of a value that a slot had at the block's start or at the last clearing
 abbrev pub atStart : ℕ
@@ -58,10 +57,6 @@ unfoldable pub valueIn : List SlotEntry → ℕ → Atom
 valueIn [] s = Definition atStart s
 valueIn (e ∷ es) s = let rest = valueIn es s in cond (eqb (e .slot) s) (e .value) rest
 
-unfoldable pub slotIn : List SlotEntry → Atom → Option ℕ
-slotIn [] v = none
-slotIn (e ∷ es) v = let rest = slotIn es v in cond (sameAtom (e .value) v) (some (e .slot)) rest
-
 unfoldable pub expressionIn : List ExpressionEntry → Expression → Option Atom
 expressionIn [] d = none
 expressionIn (e ∷ es) d = let rest = expressionIn es d in cond (sameExpression (e .expression) d) (some (e .value)) rest
@@ -70,40 +65,31 @@ expressionIn (e ∷ es) d = let rest = expressionIn es d in cond (sameExpression
 abbrev pub valueOf : Values → ℕ → Atom
 valueOf t s = valueIn (t .slots) s
 
--- The slot that stands for a value at a slot of this type: "the recorded slot if it still holds the value and has the same type".
--- The tie rule is here alone.
-unfoldable pub usable : List ℕ → Values → Atom → ℕ → Option ℕ → Option ℕ
-usable types t v type none = none
-usable types t v type (some r) = cond (sameAtom (valueOf t r) v && eqb (getD types r 0) type) (some r) none
+-- the slot that is found, or slot s
+unfoldable pub orItself : ℕ → Option ℕ → ℕ
+orItself s (some r) = r
+orItself s none = s
 
-unfoldable pub recordedSlot : List ℕ → Values → Atom → ℕ → Option ℕ
-recordedSlot types t v type = usable types t v type (slotIn (t .recorded) v)
+-- Document 02: "among slots of the same type that hold the value at that point, the lowest-numbered is used; a slot not stored since
+-- the block's start or the last clearing counts as holding the word it had there". The slots from s on have the types listed. The
+-- tie rule is here alone.
+unfoldable pub lowestFrom : Values → Atom → ℕ → ℕ → List ℕ → Option ℕ
+lowestFrom t v type s [] = none
+lowestFrom t v type s (k ∷ ks) =
+    let rest = lowestFrom t v type (suc s) ks in
+    cond (sameAtom (valueOf t s) v && eqb k type) (some s) rest
 
--- "otherwise the operand stays and is recorded instead": the slot to use for the value of slot s, and the table after it
-pub record Represented : Type 0 where
-  pub slot : ℕ
-  pub table : Values
+abbrev pub lowestSlot : List ℕ → Values → Atom → ℕ → Option ℕ
+lowestSlot types t v type = lowestFrom t v type 0 types
 
-unfoldable pub orItself : Values → ℕ → Option ℕ → Represented
-orItself t s (some r) = record { slot = r; table = t }
-orItself t s none =
-    record {
-      slot = s;
-      table = record {
-        slots = t .slots;
-        recorded = record { slot = s; value = valueOf t s } ∷ t .recorded;
-        expressions = t .expressions;
-      };
-    }
+-- the slot that stands for slot s
+unfoldable pub representative : List ℕ → Values → ℕ → ℕ
+representative types t s = orItself s (lowestSlot types t (valueOf t s) (getD types s 0))
 
-unfoldable pub representative : List ℕ → Values → ℕ → Represented
-representative types t s = orItself t s (recordedSlot types t (valueOf t s) (getD types s 0))
-
--- "A store then treats its destination likewise"
-unfoldable pub store : List ℕ → Values → ℕ → Atom → Values
-store types t s v =
-    representative types (record { slots = record { slot = s; value = v } ∷ t .slots; recorded = t .recorded; expressions = t .expressions }) s .table
+-- slot s holds the value v
+unfoldable pub store : Values → ℕ → Atom → Values
+store t s v = record { slots = record { slot = s; value = v } ∷ t .slots; expressions = t .expressions }
 
 -- one expression more
 unfoldable pub learn : Values → Expression → Atom → Values
-learn t e v = record { slots = t .slots; recorded = t .recorded; expressions = record { expression = e; value = v } ∷ t .expressions }
+learn t e v = record { slots = t .slots; expressions = record { expression = e; value = v } ∷ t .expressions }

@@ -1,5 +1,6 @@
 pub mod Bitwise
 pub mod Folded
+pub mod Lowest
 pub mod Entries
 pub mod Search
 pub mod Attaching
@@ -7,3 +8,4 @@ pub mod Adding
 pub mod Memory
 pub mod Promises
 pub mod Named
+pub mod Wide

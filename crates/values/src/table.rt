@@ -1,20 +1,21 @@
-// The table of values: what `Values` of the Rust keeps in three `HashMap`s, by value numbers. A number below the number of slots is
+// The table of values: what `Values` of the Rust keeps in `HashMap`s, by value numbers. A number below the number of slots is
 // that of a slot's value at the block's start; then there is one for each place, one for Integer 0, and one for each constant.
-// The memory has the epoch and the numbers of constants and of expressions, a word for each slot (its value's number), a word for
-// each number (the slot that is recorded for it), and two tables of entries.
+// The memory has the epoch and the numbers of constants and of expressions, a word for each slot (its value's number), two words for
+// each number (the bounds of the slots that hold it, for each of the two groups of types), and two tables of entries.
 ghost use mathlib.Core.Path.{_≡_};
-ghost use Prim.Native.Nat.{ℕ, _+_, _*_, _≤_, _<_};
-ghost use lib.ListN.{length, getD};
+ghost use mathlib.Core.Bool.{Bool, true, false};
+ghost use Prim.Native.Nat.{ℕ, _+_, _*_, _-_, _≤_, _<_};
+ghost use lib.ListN.{length, getD, set};
 ghost use Rattle.values.specs.laws.Entries.{key, bucketOf, headAt};
 ghost use Rattle.values.specs.laws.Folded.{integerOf};
-ghost use Rattle.values.specs.laws.Memory.{memoryOf, numberAt, markedAt, markedOr, slotOr, usableAt, expressionAt, expressionKey, integerAt, limit, Ready};
-ghost use Rattle.values.specs.laws.Promises.{Clears, Represents, Stores, Interns, Learns};
+ghost use Rattle.values.specs.laws.Memory.{memoryOf, numberAt, boundsAt, boundsOf, firstOf, endOf, alike, Lowest, expressionAt, expressionKey, integerAt, limit, Ready};
+ghost use Rattle.values.specs.laws.Promises.{Puts, Clears, Represents, Stores, Shares, Interns, Learns};
 ghost use Rattle.values.specs.declared.Found.the-variants.{Nothing};
 use crate::Atom;
 use crate::Found;
 use crate::entries;
 
-// Nothing is known any more: what the words of slots, marks and heads say is of an earlier epoch.
+// Nothing is known any more: what the words of slots, bounds and heads say is of an earlier epoch.
 pub fn clear(t: &mut [u64], n: usize, locals: usize)
     requires { ⌜ Ready n locals (now t) × (memoryOf n locals (now t) .epoch < 4294967295) ⌝ }
     ensures { λ _. ⌜ Clears n locals (now (t .entry)) (now (t .exit)) ⌝ }
@@ -36,88 +37,168 @@ pub fn number(t: &[u64], n: usize, locals: usize, s: u16) -> u64
     s as u64
 }
 
-// The slot that is recorded for a number. "Each value has at most one recorded slot."
-fn marked(t: &[u64], n: usize, locals: usize, d: u64) -> Found
-    requires { ⌜ Ready n locals (now t) × (d < limit n locals (memoryOf n locals (now t))) ⌝ }
-    ensures { λ r. ⌜ r ≡ markedAt (memoryOf n locals (now (t .entry))) d ⌝ }
+// Where the bounds of number d stand, for the group that the type `kind` is of.
+fn bounds_at(locals: usize, d: u64, kind: u8) -> usize
+    requires { ⌜ (locals ≤ 65536) × (d < 16777216) ⌝ }
+    ensures { λ r. ⌜ r ≡ boundsAt locals + boundsOf d kind ⌝ }
 {
-    let w = t[3 + locals + (d as usize)];
-    if w / 65536 == t[0] {
-        return Found::At(w % 65536);
-    }
-    Found::Nothing
+    3 + locals + (2 * (d as usize) + ((kind % 2) as usize))
 }
 
-// That slot "if it still holds the value and has the same type".
-pub fn usable(t: &[u64], types: &[u8], n: usize, d: u64, kind: u8) -> Found
-    requires { ⌜ Ready n (length (now types)) (now t) × (d < limit n (length (now types)) (memoryOf n (length (now types)) (now t))) ⌝ }
-    ensures { λ r. ⌜ r ≡ usableAt (now (types .entry)) (memoryOf n (length (now (types .entry))) (now (t .entry))) d kind ⌝ }
+// The slots that hold number d lie from `first_of` on and before `end_of`, by the word of their bounds.
+fn first_of(epoch: u64, word: u64, d: u64) -> u64
+    ensures { λ r. ⌜ r ≡ firstOf epoch word d ⌝ }
 {
-    let locals = types.len();
-    let found = marked(t, n, locals, d);
-    let Found::At(r) = found else {
-        return Found::Nothing;
-    };
-    let at = r as usize;
-    if (number(t, n, locals, at as u16) == d) & (types[at] == kind) {
-        return Found::At(r);
+    if word / 4294967296 == epoch {
+        return word / 65536 % 65536;
     }
-    Found::Nothing
+    d
 }
 
-// The slot that is recorded for the number d, or s.
-fn marked_or(t: &[u64], n: usize, locals: usize, d: u64, s: u16) -> u16
-    requires { ⌜ Ready n locals (now t) × (d < limit n locals (memoryOf n locals (now t))) × (s < locals) ⌝ }
-    ensures { λ r. ⌜ (r ≡ markedOr (memoryOf n locals (now (t .entry))) d s) × (r < locals) ⌝ }
+fn end_of(locals: u64, epoch: u64, word: u64, d: u64) -> u64
+    requires { ⌜ locals ≤ 65536 ⌝ }
+    ensures { λ r. ⌜ r ≡ endOf locals epoch word d ⌝ }
 {
-    let w = t[3 + locals + (d as usize)];
-    if w / 65536 == t[0] {
-        return (w % 65536) as u16;
+    if word / 4294967296 == epoch {
+        return word % 65536 + 1;
     }
-    s
+    if d < locals {
+        return d + 1;
+    }
+    0
 }
 
-// The slot that is usable for the number d of the value of slot s, or s. Both tests choose between two slots: the processor has no
-// branch to predict.
-fn usable_or(t: &[u64], types: &[u8], n: usize, d: u64, s: u16) -> u16
-    requires { ⌜ Ready n (length (now types)) (now t) × (s < length (now types)) × (d ≡ numberAt (memoryOf n (length (now types)) (now t)) s) ⌝ }
-    ensures { λ r. ⌜ r ≡ slotOr s (usableAt (now (types .entry)) (memoryOf n (length (now (types .entry))) (now (t .entry))) d (getD (now (types .entry)) s 0)) ⌝ }
+fn least(x: usize, y: usize) -> usize
+    ensures { λ r. ⌜ (r ≤ x) × (r ≤ y) × ((k : ℕ) → k ≤ x → k ≤ y → k ≤ r) ⌝ }
 {
-    let locals = types.len();
-    let c = marked_or(t, n, locals, d, s);
-    if (number(t, n, locals, c) == d) & (types[c as usize] == types[s as usize]) {
-        return c;
-    }
-    s
+    if x < y { x } else { y }
 }
 
-// "Operands .. become the recorded slot .. otherwise the operand stays and is recorded instead": the slot that stands for slot s,
-// whose value has the number d.
+fn most(x: usize, y: usize) -> usize
+    ensures { λ r. ⌜ (x ≤ r) × (y ≤ r) × ((k : ℕ) → x ≤ k → y ≤ k → r ≤ k) ⌝ }
+{
+    if x < y { y } else { x }
+}
+
+// The same type, or only the same group?
+fn are_alike(exact: bool, x: u8, y: u8) -> bool
+    ensures { λ r. ⌜ r ≡ alike exact x y ⌝ }
+{
+    if exact {
+        return x == y;
+    }
+    x % 2 == y % 2
+}
+
+// The lowest slot from `from` on and below `to` that holds number d and has a type like `kind`; where there is none, a number that is
+// not below `to`.
+fn lowest(
+    t: &[u64],
+    types: &[u8],
+    n: usize,
+    d: u64,
+    kind: u8,
+    exact: bool,
+    from: usize,
+    to: usize,
+) -> usize
+    requires { ⌜ Ready n (length (now types)) (now t) × (to ≤ length (now types)) ⌝ }
+    ensures { λ r. ⌜ Lowest (now (types .entry)) (memoryOf n (length (now (types .entry))) (now (t .entry))) d kind exact from to r ⌝ }
+{
+    let mut r = from;
+    while r < to {
+        if (number(t, n, types.len(), r as u16) == d) & are_alike(exact, types[r], kind) {
+            return r;
+        }
+        r += 1;
+    }
+    r
+}
+
+// The same of the very type, where slot `from` is known to hold number d: mostly it has that type.
+fn lowest_typed(
+    t: &[u64],
+    types: &[u8],
+    n: usize,
+    d: u64,
+    kind: u8,
+    from: usize,
+    to: usize,
+) -> usize
+    requires { ⌜ Ready n (length (now types)) (now t) × (to ≤ length (now types)) × (from < length (now types)) × (numberAt (memoryOf n (length (now types)) (now t)) from ≡ d) ⌝ }
+    ensures { λ r. ⌜ Lowest (now (types .entry)) (memoryOf n (length (now (types .entry))) (now (t .entry))) d kind true from to r ⌝ }
+{
+    if types[from] == kind {
+        return from;
+    }
+    lowest(t, types, n, d, kind, true, from, to)
+}
+
+// "Operands .. become" the lowest slot of their type that holds the value: the slot that stands for slot s, whose value has the
+// number d. A slot of the group that holds the number is looked for from the bounds' first slot on, at the latest slot s itself; from it
+// on, one of the very type. The former becomes the bounds' first slot.
 pub fn representative(t: &mut [u64], types: &[u8], n: usize, s: u16, d: u64) -> u16
     requires { ⌜ Ready n (length (now types)) (now t) × (s < length (now types)) × (d ≡ numberAt (memoryOf n (length (now types)) (now t)) s) ⌝ }
     ensures { λ r. ⌜ Represents n (length (now (types .entry))) (now (types .entry)) (now (t .entry)) s d r (now (t .exit)) ⌝ }
 {
-    let r = usable_or(&t[..], types, n, d, s);
-    let mark = 3 + types.len() + (d as usize);
-    t[mark] = 65536 * t[0] + (r as u64);
-    r
+    let slot = s as usize;
+    let kind = types[slot];
+    let at = bounds_at(types.len(), d, kind);
+    let word = t[at];
+    let from = least(first_of(t[0], word, s as u64) as usize, slot);
+    let near = lowest(&t[..], types, n, d, kind, false, from, slot);
+    t[at] = word + 65536 * ((near - from) as u64);
+    lowest_typed(&t[..], types, n, d, kind, near, slot) as u16
 }
 
-// "A store then treats its destination likewise": the slot that was usable for the value stays recorded, or the destination is. The
-// answer is the former.
-pub fn store(t: &mut [u64], types: &[u8], n: usize, s: u16, d: u64) -> Found
-    requires { ⌜ Ready n (length (now types)) (now t) × (s < length (now types)) × (d < limit n (length (now types)) (memoryOf n (length (now types)) (now t))) ⌝ }
-    ensures { λ r. ⌜ (r ≡ usableAt (now (types .entry)) (memoryOf n (length (now (types .entry))) (now (t .entry))) d (getD (now (types .entry)) s 0)) × Stores n (length (now (types .entry))) (now (types .entry)) (now (t .entry)) s d (now (t .exit)) ⌝ }
+// Slot s holds number d, and the bounds at `at` reach from `first` and slot s to slot s and the one before `end`.
+fn put(t: &mut [u64], s: usize, d: u64, at: usize, first: usize, end: usize)
+    requires { ⌜ (s < 65536) × (d < 4294967296) × (at < length (now t)) × (3 + s < length (now t)) × (end ≤ 65536) × (getD (now t) 0 0 < 4294967296) ⌝ }
+    ensures { λ _. ⌜ Puts (now (t .entry)) s d at first end (now (t .exit)) ⌝ }
 {
     let epoch = t[0];
-    let at = s as usize;
-    let found = usable(&t[..], types, n, d, types[at]);
-    t[3 + at] = 4294967296 * epoch + d;
-    if let Found::Nothing = found {
-        let mark = 3 + types.len() + (d as usize);
-        t[mark] = 65536 * epoch + (s as u64);
+    let low = least(first, s);
+    let high = most(end, s + 1) - 1;
+    t[at] = 4294967296 * epoch + 65536 * (low as u64) + (high as u64);
+    t[3 + s] = 4294967296 * epoch + d;
+}
+
+// A store: the value with the number d in slot s.
+pub fn store(t: &mut [u64], types: &[u8], n: usize, s: u16, d: u64)
+    requires { ⌜ Ready n (length (now types)) (now t) × (s < length (now types)) × (d < limit n (length (now types)) (memoryOf n (length (now types)) (now t))) ⌝ }
+    ensures { λ _. ⌜ Stores n (length (now (types .entry))) (now (types .entry)) (now (t .entry)) s d (now (t .exit)) ⌝ }
+{
+    let slot = s as usize;
+    let at = bounds_at(types.len(), d, types[slot]);
+    let word = t[at];
+    let first = first_of(t[0], word, d) as usize;
+    let end = end_of(types.len() as u64, t[0], word, d) as usize;
+    put(t, slot, d, at, first, end);
+}
+
+// A store, and the lowest slot of the type of slot s that held the value before it, or the number of slots.
+pub fn share(t: &mut [u64], types: &[u8], n: usize, s: u16, d: u64) -> usize
+    requires { ⌜ Ready n (length (now types)) (now t) × (s < length (now types)) × (d < limit n (length (now types)) (memoryOf n (length (now types)) (now t))) ⌝ }
+    ensures { λ r. ⌜ Shares n (length (now (types .entry))) (now (types .entry)) (now (t .entry)) s d r (now (t .exit)) ⌝ }
+{
+    let slot = s as usize;
+    let locals = types.len();
+    let kind = types[slot];
+    let at = bounds_at(locals, d, kind);
+    let word = t[at];
+    let first = first_of(t[0], word, d) as usize;
+    let end = end_of(locals as u64, t[0], word, d) as usize;
+    let near = lowest(&t[..], types, n, d, kind, false, first, end);
+    if end <= near {
+        put(t, slot, d, at, slot, 0);
+        return locals;
     }
-    found
+    let r = lowest_typed(&t[..], types, n, d, kind, near, end);
+    put(t, slot, d, at, near, end);
+    if r < end {
+        return r;
+    }
+    locals
 }
 
 // The value with a number, as far as folding asks, which is whether it is an integer and which: what it is otherwise, a definition's
@@ -134,7 +215,7 @@ pub fn atom(t: &[u64], n: usize, locals: usize, d: u64) -> Atom
     if number == zero {
         return Atom::Integer(0);
     }
-    let at = 4 + 2 * locals + 3 * n + 4 * (number - zero - 1);
+    let at = 5 + 3 * locals + 5 * n + 4 * (number - zero - 1);
     if t[at + 1] == 0 {
         return Atom::Integer(t[at]);
     }
@@ -150,8 +231,8 @@ pub fn constant(t: &mut [u64], n: usize, locals: usize, kind: u64, bits: u64) ->
     if (kind == 0) & (bits == 0) {
         return zero as u64;
     }
-    let start = 4 + 2 * locals + 2 * n;
-    let end = 4 + 2 * locals + 7 * n;
+    let start = 5 + 3 * locals + 4 * n;
+    let end = 5 + 3 * locals + 9 * n;
     let epoch = t[0];
     let count = t[1] as usize;
     let b = entries::bucket(n, bits, kind);
@@ -170,8 +251,8 @@ pub fn first_expression(t: &[u64], n: usize, locals: usize, b: usize) -> u64
     requires { ⌜ Ready n locals (now t) × (b < n) ⌝ }
     ensures { λ r. ⌜ r ≡ headAt (memoryOf n locals (now (t .entry)) .expressionTable) (memoryOf n locals (now (t .entry)) .epoch) b ⌝ }
 {
-    let start = 4 + 2 * locals + 7 * n;
-    let end = 4 + 2 * locals + 12 * n;
+    let start = 5 + 3 * locals + 9 * n;
+    let end = 5 + 3 * locals + 14 * n;
     entries::head(&t[start..end], t[0], b)
 }
 
@@ -180,8 +261,8 @@ pub fn find_expression(t: &[u64], n: usize, locals: usize, first: u64, word: u64
     requires { ⌜ Ready n locals (now t) × (first ≡ headAt (memoryOf n locals (now t) .expressionTable) (memoryOf n locals (now t) .epoch) (bucketOf n (key word 0))) ⌝ }
     ensures { λ r. ⌜ r ≡ expressionAt n locals (memoryOf n locals (now (t .entry))) (key word 0) ⌝ }
 {
-    let start = 4 + 2 * locals + 7 * n;
-    let end = 4 + 2 * locals + 12 * n;
+    let start = 5 + 3 * locals + 9 * n;
+    let end = 5 + 3 * locals + 14 * n;
     let f = entries::find(&t[start..end], n, t[2] as usize, first, word, 0);
     if f == 0 {
         return Found::Nothing;
@@ -194,8 +275,8 @@ pub fn learn(t: &mut [u64], n: usize, locals: usize, b: usize, first: u64, word:
     requires { ⌜ Ready n locals (now t) × (memoryOf n locals (now t) .expressions < n) × (b ≡ bucketOf n (key word 0)) × (b < n) × (first ≡ headAt (memoryOf n locals (now t) .expressionTable) (memoryOf n locals (now t) .epoch) b) × (d < limit n locals (memoryOf n locals (now t))) × (expressionAt n locals (memoryOf n locals (now t)) (key word 0) ≡ Nothing) ⌝ }
     ensures { λ _. ⌜ ((op flags left right : ℕ) → op < 256 → flags < 256 → left < limit n locals (memoryOf n locals (now (t .entry))) → right < limit n locals (memoryOf n locals (now (t .entry))) → key word 0 ≡ expressionKey op flags left right → Learns n locals (now (t .entry)) op flags left right d (now (t .exit))) ⌝ }
 {
-    let start = 4 + 2 * locals + 7 * n;
-    let end = 4 + 2 * locals + 12 * n;
+    let start = 5 + 3 * locals + 9 * n;
+    let end = 5 + 3 * locals + 14 * n;
     let epoch = t[0];
     let count = t[2] as usize;
     entries::insert(&mut t[start..end], n, epoch, count, b, first, word, 0, d);

@@ -273,7 +273,7 @@ impl Made<'_> {
     /// The output is as it was, but for what a rewritten answer writes.
     fn check_output(&self, noise: u8) -> Result<(), String> {
         let written = match self.answer.kind {
-            sys::REWRITTEN => unit::buffers::output(self.answer.number.into()) as usize,
+            sys::REWRITTEN => Rewritten::len_at(self.out),
             _ => 0,
         };
         match self.out.get(written..) {
@@ -296,7 +296,7 @@ impl Made<'_> {
         let well_formed = match answer.kind {
             sys::UNCHANGED => answer == returned(&Answer::Unchanged).0,
             sys::REFUSED => (5..=10).contains(&answer.number) && answer.place < n,
-            sys::REWRITTEN => answer.place == 0 && is_result(self.out, answer.number, n),
+            sys::REWRITTEN => answer.place == 0 && is_result(self.out, n),
             _ => false,
         };
         let last = match (self.call, answer.kind) {
@@ -329,12 +329,15 @@ impl Made<'_> {
     }
 }
 
-/// Whether the output starts with a result of this length, its old places rising below n.
-fn is_result(out: &[u8], retained: u32, n: u32) -> bool {
-    let len = unit::buffers::output(retained.into()) as usize;
-    let Some(result) = out.get(..len).and_then(Rewritten::decode) else {
+/// Whether the output starts with a result, its old places rising below n and its lines' places below n'.
+fn is_result(out: &[u8], n: u32) -> bool {
+    let Some(result) = out.get(..Rewritten::len_at(out)).and_then(Rewritten::decode) else {
         return false;
     };
-    let places: Vec<u32> = result.retained.iter().map(|entry| entry.old_place).collect();
-    places.windows(2).all(|pair| pair[0] < pair[1]) && places.iter().all(|&place| place < n)
+    let rising = |places: Vec<u32>, end: u32| {
+        places.windows(2).all(|pair| pair[0] < pair[1]) && places.iter().all(|&place| place < end)
+    };
+    let retained = result.retained.len() as u32;
+    rising(result.retained.iter().map(|entry| entry.old_place).collect(), n)
+        && rising(result.lines.iter().map(|entry| entry.place).collect(), retained)
 }

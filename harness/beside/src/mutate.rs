@@ -8,7 +8,7 @@ const LEAST_WEIGHT: usize = 100;
 
 /// Numbers on which counts, offsets, slots and distances turn.
 const NUMBERS: [u32; 16] =
-    [0, 1, 2, 3, 16, 63, 64, 65, 255, 32_767, 32_768, 65_535, 65_536, 0x7fff_ffff, 0x8000_0000, 0xffff_ffff];
+    [0, 1, 2, 3, 24, 63, 71, 72, 255, 32_767, 32_768, 65_535, 65_536, 0x7fff_ffff, 0x8000_0000, 0xffff_ffff];
 
 pub fn bytes(rng: &mut Rng) -> Vec<u8> {
     match rng.below(20) {
@@ -31,7 +31,7 @@ fn any(rng: &mut Rng, most: usize) -> Vec<u8> {
 
 /// A good header before bytes that may be anything, mostly small.
 fn sections_of_anything(rng: &mut Rng) -> Vec<u8> {
-    let counts = [(); 7].map(|()| rng.below(6) as u32);
+    let counts = [(); 8].map(|()| rng.below(6) as u32);
     let s = if rng.percent(50) { counts[2] } else { rng.below(70) as u32 };
     let (header, len) = Header::with_counts(counts, s, u32::from(rng.percent(10)));
     let mut bytes = Vec::new();

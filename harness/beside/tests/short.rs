@@ -44,7 +44,7 @@ fn other_bytes_have_no_number() {
 
 #[test]
 fn the_buffer_stays_but_for_the_unit() {
-    for (number, size) in [(0, 64 + 50), (576, 64 + 74), (346_175, 64 + 98)] {
+    for (number, size) in [(0, 122), (576, 146), (346_175, 170)] {
         for room in [0, 1, size - 1, size, size + 1, size + 40] {
             let mut out = vec![0xa5; room];
             let made = unsafe { sys::lampruda_short_unit(number, out.as_mut_ptr(), out.len()) };

@@ -14,8 +14,9 @@ const SEED: u64 = 2;
 const MAX_LEN: usize = 480;
 
 /// How many units the list has of each profile whose units are small.
-const SHARES: [(&str, usize); 14] = [
+const SHARES: [(&str, usize); 15] = [
     ("straight", 180),
+    ("holders", 120),
     ("branches", 180),
     ("loops", 200),
     ("jumps", 80),
@@ -99,9 +100,9 @@ fn header() -> String {
 # UNIT is the unit in hexadecimal.
 # PASS, one pass: unchanged | refused NUMBER PLACE | rewritten N' RESULT
 # CLEAN, the cleaning: unchanged J | refused NUMBER PLACE J | rewritten N' J RESULT
-# J is the number of the last pass run; RESULT is the output's first 16 + 28 N' bytes in hexadecimal.
+# J is the number of the last pass run; RESULT is the output's first 24 + 28 N' + 8 L' bytes in hexadecimal.
 # Made by the harness (seed {SEED}) from volang's optimize.rs, pc_map.rs, instruction.rs and
-# instruction_effects.rs, compiled unchanged. In this order: {} named examples
+# instruction_effects.rs with document 02's changes. In this order: {} named examples
 # (harness/generate/src/named.rs), {} damages of one unit, {} units that have every opcode,
 # and of the generator's profiles {}.
 # Made again by:         cargo run --release --manifest-path harness/Cargo.toml -- record

@@ -10,9 +10,9 @@ const COUNT: u64 = 20_000;
 
 /// The table's columns. One pass: unchanged, rewritten, refused with each number that the reference can give.
 /// Cleaning: unchanged, rewritten, refused with the number of the last pass run.
-const COLUMNS: [&str; 18] = [
+const COLUMNS: [&str; 19] = [
     "unch", "rewr", "ref 1", "ref 3", "ref 4", "ref 5", "ref 6", "ref 7", "ref 8", "ref 9", "ref 10",
-    "ref 13", "unch:1", "rewr:2", "rewr:3", "ref:1", "ref:2", "ref:3",
+    "ref 11", "ref 13", "unch:1", "rewr:2", "rewr:3", "ref:1", "ref:2", "ref:3",
 ];
 
 type Row = [u64; COLUMNS.len()];

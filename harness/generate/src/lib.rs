@@ -3,6 +3,7 @@
 mod damage;
 mod draft;
 mod laws;
+mod lines;
 pub mod named;
 mod opcodes;
 mod profiles;
@@ -10,6 +11,7 @@ mod rng;
 mod shapes;
 pub mod small_world;
 
+pub use lines::on_every_place;
 pub use profiles::{every_damage, every_opcode, many_blocks, slow_liveness, Profile, PROFILES};
 pub use rng::Rng;
 pub use shapes::{Shape, EXTREMES, SHAPES};

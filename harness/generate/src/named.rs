@@ -1,8 +1,8 @@
-//! Named examples: those of document 01's notebook, and the smallest units on which its readings part.
+//! Named examples: those of document 01's notebook, and the smallest units on which the documents' readings part.
 
 use reference::Opcode;
-use unit::{Case, Constant, Function, Instruction, Kind, Metadata, Parts};
-use unit::{CONSTANT_FLOAT, CONSTANT_INT, TYPE_GC_BASE, TYPE_VALUE};
+use unit::{Case, Constant, Function, Instruction, Kind, Line, Metadata, Parts};
+use unit::{CONSTANT_FLOAT, CONSTANT_INT, TYPE_FLOAT, TYPE_GC_BASE, TYPE_VALUE};
 
 /// What the papers state of an example's answer.
 #[derive(Clone, Debug)]
@@ -22,17 +22,32 @@ pub struct Named {
     pub pass: Stated,
     /// The cleaning's answer and pass number, where the papers state them.
     pub clean: Option<(Stated, u32)>,
+    /// The lines of the pass's result and of the cleaning's, where they are stated.
+    pub lines: Option<Vec<Line>>,
+    pub cleaned_lines: Option<Vec<Line>>,
     /// Whether it is small enough for the recorded answers.
     pub recorded: bool,
 }
 
 impl Named {
     fn new(name: &'static str, parts: Parts, pass: Stated) -> Self {
-        Self { name, unit: parts.encode(), pass, clean: None, recorded: true }
+        Self::of_bytes(name, parts.encode(), pass)
+    }
+
+    fn of_bytes(name: &'static str, unit: Vec<u8>, pass: Stated) -> Self {
+        Self { name, unit, pass, clean: None, lines: None, cleaned_lines: None, recorded: true }
     }
 
     fn cleaned(self, stated: Stated, pass: u32) -> Self {
         Self { clean: Some((stated, pass)), ..self }
+    }
+
+    fn with_lines(self, lines: &[(u32, u32)]) -> Self {
+        Self { lines: Some(entries(lines)), ..self }
+    }
+
+    fn with_cleaned_lines(self, lines: &[(u32, u32)]) -> Self {
+        Self { cleaned_lines: Some(entries(lines)), ..self }
     }
 
     fn not_recorded(self) -> Self {
@@ -44,10 +59,18 @@ pub fn all() -> Vec<Named> {
     let mut named = notebook();
     named.extend(wrong_turns());
     named.extend(readings());
+    named.extend(lowest_slots());
+    named.extend(wide_sums());
     named.extend(refusals());
+    named.extend(line_numbers());
     named.extend(many_cases());
     named.extend(large());
+    named.extend(perhaps_written());
     named
+}
+
+fn entries(lines: &[(u32, u32)]) -> Vec<Line> {
+    lines.iter().map(|&(place, line)| Line { place, line }).collect()
 }
 
 fn op(opcode: Opcode, a: u16, b: u16, c: u16) -> Instruction {
@@ -103,6 +126,12 @@ fn function(s: u32, code: &[Instruction]) -> Parts {
         types: vec![TYPE_VALUE; s as usize],
         ..Parts::default()
     }
+}
+
+/// The same with a slot of another type.
+fn with_type(mut parts: Parts, slot: usize, slot_type: u8) -> Parts {
+    parts.types[slot] = slot_type;
+    parts
 }
 
 fn with_metadata(mut parts: Parts, place: usize, metadata: Metadata) -> Parts {
@@ -309,6 +338,139 @@ fn readings() -> Vec<Named> {
     ]
 }
 
+/// Document 02, L1: "the lowest-numbered is used".
+fn lowest_slots() -> Vec<Named> {
+    use Opcode::AddF;
+    let add_f = |to| op(AddF, to, 0, 1);
+    let all = give_back(0, 5);
+    let moved = [add_f(2), copy(3, 2), load_int(2, 0), add_f(4), all];
+    let loop_back = [copy(0, 1), jump_if(1, -1), give_back(1, 1)];
+    vec![
+        Named::new(
+            "a higher slot's copy is read from the lower",
+            function(2, &[copy(1, 0), give_back(1, 1)]),
+            rewritten(&[(1, give_back(0, 1))]),
+        ),
+        Named::new(
+            "the lower slot is the operand's own",
+            function(2, &[copy(0, 1), give_back(0, 1)]),
+            Stated::Unchanged,
+        ),
+        Named::new(
+            "an operand that was never stored is replaced",
+            function(2, &[copy(0, 1), give_back(1, 1)]),
+            rewritten(&[(0, copy(0, 1)), (1, give_back(0, 1))]),
+        ),
+        Named::new(
+            "the lowest was overwritten",
+            function(4, &[copy(0, 3), copy(1, 3), load_int(0, 5), give_back(3, 1)]),
+            rewritten(&[(0, copy(0, 3)), (1, copy(1, 0)), (3, give_back(1, 1))]),
+        ),
+        Named::new(
+            "the lowest was overwritten and restored",
+            function(4, &[copy(0, 3), load_int(0, 5), copy(0, 3), give_back(3, 1)]),
+            rewritten(&[(2, copy(0, 3)), (3, give_back(0, 1))]),
+        ),
+        Named::new(
+            "a lower slot of another type",
+            with_type(function(3, &[copy(0, 2), copy(1, 2), give_back(2, 1)]), 0, TYPE_FLOAT),
+            rewritten(&[(1, copy(1, 2)), (2, give_back(1, 1))]),
+        ),
+        Named::new(
+            "a slot that is no scalar stands for itself",
+            with_type(function(3, &[copy(0, 1), copy(2, 1), give_back(0, 3)]), 1, TYPE_GC_BASE),
+            Stated::Unchanged,
+        ),
+        Named::new(
+            "an equal expression goes by its destination's type",
+            with_type(function(5, &[add_f(2), add_f(3), add_f(4), all]), 2, TYPE_FLOAT),
+            rewritten(&[(0, add_f(2)), (1, add_f(3)), (2, copy(4, 3)), (3, all)]),
+        ),
+        Named::new(
+            "an equal expression whose first slot was overwritten",
+            function(5, &moved),
+            rewritten(&[(0, add_f(2)), (1, copy(3, 2)), (2, load_int(2, 0)), (3, copy(4, 3)), (4, all)]),
+        ),
+        Named::new(
+            "an equal expression that its destination holds",
+            function(3, &[add_f(2), add_f(2), give_back(2, 1)]),
+            rewritten(&[(0, add_f(2)), (1, copy(2, 2)), (2, give_back(2, 1))]),
+        ),
+        Named::new(
+            "LoadInt of a value that is held",
+            function(2, &[load_int(0, 5), load_int(1, 5), give_back(0, 2)]),
+            Stated::Unchanged,
+        ),
+        Named::new(
+            "a conditional jump goes by the lowest slot",
+            function(2, &loop_back),
+            rewritten(&[(0, copy(0, 1)), (1, jump_if(0, -1)), (2, give_back(1, 1))]),
+        ),
+        Named::new(
+            "a clearing between",
+            function(2, &[copy(0, 1), HINT, give_back(1, 1)]),
+            rewritten(&[(2, give_back(1, 1))]),
+        ),
+    ]
+}
+
+/// Document 02, L2: "LoadInt if it fits; else Copy from the slot of L1 that holds the same known integer in the same type; else the
+/// instruction stays".
+fn wide_sums() -> Vec<Named> {
+    use Opcode::{AddI, And, NegI};
+    let all = give_back(0, 4);
+    let held = [load_const(0, 0), load_const(1, 1), op(AddI, 3, 1, 1), all];
+    let sums = |first_kind| {
+        let parts = with_constant(function(4, &held), first_kind, 1 << 40);
+        with_constant(parts, CONSTANT_INT, 1 << 39)
+    };
+    let small = [load_int(0, 4), load_int(1, 2), op(AddI, 2, 1, 1), give_back(0, 3)];
+    let lowest = [load_const(0, 0), load_const(1, 0), load_const(2, 1), op(AddI, 3, 2, 2), all];
+    let twice = with_constant(function(4, &lowest), CONSTANT_INT, 1 << 40);
+    let negated = function(1, &[load_const(0, 0), op(NegI, 0, 0, 0), give_back(0, 1)]);
+    let hinted = function(1, &[load_const(0, 0), HINT, op(And, 0, 0, 0), give_back(0, 1)]);
+    vec![
+        Named::new(
+            "a wide sum that a slot holds",
+            sums(CONSTANT_INT),
+            rewritten(&[(0, load_const(0, 0)), (1, load_const(1, 1)), (2, copy(3, 0)), (3, all)]),
+        ),
+        Named::new(
+            "a wide sum that two slots hold",
+            with_constant(twice, CONSTANT_INT, 1 << 39),
+            rewritten(&[
+                (0, load_const(0, 0)),
+                (1, load_const(1, 0)),
+                (2, load_const(2, 1)),
+                (3, copy(3, 0)),
+                (4, all),
+            ]),
+        ),
+        Named::new(
+            "a wide sum that a slot of another type holds",
+            with_type(sums(CONSTANT_INT), 3, TYPE_FLOAT),
+            Stated::Unchanged,
+        ),
+        Named::new("a float constant of a wide sum's bits", sums(CONSTANT_FLOAT), Stated::Unchanged),
+        Named::new(
+            "LoadInt of a sum that a slot holds",
+            function(3, &small),
+            rewritten(&[(0, load_int(0, 4)), (1, load_int(1, 2)), (2, load_int(2, 4)), (3, give_back(0, 3))]),
+        ),
+        Named::new(
+            "a wide result that its destination holds",
+            with_constant(negated, CONSTANT_INT, 1 << 63),
+            rewritten(&[(0, load_const(0, 0)), (1, copy(0, 0)), (2, give_back(0, 1))]),
+        ),
+        Named::new(
+            "a wide result that pass 2 knows",
+            with_constant(hinted, CONSTANT_INT, 1 << 31),
+            rewritten(&[(0, load_const(0, 0)), (2, op(And, 0, 0, 0)), (3, give_back(0, 1))]),
+        )
+        .cleaned(rewritten(&[(0, load_const(0, 0)), (2, copy(0, 0)), (3, give_back(0, 1))]), 3),
+    ]
+}
+
 /// Refusals and their order where a reader may doubt them.
 fn refusals() -> Vec<Named> {
     let with_case = |kind, has_ok| Parts {
@@ -357,6 +519,62 @@ fn refusals() -> Vec<Named> {
 /// A sound loop hint with its exit at n, and a plain hint that goes.
 fn removed_nothing() -> Parts {
     with_metadata(function(0, &[HINT, loop_hint(3), give_back(0, 0)]), 1, Metadata::loop_end(2))
+}
+
+/// Document 02, L3: "Line numbers travel with the code".
+fn line_numbers() -> Vec<Named> {
+    let lined = |parts: Parts, lines: &[(u32, u32)]| Parts { lines: entries(lines), ..parts };
+    let kept_last = || function(1, &[load_int(0, 0), give_back(0, 0)]);
+    let last = || rewritten(&[(1, give_back(0, 0))]);
+    let none_kept = function(1, &[load_int(0, 1), load_int(0, 2)]);
+    let nothing_to_do = function(1, &[load_int(0, 1), give_back(0, 1)]);
+    // Pass 1 removes what reads slot 1, and pass 2 what stores it.
+    let branch = [load_int(1, 5), jump_if(0, 2), copy(2, 1), give_back(0, 1)];
+    let no_lines = kept_last().encode();
+    // The header's last two words left out, as before L3, and an empty section's offset one too high.
+    let mut short = no_lines.clone();
+    short.drain(64..72);
+    for offset in (36..64).step_by(4) {
+        short[offset] -= 8;
+    }
+    let mut moved = no_lines.clone();
+    moved[68] += 1;
+    vec![
+        Named::new("a line stays where its instruction goes", lined(kept_last(), &[(0, 1)]), last())
+            .with_lines(&[(0, 1)])
+            .cleaned(last(), 2)
+            .with_cleaned_lines(&[(0, 1)]),
+        Named::new("the later line supersedes", lined(kept_last(), &[(0, 1), (1, 2)]), last())
+            .with_lines(&[(0, 2)]),
+        Named::new("lines on n' are dropped", lined(none_kept, &[(0, 1), (1, 2)]), rewritten(&[]))
+            .with_lines(&[]),
+        Named::new("an unchanged function has its lines", lined(nothing_to_do, &[(0, 5)]), Stated::Unchanged),
+        Named::new(
+            "lines over three passes",
+            lined(function(3, &branch), &[(0, 1), (1, 2), (2, 3), (3, 4)]),
+            rewritten(&[(0, load_int(1, 5)), (1, jump_if(0, 1)), (3, give_back(0, 1))]),
+        )
+        .with_lines(&[(0, 1), (1, 2), (2, 4)])
+        .cleaned(rewritten(&[(1, jump_if(0, 1)), (3, give_back(0, 1))]), 3)
+        .with_cleaned_lines(&[(0, 2), (1, 4)]),
+        Named::of_bytes("a header of 64 bytes", short, refused(1, 0)),
+        Named::of_bytes("an empty section's offset", moved, refused(1, 0)),
+        Named::new("two lines on one place", lined(kept_last(), &[(1, 1), (1, 2)]), refused(11, 0))
+            .cleaned(refused(11, 0), 1),
+        Named::new("falling lines", lined(kept_last(), &[(1, 1), (0, 2)]), refused(11, 0)),
+        Named::new("a line on place n", lined(kept_last(), &[(2, 1)]), refused(11, 0)),
+        Named::new("a line without an instruction", lined(function(0, &[]), &[(0, 1)]), refused(11, 0)),
+        Named::new(
+            "lines come before defer",
+            Parts { defer: 1, ..lined(kept_last(), &[(1, 1), (1, 2)]) },
+            refused(11, 0),
+        ),
+        Named::new(
+            "lines come before counts",
+            Parts { metadata: vec![], ..lined(kept_last(), &[(2, 1)]) },
+            refused(11, 0),
+        ),
+    ]
 }
 
 /// Document 02, L9: a select has up to 24 cases.
@@ -413,6 +631,12 @@ fn large() -> Vec<Named> {
             .not_recorded(),
         Named::new("n = 65,536 is worked on", hints(65_536), rewritten(&[])).not_recorded(),
         Named::new("n = 65,537 is unchanged", hints(65_537), Stated::Unchanged).not_recorded(),
+        Named::new(
+            "lines come before n = 65,537",
+            Parts { lines: entries(&[(65_537, 1)]), ..hints(65_537) },
+            refused(11, 0),
+        )
+        .not_recorded(),
     ]
 }
 
@@ -443,4 +667,83 @@ fn row_without_jumps(jumps: i32, kept: &[u32]) -> Stated {
     retained.push(((row + jumps) as u32, give_back(0, 1)));
     assert_eq!(retained.len() as i32, end + 1);
     Stated::Rewritten(retained)
+}
+
+/// Document 02, L5: what SelectExec's receive cases receive and MapIterNext's key and value are perhaps written. Each
+/// starts with a store, which stays exactly if its slot is read after it.
+fn perhaps_written() -> Vec<Named> {
+    use Opcode::{MapGet, MapIterNext, QueueRecv, SelectExec};
+    let receive = |slot, elem_slots, has_ok| Case { kind: Case::RECEIVE, has_ok, queue: 2, slot, elem_slots };
+    let send = |slot| Case { kind: Case::SEND, queue: 2, slot, elem_slots: 1, ..Case::default() };
+    let layout = |cases: usize| Metadata { second: cases as u32, ..Metadata::new(Kind::SelectExecLayout) };
+    // SelectExec 1 with these cases, in five slots.
+    let select = |stored: u16, cases: &[Case], returned: u16| {
+        let code = [load_int(stored, 0), op(SelectExec, 1, 0, 0), give_back(returned, 1)];
+        Parts { cases: cases.to_vec(), ..with_metadata(function(5, &code), 1, layout(cases.len())) }
+    };
+    // MapIterNext with its iterator in 2 to 8, key and value from slot a on, in eleven slots.
+    let next = |stored: u16, a: u16, flag: u16, returned: u16| {
+        let code = [load_int(stored, 0), op(MapIterNext, a, 2, flag), give_back(returned, 1)];
+        let layout = Metadata { first: 1, second: 1, ..Metadata::new(Kind::MapIterNext) };
+        with_metadata(function(11, &code), 1, layout)
+    };
+    let between = |stored: u16, instruction: Instruction, metadata: Metadata| {
+        with_metadata(function(4, &[load_int(stored, 0), instruction, give_back(stored, 1)]), 1, metadata)
+    };
+    let two_blocks = [load_int(0, 0), jump(1), op(SelectExec, 1, 0, 0), jump(1), give_back(0, 1)];
+    let two_blocks =
+        Parts { cases: vec![receive(0, 1, 0)], ..with_metadata(function(5, &two_blocks), 2, layout(1)) };
+    let stays = |name, parts: Parts| Named::new(name, parts, Stated::Unchanged);
+    let goes = |name, parts: Parts| {
+        let stated = rewritten(&[(1, parts.code[1]), (2, parts.code[2])]);
+        Named::new(name, parts, stated)
+    };
+    vec![
+        stays("a store before a select that may receive into its slot", select(0, &[receive(0, 1, 0)], 0)),
+        stays("a store into the slot of has_ok", select(4, &[receive(3, 1, 1)], 4)),
+        stays("all cases receive into one slot", select(0, &[receive(0, 1, 0), receive(0, 1, 0)], 0)),
+        stays("a send case and a receive case", select(0, &[send(3), receive(0, 1, 0)], 0)),
+        stays("what a send case sends is read", select(0, &[send(0)], 2)),
+        goes("a receive destination is no read", select(0, &[receive(0, 1, 0)], 2)),
+        goes("the chosen index is surely written", select(1, &[receive(0, 1, 0)], 1)),
+        goes("a slot that a select surely and perhaps writes", select(1, &[receive(1, 1, 0)], 1)),
+        Named::new(
+            "a store before a select in the next block",
+            two_blocks,
+            rewritten(&[(0, load_int(0, 0)), (2, op(SelectExec, 1, 0, 0)), (4, give_back(0, 1))]),
+        ),
+        Named::new(
+            "a receive destination outside the frame",
+            select(0, &[receive(4, 1, 1)], 0),
+            refused(7, 1),
+        ),
+        Named::new(
+            "a receive destination past the slots",
+            select(0, &[receive(65_535, 1, 1)], 0),
+            refused(6, 1),
+        ),
+        stays("a store before MapIterNext into its slot", next(0, 0, 10, 0)),
+        stays("a store into a map's value slot", next(1, 0, 10, 1)),
+        goes("MapIterNext's key and value are no read", next(0, 0, 10, 10)),
+        goes("MapIterNext's flag is surely written", next(10, 0, 10, 10)),
+        goes("a slot that MapIterNext surely and perhaps writes", next(1, 0, 1, 1)),
+        Named::new("key and value outside the frame", next(0, 10, 0, 0), refused(7, 1)),
+        Named::new(
+            "key and value past the slots, the flag outside the frame",
+            next(0, 65_535, 11, 0),
+            refused(6, 1),
+        ),
+        goes(
+            "QueueRecv surely writes",
+            between(0, op(QueueRecv, 0, 2, 0), Metadata { first: 1, ..Metadata::new(Kind::QueueLayout) }),
+        ),
+        goes(
+            "MapGet's ok slot is surely written",
+            between(
+                1,
+                op(MapGet, 0, 2, 3),
+                Metadata { first: 1, second: 1, has_ok: 1, ..Metadata::new(Kind::MapGet) },
+            ),
+        ),
+    ]
 }

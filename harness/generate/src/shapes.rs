@@ -21,11 +21,13 @@ impl Shape {
 }
 
 /// No law looks like these: loads of constants alone; the worst known of our table, whose hash is fixed: constants chosen to
-/// fall in one bucket of it, along one path for as long as they can; and a row of jumps, which takes every jump round.
-pub const EXTREMES: [Shape; 3] = [
+/// fall in one bucket of it, along one path for as long as they can; a row of jumps, which takes every jump round; and the worst
+/// known of the look for the lowest slot.
+pub const EXTREMES: [Shape; 4] = [
     Shape { name: "constants only", draw: constants_only },
     Shape { name: "one bucket", draw: one_bucket },
     Shape { name: "row of jumps", draw: row_of_jumps },
+    Shape { name: "far holders", draw: far_holders },
 ];
 
 pub const SHAPES: [Shape; 6] = [
@@ -170,6 +172,21 @@ fn row_of_jumps(rng: &mut Rng, n: usize) -> Parts {
     }
     while draft.place() + 1 < n {
         draft.branch(Opcode::Jump, 0, n as i64 - 1);
+    }
+    end(draft)
+}
+
+/// A value in the first slot and in the last, as many slots as instructions, of which the first is overwritten again and again:
+/// every other instruction looks at all slots.
+fn far_holders(rng: &mut Rng, n: usize) -> Parts {
+    let s = n.min(usize::from(u16::MAX));
+    let mut draft = Draft::new(rng, n, s);
+    while draft.place() + 1 < n {
+        if draft.place() % 2 == 0 {
+            draft.op(Opcode::Copy, 0, 0, (s - 1) as u16, 0);
+        } else {
+            draft.load_int(0, 0);
+        }
     }
     end(draft)
 }

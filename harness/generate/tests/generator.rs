@@ -17,7 +17,7 @@ fn same_units_everywhere() {
     assert_eq!(hashed, EXPECTED);
 }
 
-const EXPECTED: u64 = 17_373_309_512_115_591_014;
+const EXPECTED: u64 = 2_123_840_791_886_097_326;
 
 #[test]
 fn profiles_draw_units() {

@@ -30,6 +30,23 @@ fn answers_are_as_stated() {
     }
 }
 
+/// Document 02, L3: the lines of a result.
+#[test]
+fn lines_are_as_stated() {
+    let lines = |answer: Answer| match answer {
+        Answer::Rewritten { bytes } => Rewritten::decode(&bytes).expect("the result's layout").lines,
+        _ => vec![],
+    };
+    for named in named::all() {
+        if let Some(stated) = &named.lines {
+            assert_eq!(&lines(reference::pass(&named.unit)), stated, "{}", named.name);
+        }
+        if let Some(stated) = &named.cleaned_lines {
+            assert_eq!(&lines(reference::clean(&named.unit).answer), stated, "{} cleaned", named.name);
+        }
+    }
+}
+
 /// "LoopEnd on anything but a loop hint is not relocated", and the rest of the metadata travels along.
 #[test]
 fn metadata_travels_along() {

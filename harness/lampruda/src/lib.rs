@@ -43,7 +43,7 @@ pub enum Answer<'a> {
         number: u32,
         place: u32,
     },
-    /// The output's first 16 + 28n' bytes.
+    /// The output's first 24 + 28n' + 8l' bytes.
     Rewritten(&'a [u8]),
 }
 
@@ -54,7 +54,7 @@ impl<'a> Answer<'a> {
         match kind {
             sys::UNCHANGED => Self::Unchanged,
             sys::REFUSED => Self::Refused { number, place },
-            sys::REWRITTEN => Self::Rewritten(&out[..unit::buffers::output(number.into()) as usize]),
+            sys::REWRITTEN => Self::Rewritten(&out[..unit::Rewritten::len_at(out)]),
             _ => unreachable!("the library returns kinds 0 to 2"),
         }
     }

@@ -30,7 +30,7 @@ fn examples_are_as_listed() {
 #[test]
 fn any_bytes() {
     let mut workspace = Workspace::default();
-    let (huge, _) = Header::with_counts([u32::MAX; 7], u32::MAX, 0);
+    let (huge, _) = Header::with_counts([u32::MAX; 8], u32::MAX, 0);
     let mut bytes = Vec::new();
     huge.write(&mut bytes);
     for bytes in [&[][..], &[1; 63], &[255; 64], &bytes] {

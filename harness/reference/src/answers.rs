@@ -4,7 +4,7 @@ use crate::bytecode::{FunctionDef, InstructionMetadata};
 use crate::loop_hint::{is_loop_hint, LoopHint};
 use crate::prepared::{metadata, select_case, Prepared};
 use std::mem;
-use unit::{Answer, Cleaned, Kind, Metadata, Retained, Rewritten, Unit};
+use unit::{Answer, Cleaned, Kind, Line, Metadata, Retained, Rewritten, Unit};
 
 /// The cleaning "stops at the first pass that does not rewrite, or after 3".
 const MAX_PASSES: u32 = 3;
@@ -31,6 +31,7 @@ fn run(bytes: &[u8], max_passes: u32) -> Cleaned {
     }
     let mut prepared = Prepared::new(&unit);
     prepared.trace_old_places();
+    prepared.carry_lines(&unit);
     let mut answer = Answer::Unchanged;
     for pass in 1..=max_passes {
         let before = prepared.module.functions.under_work.clone();
@@ -72,7 +73,21 @@ fn result(prepared: &Prepared, unit: &Unit) -> Rewritten {
             Retained { instruction: instruction.into(), metadata: entry, old_place: source.frame }
         })
         .collect();
-    Rewritten { retained }
+    Rewritten { retained, lines: lines(prepared) }
+}
+
+/// The entries that `relocate_debug` has moved: "this is compared after superseded entries and those on n' are struck
+/// from the Rust's list". It drops those on n' itself.
+fn lines(prepared: &Prepared) -> Vec<Line> {
+    let moved = prepared.module.debug_info.funcs.under_work.as_ref().expect("lines are carried");
+    let mut lines: Vec<Line> = Vec::new();
+    for entry in &moved.entries {
+        if lines.last().is_some_and(|last| last.place == entry.pc) {
+            lines.pop();
+        }
+        lines.push(Line { place: entry.pc, line: entry.line });
+    }
+    lines
 }
 
 /// The refusal that the Rust's text stands for. `prepared` is as it was before the refused pass; `cut` is the

@@ -1,9 +1,22 @@
-//! Stand-in for volang's debug_info: what optimize.rs and pc_map.rs use of it.
+//! Stand-in for volang's debug_info: what optimize.rs and pc_map.rs use of it. The lines of document 02's L3 are its
+//! entries, which `relocate_debug` moves.
 
 #[derive(Clone, Debug, Default)]
 pub struct DebugInfo {
-    pub funcs: Vec<FuncDebugInfo>,
+    pub funcs: Funcs,
     pub inline_sources: InlineSources,
+}
+
+/// The entries of the one function under work, where they are wanted.
+#[derive(Clone, Debug, Default)]
+pub struct Funcs {
+    pub under_work: Option<FuncDebugInfo>,
+}
+
+impl Funcs {
+    pub fn get_mut(&mut self, _function_id: usize) -> Option<&mut FuncDebugInfo> {
+        self.under_work.as_mut()
+    }
 }
 
 #[derive(Clone, Debug, Default)]
@@ -11,12 +24,15 @@ pub struct FuncDebugInfo {
     pub entries: Vec<DebugEntry>,
 }
 
-#[derive(Clone, Debug)]
+#[derive(Clone, Copy, Debug)]
 pub struct DebugEntry {
     pub pc: u32,
+    pub line: u32,
 }
 
 impl FuncDebugInfo {
+    /// Stably, by place: "Stable sorting preserves the last, most specific location when removed ranges
+    /// collapse", says volang.
     pub fn sort(&mut self) {
         self.entries.sort_by_key(|entry| entry.pc);
     }

@@ -4,7 +4,9 @@ use crate::bytecode::{
     Constant, ExternDef, FunctionDef, Functions, InstructionMetadata, Layout, Module, ReturnShape,
     SelectCaseLayout,
 };
-use crate::debug_info::{DebugInfo, InlineFunctionSources, InlineSourceEntry};
+use crate::debug_info::{
+    DebugEntry, DebugInfo, FuncDebugInfo, Funcs, InlineFunctionSources, InlineSourceEntry,
+};
 use crate::instruction::Instruction;
 use crate::stages::Stages;
 use crate::types::SlotType;
@@ -60,6 +62,12 @@ impl Prepared {
         let places = 0..self.module.functions.under_work.code.len() as u32;
         let entries = places.map(|place| InlineSourceEntry { pc: place, frame: place }).collect();
         self.module.debug_info.inline_sources.under_work = Some(InlineFunctionSources { entries });
+    }
+
+    /// From here on `relocate_debug` moves the unit's lines.
+    pub fn carry_lines(&mut self, unit: &Unit) {
+        let entries = unit.lines().map(|entry| DebugEntry { pc: entry.place, line: entry.line }).collect();
+        self.module.debug_info.funcs = Funcs { under_work: Some(FuncDebugInfo { entries }) };
     }
 }
 

@@ -3,7 +3,7 @@
 use crate::names::{self, Form, CASES, CONSTANTS, TYPES};
 use std::collections::HashMap;
 use std::fmt;
-use unit::{Case, Constant, Function, Instruction, Kind, Metadata, Parts};
+use unit::{Case, Constant, Function, Instruction, Kind, Line, Metadata, Parts};
 use unit::{CONSTANT_BOOL, CONSTANT_FLOAT, CONSTANT_INT, TYPE_VALUE};
 
 /// What is wrong with a text, and where: line and column, both from 1.
@@ -224,8 +224,17 @@ impl<'t> Assembler<'t> {
                 let entry = self.metadata(kind.kind()?, &mut statement)?;
                 self.extra.push(entry);
             }
+            ".line" => {
+                let [place, line] = statement.operands()?;
+                let entry = Line { place: self.place(place)?, line: line.number()? };
+                self.parts.lines.push(entry);
+            }
             text if text.starts_with('.') => return Err(head.wrong(format!("{text} is no directive"))),
             _ => {
+                if let Some(line) = statement.take("line") {
+                    let place = self.parts.code.len() as u32;
+                    self.parts.lines.push(Line { place, line: line.number()? });
+                }
                 let (instruction, metadata) = self.instruction(&mut statement)?;
                 self.parts.code.push(instruction);
                 self.parts.metadata.push(metadata);

@@ -2,9 +2,9 @@
 
 use crate::names::{self, distance, is_loop_hint, target, Form, CASES, CONSTANTS, TYPES};
 use crate::opcode::Opcode;
-use std::collections::BTreeSet;
+use std::collections::{BTreeMap, BTreeSet};
 use std::fmt::Write;
-use unit::{Case, Constant, Instruction, Kind, Metadata, Parts, Unit};
+use unit::{Case, Constant, Instruction, Kind, Line, Metadata, Parts, Unit};
 use unit::{CONSTANT_BOOL, CONSTANT_FLOAT, CONSTANT_INT, TYPE_VALUE};
 
 /// A unit's text.
@@ -15,7 +15,7 @@ pub fn disassemble(unit: &Unit) -> String {
     let lines = Lines::new(&parts);
     for place in 0..parts.code.len() {
         lines.label(place as i64, &mut out);
-        writeln!(out, "        {}", lines.instruction(place)).unwrap();
+        writeln!(out, "        {}{}", lines.instruction(place), lines.marker(place)).unwrap();
     }
     lines.label(parts.code.len() as i64, &mut out);
     if parts.metadata.len() < parts.code.len() {
@@ -24,6 +24,12 @@ pub fn disassemble(unit: &Unit) -> String {
     for entry in parts.metadata.iter().skip(parts.code.len()) {
         let kind = kind(*entry);
         writeln!(out, ".extra {kind:?}{}{}", attributes(*entry), attribute("end", entry.end_pc)).unwrap();
+    }
+    // Refusal 11: as they stand.
+    if !unit.lines_rise() {
+        for Line { place, line } in &parts.lines {
+            writeln!(out, ".line {place} {line}").unwrap();
+        }
     }
     out
 }
@@ -116,6 +122,8 @@ pub struct Lines<'p> {
     parts: &'p Parts,
     /// The places from 0 to n that a branch, a loop's end or its exit names.
     labels: BTreeSet<i64>,
+    /// The lines by place, where their places rise below n.
+    markers: BTreeMap<usize, u32>,
 }
 
 impl<'p> Lines<'p> {
@@ -130,7 +138,17 @@ impl<'p> Lines<'p> {
             }
         }
         labels.retain(|place| (0..=parts.code.len() as i64).contains(place));
-        Self { parts, labels }
+        let places: Vec<u32> = parts.lines.iter().map(|entry| entry.place).collect();
+        let rising = places.windows(2).all(|pair| pair[0] < pair[1]);
+        let inside = places.iter().all(|&place| (place as usize) < parts.code.len());
+        let markers = parts.lines.iter().filter(|_| rising && inside);
+        let markers = markers.map(|entry| (entry.place as usize, entry.line)).collect();
+        Self { parts, labels, markers }
+    }
+
+    /// A place's ` line=N`, if it has one.
+    pub fn marker(&self, place: usize) -> String {
+        self.markers.get(&place).map(|line| format!(" line={line}")).unwrap_or_default()
     }
 
     fn label(&self, place: i64, out: &mut String) {

@@ -14,7 +14,7 @@ pub enum Answer {
         number: u32,
         place: u32,
     },
-    /// The output's first 16 + 28n' bytes.
+    /// The output's first 24 + 28n' + 8l' bytes.
     Rewritten {
         bytes: Vec<u8>,
     },
@@ -26,6 +26,9 @@ impl Answer {
 
     /// "refused 2, place 0: a lent buffer shorter than stated"
     pub const SHORT_BUFFER: Self = Self::Refused { number: Refusal::ShortBuffer as u32, place: 0 };
+
+    /// Document 02, L3: "(11, place 0: places not strictly rising or not below n; checked directly after 1.)"
+    pub const LINE_PLACES: Self = Self::Refused { number: Refusal::LinePlaces as u32, place: 0 };
 
     pub fn rewritten(result: &Rewritten) -> Self {
         Self::Rewritten { bytes: result.encode() }

@@ -1,5 +1,6 @@
-//! The lengths of the lent buffers, for a function of n instructions and s local slots.
+//! The lengths of the lent buffers, for a function of n instructions, s local slots and l lines.
 
+use crate::entries::{Entry, Line};
 use crate::result::{Retained, RESULT_HEADER_LEN};
 use std::ops::RangeInclusive;
 
@@ -14,9 +15,9 @@ pub fn liveness_words(s: u64) -> u64 {
     s.div_ceil(64)
 }
 
-/// "Output buffer: 16 + 28n bytes."
-pub fn output(n: u64) -> u64 {
-    RESULT_HEADER_LEN as u64 + Retained::LEN as u64 * n
+/// "Output buffer: 16 + 28n bytes"; document 02, L3: "Output room grows by 8 bytes and 8 per entry".
+pub fn output(n: u64, l: u64) -> u64 {
+    RESULT_HEADER_LEN as u64 + Retained::LEN as u64 * n + Line::LEN as u64 * l
 }
 
 /// "Work: 16n + 16 numbers of 32 bits"
@@ -36,7 +37,7 @@ pub fn work64(n: u64, s: u64) -> u64 {
 }
 
 /// The lengths of the buffers of one call, in elements. The last two are the cleaning's: "2 × (16 + 28n) spare
-/// bytes".
+/// bytes", and with L3 twice as much more.
 #[derive(Clone, Copy, Debug, Default, Eq, PartialEq)]
 pub struct Lengths {
     pub out: usize,
@@ -47,9 +48,9 @@ pub struct Lengths {
 }
 
 impl Lengths {
-    pub fn stated(n: u32, s: u32) -> Self {
-        let (n, s) = (u64::from(n), u64::from(s));
-        let [out, work32, work64] = [output(n), work32(n), work64(n, s)].map(|length| length as usize);
+    pub fn stated(n: u32, s: u32, l: u32) -> Self {
+        let [n, s, l] = [n, s, l].map(u64::from);
+        let [out, work32, work64] = [output(n, l), work32(n), work64(n, s)].map(|length| length as usize);
         Self { out, work32, work64, first: out, second: out }
     }
 

@@ -310,3 +310,23 @@ impl Entry for Case {
         }
     }
 }
+
+/// Document 02, L3: "each entry an old place and a line of 32 bits".
+#[derive(Clone, Copy, Debug, Default, Eq, PartialEq)]
+pub struct Line {
+    pub place: u32,
+    pub line: u32,
+}
+
+impl Entry for Line {
+    const LEN: usize = 8;
+
+    fn read(bytes: &[u8]) -> Self {
+        Self { place: u32_at(bytes, 0), line: u32_at(bytes, 4) }
+    }
+
+    fn write(&self, out: &mut Vec<u8>) {
+        self.place.write(out);
+        self.line.write(out);
+    }
+}

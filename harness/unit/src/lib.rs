@@ -1,6 +1,6 @@
-//! Document 01's layout: the unit, the result, the answers and the lent buffers.
+//! Document 01's layout: the unit, the result, the answers and the lent buffers; and document 02's lines (L3).
 //!
-//! Written from document 01 alone. Everything is little-endian.
+//! Written from the documents alone. Everything is little-endian.
 
 mod answer;
 pub mod buffers;
@@ -13,7 +13,7 @@ mod section;
 
 pub use answer::{Answer, Cleaned};
 pub use buffers::Lengths;
-pub use entries::{Case, Constant, Entry, Function, Instruction, Kind, Metadata};
+pub use entries::{Case, Constant, Entry, Function, Instruction, Kind, Line, Metadata};
 pub use entries::{CONSTANT_BOOL, CONSTANT_FLOAT, CONSTANT_INT, CONSTANT_NIL, CONSTANT_STRING};
 pub use entries::{TYPE_FLOAT, TYPE_GC_BASE, TYPE_VALUE};
 pub use parts::Parts;

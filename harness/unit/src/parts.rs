@@ -1,6 +1,6 @@
 //! A unit taken apart, and put together again.
 
-use crate::entries::{Case, Constant, Entry, Function, Instruction, Metadata};
+use crate::entries::{Case, Constant, Entry, Function, Instruction, Line, Metadata};
 use crate::section::{Header, Unit};
 
 /// The sections of a unit and its two numbers that count nothing. Whether they make a unit is `Unit::check`'s
@@ -16,6 +16,7 @@ pub struct Parts {
     pub functions: Vec<Function>,
     pub externs: Vec<u16>,
     pub cases: Vec<Case>,
+    pub lines: Vec<Line>,
 }
 
 impl Parts {
@@ -30,6 +31,7 @@ impl Parts {
             functions: unit.functions().collect(),
             externs: unit.externs().collect(),
             cases: unit.cases().collect(),
+            lines: unit.lines().collect(),
         }
     }
 
@@ -42,6 +44,7 @@ impl Parts {
             self.functions.len(),
             self.externs.len(),
             self.cases.len(),
+            self.lines.len(),
         ];
         let (header, len) =
             Header::with_counts(counts.map(|count| count as u32), self.local_slots, self.defer);
@@ -54,6 +57,7 @@ impl Parts {
         write_all(&self.functions, &mut out);
         write_all(&self.externs, &mut out);
         write_all(&self.cases, &mut out);
+        write_all(&self.lines, &mut out);
         out
     }
 }

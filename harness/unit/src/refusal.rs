@@ -14,11 +14,12 @@ pub enum Refusal {
     Branch = 8,
     LoopHint = 9,
     LoopMoved = 10,
+    LinePlaces = 11,
     SelectCases = 13,
 }
 
 impl Refusal {
-    pub const ALL: [Self; 11] = [
+    pub const ALL: [Self; 12] = [
         Self::NoUnit,
         Self::ShortBuffer,
         Self::MetadataCount,
@@ -29,6 +30,7 @@ impl Refusal {
         Self::Branch,
         Self::LoopHint,
         Self::LoopMoved,
+        Self::LinePlaces,
         Self::SelectCases,
     ];
 
@@ -52,12 +54,16 @@ impl Refusal {
             Self::Branch => "the branch leaves the function",
             Self::LoopHint => "the loop has no end inside the function",
             Self::LoopMoved => "the loop's end was removed, or its exit lies past the function's end",
+            Self::LinePlaces => "the places of the lines do not rise, or one lies past the function's end",
             Self::SelectCases => "a select has more than 24 cases",
         }
     }
 
     /// Whether the place is that of an instruction or of its metadata; it is 0 otherwise.
     pub fn has_place(self) -> bool {
-        !matches!(self, Self::NoUnit | Self::ShortBuffer | Self::MetadataCount | Self::TypeCount)
+        !matches!(
+            self,
+            Self::NoUnit | Self::ShortBuffer | Self::MetadataCount | Self::TypeCount | Self::LinePlaces
+        )
     }
 }

@@ -2,12 +2,12 @@
 
 use crate::answer::Answer;
 use crate::buffers::{Lengths, WORKED_ON};
-use crate::entries::{Case, Constant, Entry, Function, Instruction, Kind, Metadata};
+use crate::entries::{Case, Constant, Entry, Function, Instruction, Kind, Line, Metadata};
 use crate::entries::{CONSTANT_BOOL, CONSTANT_STRING, TYPE_FLOAT};
 use crate::refusal::Refusal;
 
-/// "Sixteen 32-bit words"
-const HEADER_WORDS: usize = 16;
+/// "Sixteen 32-bit words", and document 02's "two last words, a count and an offset".
+const HEADER_WORDS: usize = 18;
 pub const HEADER_LEN: usize = HEADER_WORDS * <u32 as Entry>::LEN;
 
 /// "local slots s (at most 65,535)"
@@ -27,10 +27,12 @@ pub enum Section {
     Functions,
     Externs,
     Cases,
+    /// Document 02, L3: "the line section comes last".
+    Lines,
 }
 
 impl Section {
-    pub const ALL: [Self; 7] = [
+    pub const ALL: [Self; 8] = [
         Self::Code,
         Self::Metadata,
         Self::Types,
@@ -38,6 +40,7 @@ impl Section {
         Self::Functions,
         Self::Externs,
         Self::Cases,
+        Self::Lines,
     ];
 
     pub fn entry_len(self) -> usize {
@@ -49,32 +52,33 @@ impl Section {
             Self::Functions => Function::LEN,
             Self::Externs => <u16 as Entry>::LEN,
             Self::Cases => Case::LEN,
+            Self::Lines => Line::LEN,
         }
     }
 }
 
 /// "a header of counts and offsets: instructions n, metadata m, local slots s, slot types, defer (0 or 1),
 /// constants, functions, externs, select cases; then the byte offsets of code, metadata, types, constants,
-/// functions, externs, cases"
+/// functions, externs, cases"; then the count and the offset of the lines
 #[derive(Clone, Copy, Debug, Eq, PartialEq)]
 pub struct Header {
-    pub counts: [u32; 7],
+    pub counts: [u32; 8],
     pub local_slots: u32,
     pub defer: u32,
-    pub offsets: [u32; 7],
+    pub offsets: [u32; 8],
 }
 
 impl Header {
     /// The header with the offsets that its counts ask for, and the length of its unit.
-    pub fn with_counts(counts: [u32; 7], local_slots: u32, defer: u32) -> (Self, u64) {
-        let mut header = Self { counts, local_slots, defer, offsets: [0; 7] };
+    pub fn with_counts(counts: [u32; 8], local_slots: u32, defer: u32) -> (Self, u64) {
+        let mut header = Self { counts, local_slots, defer, offsets: [0; 8] };
         let (offsets, len) = header.offsets_without_gaps();
         header.offsets = offsets.map(|offset| offset as u32);
         (header, len)
     }
 
-    /// "Sections follow in that order from byte 64, without gaps, to the unit's end."
-    fn offsets_without_gaps(&self) -> ([u64; 7], u64) {
+    /// "Sections follow in that order from byte 64, without gaps, to the unit's end"; from byte 72 with L3.
+    fn offsets_without_gaps(&self) -> ([u64; 8], u64) {
         let mut end = HEADER_LEN as u64;
         let offsets = Section::ALL.map(|section| {
             let offset = end;
@@ -95,18 +99,21 @@ impl Entry for Header {
     fn read(bytes: &[u8]) -> Self {
         let word = |index: usize| u32::read(&bytes[4 * index..]);
         Self {
-            counts: [word(0), word(1), word(3), word(5), word(6), word(7), word(8)],
+            counts: [word(0), word(1), word(3), word(5), word(6), word(7), word(8), word(16)],
             local_slots: word(2),
             defer: word(4),
-            offsets: std::array::from_fn(|section| word(9 + section)),
+            offsets: std::array::from_fn(|section| {
+                word(if section == Section::Lines as usize { 17 } else { 9 + section })
+            }),
         }
     }
 
     fn write(&self, out: &mut Vec<u8>) {
-        let [code, metadata, types, constants, functions, externs, cases] = self.counts;
+        let [code, metadata, types, constants, functions, externs, cases, lines] = self.counts;
         let counts =
             [code, metadata, self.local_slots, types, self.defer, constants, functions, externs, cases];
-        for word in counts.into_iter().chain(self.offsets) {
+        let (lines_at, offsets) = self.offsets.split_last().expect("a section has an offset");
+        for word in counts.into_iter().chain(offsets.iter().copied()).chain([lines, *lines_at]) {
             word.write(out);
         }
     }
@@ -156,8 +163,12 @@ impl<'a> Unit<'a> {
         Ok(unit)
     }
 
-    /// The refusals of a unit that no buffer and no other row comes before: "13, place of the lowest such record".
+    /// The refusals of a unit that no buffer and no other row comes before: "(11, place 0: places not strictly rising
+    /// or not below n; checked directly after 1.)", "13, place of the lowest such record".
     pub fn refusal(&self) -> Option<Answer> {
+        if !self.lines_rise() {
+            return Some(Answer::LINE_PLACES);
+        }
         let is_wide = |entry: Metadata| entry.is(Kind::SelectExecLayout) && entry.second > MAX_SELECT_CASES;
         let place = self.metadata().position(is_wide)?;
         Some(Answer::Refused { number: Refusal::SelectCases as u32, place: place as u32 })
@@ -178,7 +189,8 @@ impl<'a> Unit<'a> {
     }
 
     pub fn stated_lengths(&self) -> Lengths {
-        Lengths::stated(self.header.count(Section::Code), self.header.local_slots)
+        let header = &self.header;
+        Lengths::stated(header.count(Section::Code), header.local_slots, header.count(Section::Lines))
     }
 
     /// "Each section is handed back as a part of the unit itself."
@@ -218,6 +230,17 @@ impl<'a> Unit<'a> {
 
     pub fn cases(&self) -> impl Iterator<Item = Case> + 'a {
         self.entries(Section::Cases)
+    }
+
+    pub fn lines(&self) -> impl Iterator<Item = Line> + 'a {
+        self.entries(Section::Lines)
+    }
+
+    /// Document 02, L3: not "(11, place 0: places not strictly rising or not below n)".
+    pub fn lines_rise(&self) -> bool {
+        let places: Vec<u32> = self.lines().map(|entry| entry.place).collect();
+        let rising = places.windows(2).all(|pair| pair[0] < pair[1]);
+        rising && places.last().map_or(true, |&last| last < self.header.count(Section::Code))
     }
 }
 

@@ -1,7 +1,7 @@
 //! The unit's and the result's layout, byte by byte, and the sizes of the lent buffers.
 
 use unit::{buffers, Lengths};
-use unit::{Answer, Case, Cleaned, Constant, Function, Instruction, Kind, Metadata, Parts};
+use unit::{Answer, Case, Cleaned, Constant, Function, Instruction, Kind, Line, Metadata, Parts};
 use unit::{Refusal, Retained, Rewritten};
 use unit::{Section, Unit, CONSTANT_BOOL, CONSTANT_NIL, CONSTANT_STRING, HEADER_LEN};
 
@@ -17,6 +17,7 @@ fn whole() -> Parts {
         functions: vec![Function { param_slots: 0x0102, ret_slots: 0x0304 }],
         externs: vec![0x0506],
         cases: vec![Case::default(), Case { kind: 1, has_ok: 1, queue: 2, slot: 3, elem_slots: 4 }],
+        lines: vec![Line { place: 1, line: 0x0102_0304 }],
     }
 }
 
@@ -29,13 +30,14 @@ fn bytes_of_a_unit() {
     let bytes = whole().encode();
     let words: Vec<u32> =
         bytes[..HEADER_LEN].chunks(4).map(|word| u32::from_le_bytes(word.try_into().unwrap())).collect();
-    assert_eq!(words, [2, 1, 65_535, 3, 1, 1, 1, 1, 2, 64, 80, 96, 99, 115, 119, 121]);
-    assert_eq!(bytes[64..72], [1, 2, 4, 3, 6, 5, 8, 7]);
-    assert_eq!(bytes[80..96], [12, 1, 0x0b, 0x0a, 1, 0, 0, 0, 1, 0, 0, 0, 9, 0, 0, 0]);
-    assert_eq!(bytes[96..99], [0, 5, 1]);
-    assert_eq!(bytes[99..115], [1, 1, 2, 3, 4, 5, 6, 7, 1, 0, 0, 0, 0, 0, 0, 0]);
-    assert_eq!(bytes[115..121], [2, 1, 4, 3, 6, 5]);
-    assert_eq!(bytes[121..], [0, 0, 0, 0, 0, 0, 0, 0, 1, 1, 2, 0, 3, 0, 4, 0]);
+    assert_eq!(words, [2, 1, 65_535, 3, 1, 1, 1, 1, 2, 72, 88, 104, 107, 123, 127, 129, 1, 145]);
+    assert_eq!(bytes[72..80], [1, 2, 4, 3, 6, 5, 8, 7]);
+    assert_eq!(bytes[88..104], [12, 1, 0x0b, 0x0a, 1, 0, 0, 0, 1, 0, 0, 0, 9, 0, 0, 0]);
+    assert_eq!(bytes[104..107], [0, 5, 1]);
+    assert_eq!(bytes[107..123], [1, 1, 2, 3, 4, 5, 6, 7, 1, 0, 0, 0, 0, 0, 0, 0]);
+    assert_eq!(bytes[123..129], [2, 1, 4, 3, 6, 5]);
+    assert_eq!(bytes[129..145], [0, 0, 0, 0, 0, 0, 0, 0, 1, 1, 2, 0, 3, 0, 4, 0]);
+    assert_eq!(bytes[145..], [1, 0, 0, 0, 4, 3, 2, 1]);
 }
 
 #[test]
@@ -62,7 +64,7 @@ fn a_unit_ends_where_its_sections_do() {
 #[test]
 fn header_words() {
     let bytes = whole().encode();
-    for word in 0..16 {
+    for word in 0..18 {
         for changed in [1, 8, 1 << 28, 1 << 29, 1 << 30, 1 << 31, u32::MAX] {
             let mut damaged = bytes.clone();
             let old = u32::from_le_bytes(bytes[4 * word..4 * word + 4].try_into().unwrap());
@@ -144,11 +146,11 @@ fn faults() {
     assert_eq!(fault(|parts| parts.cases[1].has_ok = 2), "case 1: has_ok 2 is above 1");
     let cut = |bytes: &[u8]| Unit::parse(bytes).err().unwrap_or_default();
     let bytes = whole().encode();
-    assert_eq!(cut(&[]), "a header has 64 bytes, here are 0");
-    assert_eq!(cut(&bytes[..100]), "the sections end at byte 137, here are 100 bytes");
+    assert_eq!(cut(&[]), "a header has 72 bytes, here are 0");
+    assert_eq!(cut(&bytes[..100]), "the sections end at byte 153, here are 100 bytes");
     let mut moved = bytes.clone();
     moved[40] += 1;
-    assert_eq!(cut(&moved), "Metadata starts at byte 81 by the header, not at 80");
+    assert_eq!(cut(&moved), "Metadata starts at byte 89 by the header, not at 88");
 }
 
 #[test]
@@ -158,24 +160,29 @@ fn result() {
         metadata: Metadata::loop_end(7),
         old_place,
     };
-    let result = Rewritten { retained: vec![retained(5), retained(6)] };
+    let lines = vec![Line { place: 1, line: 300 }];
+    let result = Rewritten { retained: vec![retained(5), retained(6)], lines: lines.clone() };
     let bytes = result.encode();
-    assert_eq!(bytes.len() as u64, buffers::output(2));
-    assert_eq!(bytes[..16], [2, 0, 0, 0, 16, 0, 0, 0, 32, 0, 0, 0, 64, 0, 0, 0]);
-    assert_eq!(bytes[64..], [5, 0, 0, 0, 6, 0, 0, 0]);
+    assert_eq!(bytes.len() as u64, buffers::output(2, 1));
+    assert_eq!(Rewritten::len_at(&[bytes.clone(), vec![9; 20]].concat()), bytes.len());
+    let words: Vec<u32> =
+        bytes[..24].chunks(4).map(|word| u32::from_le_bytes(word.try_into().unwrap())).collect();
+    assert_eq!(words, [2, 24, 40, 72, 1, 80]);
+    assert_eq!(bytes[72..], [5, 0, 0, 0, 6, 0, 0, 0, 1, 0, 0, 0, 44, 1, 0, 0]);
     assert_eq!(Rewritten::decode(&bytes), Some(result));
     assert_eq!(Rewritten::decode(&bytes[1..]), None);
     let given = whole().encode();
     let again = Rewritten::decode(&bytes).unwrap().as_unit(&Unit::check(&given).unwrap());
     let (code, metadata) = (vec![retained(5).instruction; 2], vec![Metadata::loop_end(7); 2]);
-    assert_eq!(Parts::decode(&Unit::check(&again).unwrap()), Parts { code, metadata, ..whole() });
-    let empty = Rewritten { retained: vec![] }.encode();
-    assert_eq!(empty, [0, 0, 0, 0, 16, 0, 0, 0, 16, 0, 0, 0, 16, 0, 0, 0]);
+    assert_eq!(Parts::decode(&Unit::check(&again).unwrap()), Parts { code, metadata, lines, ..whole() });
+    let empty = Rewritten::default().encode();
+    let words = [0, 24, 24, 24, 0, 24];
+    assert_eq!(empty, words.map(u32::to_le_bytes).concat());
 }
 
 #[test]
 fn refusal_numbers() {
-    assert_eq!(Refusal::ALL.map(|refusal| refusal as u32), [1, 2, 3, 4, 5, 6, 7, 8, 9, 10, 13]);
+    assert_eq!(Refusal::ALL.map(|refusal| refusal as u32), [1, 2, 3, 4, 5, 6, 7, 8, 9, 10, 11, 13]);
     assert_eq!(Refusal::ALL.map(|refusal| Refusal::from_number(refusal as u32)), Refusal::ALL.map(Some));
     assert_eq!(Refusal::from_number(0), None);
 }
@@ -183,8 +190,8 @@ fn refusal_numbers() {
 #[test]
 fn texts() {
     let refused = Answer::Refused { number: 8, place: 3 };
-    let rewritten = Answer::rewritten(&Rewritten { retained: vec![] });
-    let hex = "00000000100000001000000010000000";
+    let rewritten = Answer::rewritten(&Rewritten::default());
+    let hex = "000000001800000018000000180000000000000018000000";
     assert_eq!(Answer::Unchanged.to_string(), "unchanged");
     assert_eq!(refused.to_string(), "refused 8 3");
     assert_eq!(rewritten.to_string(), format!("rewritten 0 {hex}"));
@@ -196,9 +203,10 @@ fn texts() {
 
 #[test]
 fn sizes_of_buffers() {
-    assert_eq!(buffers::output(3), 100);
+    assert_eq!(buffers::output(3, 0), 108);
+    assert_eq!(buffers::output(3, 2), 124);
     assert_eq!(buffers::work32(3), 64);
-    assert_eq!(Lengths::stated(3, 1).lengths(), [100, 64, 86, 100, 100]);
+    assert_eq!(Lengths::stated(3, 1, 2).lengths(), [124, 64, 86, 124, 124]);
     assert_eq!(buffers::work64(3, 0), 72);
     // w = 1: 24 × 3 + 4 × 64 + 1 + 3 × 1 × 3
     assert_eq!(buffers::work64(3, 64), 338);
@@ -207,4 +215,18 @@ fn sizes_of_buffers() {
     assert_eq!(buffers::work64(65_536, 65_535), 1_572_864 + 262_140 + 1_024 + 3 * 1_024 * 2_048);
     // w = 1,000: 2,097,152 / 1,000 rounded down
     assert_eq!(buffers::work64(65_536, 64_000), 1_572_864 + 256_000 + 1_000 + 3 * 1_000 * 2_097);
+}
+
+/// "(11, place 0: places not strictly rising or not below n)"
+#[test]
+fn places_of_lines() {
+    let rise = |n: usize, places: &[u32]| {
+        let lines = places.iter().map(|&place| Line { place, line: 0 }).collect();
+        let code = vec![Instruction::default(); n];
+        let bytes = Parts { code, lines, ..Parts::default() }.encode();
+        Unit::check(&bytes).unwrap().lines_rise()
+    };
+    assert!(rise(0, &[]) && rise(3, &[]) && rise(3, &[0, 1, 2]) && rise(3, &[0, 2]) && rise(3, &[2]));
+    assert!(!rise(0, &[0]) && !rise(3, &[3]) && !rise(3, &[1, 1]) && !rise(3, &[2, 1]));
+    assert!(!rise(3, &[0, u32::MAX]) && !rise(3, &[1, 2, 1]));
 }

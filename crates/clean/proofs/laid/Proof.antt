@@ -6,6 +6,8 @@ use Rattle.unit.specs.Layout.{headerOf}
 use Rattle.unit.specs.laws.UnitLaws.{unit-laid, layout-unit}
 use Rattle.answer.specs.Answer.{Lent, lentOf, isSkipped, roomFor}
 use Rattle.answer.specs.Clean.{spareFor}
+use native.Mathlib.Omega.{arith}
+use Rattle.optimize.specs.laws.Lines.{lines-fit}
 use Rattle.optimize.specs.laws.Whole.{worked-on}
 use Rattle.clean.specs.laws.Cleaning.{answers-cleaned, stop-answers}
 use Rattle.clean.specs.laws.First.{unaltered-answers, clean-skipped, clean-short, clean-first}
@@ -30,10 +32,12 @@ returns c = let s = c .before .before .before .before .before .before .before .b
 has-room-requires : tie.Need-has-room-requires
 has-room-requires c κs =
     let s = c .before .before .before .before .before .before .before .before in
-    (worked-on (s .args .c) (sym (c .before .is-skipped .ensures) ∙ c .if1 .left) .1, rw (s .pre .1) (unit-laid (s .args .unit .now) (layout-unit _ _ (s .pre .0) .0) .locals))
+    (worked-on (s .args .c) (sym (c .before .is-skipped .ensures) ∙ c .if1 .left) .1, rw (s .pre .1) (unit-laid (s .args .unit .now) (layout-unit _ _ (s .pre .0) .0) .locals), rw (s .pre .1) (lines-fit (s .args .unit .now) (λ i. omega (arith, c .before .before .before .before .before .before .before .shared-slice-known .given i))))
 
 has-spare-requires : tie.Need-has-spare-requires
-has-spare-requires c κs = worked-on (c .before .before .before .before .before .before .before .before .before .args .c) (sym (c .before .before .is-skipped .ensures) ∙ c .before .if1 .left) .1
+has-spare-requires c κs =
+    let s = c .before .before .before .before .before .before .before .before .before in
+    (worked-on (s .args .c) (sym (c .before .before .is-skipped .ensures) ∙ c .before .if1 .left) .1, rw (s .pre .1) (lines-fit (s .args .unit .now) (λ i. omega (arith, c .before .before .before .before .before .before .before .before .shared-slice-known .given i))))
 
 returns-2 : tie.Need-returns-2
 returns-2 c = let s = c .before .before .before .before .before .before .before .before .before .before .before in answers-cleaned _ _ _ _ _ (clean-short _ _ _ _ (s .pre .0) (skipped (c .before .before .before .before .before .before .before .before .before .before .before) _ false (c .before .before .before .before .is-skipped .ensures) (c .before .before .before .if1 .left)) (room (c .before .before .before .before .before .before .before .before .before .before .before) _ _ false (c .before .before .has-room .ensures) (c .before .has-spare .ensures) (not-true _ (c .if2 .taken)))) (stop-answers _ _ 1 (s .args .out .now))

@@ -1,7 +1,7 @@
 -- The answers of the cleaning, pass by pass.
 -- Assumes nothing.
 use mathlib.Core.Path.{_≡_, refl, sym, ap, _∙_}
-use mathlib.Core.List.{List}
+use mathlib.Core.List.{List, []}
 use Prim.Native.Nat.{ℕ, suc, _≤_}
 use native.Mathlib.Omega.{arith}
 use lib.ListN.{length}
@@ -19,7 +19,7 @@ use Rattle.clean.specs.declared.Cleaned.{Cleaned}
 use Rattle.optimize.specs.PassAnswer.{answerOf, Answers}
 use Rattle.run.specs.laws.Reading.{AllFit, retainedIn}
 use Rattle.clean.specs.laws.Ready.{Ready, placedOutcome, laterOutcome, before-long, later-made, written-back, written-ready, casesIn}
-use Rattle.clean.specs.laws.Later.{To, outcome-unchanged, outcome-refused, outcome-rewritten}
+use Rattle.optimize.specs.laws.Outcomes.{To, outcome-unchanged, outcome-refused, outcome-rewritten}
 use Rattle.clean.specs.CleanAnswer.{cleanedOf, AnswersCleaned}
 
 pub answers-cleaned : (c d : Cleaning) (r : Cleaned) (out out′ : List ℕ) → c ≡ d → AnswersCleaned d r out out′ → AnswersCleaned c r out out′
@@ -32,8 +32,8 @@ finished kept j = record { outcome = rewritten kept; passes = j }
 abbrev pub stopped : ℕ → ℕ → ℕ → Cleaning
 stopped k p j = record { outcome = refused k p; passes = j }
 
-pub give-answers : (k j : ℕ) (from out out′ : List ℕ) (r : Cleaned) → midOf 0 (resultSize k) from ≡ resultBytes (retainedIn k from)
-    → r ≡ record { answer = Rewritten k; passes = j } → out′ ≡ putMid 0 (resultSize k) out (midOf 0 (resultSize k) from)
+pub give-answers : (k j : ℕ) (from out out′ : List ℕ) (r : Cleaned) → midOf 0 (resultSize k 0) from ≡ resultBytes (retainedIn k from) []
+    → r ≡ record { answer = Rewritten k; passes = j } → out′ ≡ putMid 0 (resultSize k 0) out (midOf 0 (resultSize k 0) from)
     → AnswersCleaned (finished (retainedIn k from) j) r out out′
 unfolding cleanedOf answerOf outputAfter
 give-answers k j from out out′ r whole e f = (e ∙ rw (before-long k from), f ∙ rw (whole, before-long k from))
@@ -85,9 +85,9 @@ module _ {u from : List ℕ} {k t work32 work64 : ℕ} (r : Ready u from k t wor
     abbrev kept : List Retained
     kept = made .kept
 
-    put : to₁ ≡ putMid 0 (resultSize (length kept)) to (resultBytes kept)
+    put : to₁ ≡ putMid 0 (resultSize (length kept) 0) to (resultBytes kept [])
     unfolding outputAfter
-    put = w .1 ∙ ap (λ (q : Outcome). outputAfter q to) (made .is)
+    put = w .1 ∙ ap (λ (q : Outcome). outputAfter q [] to) (made .is)
 
     later : (AllFit (casesIn u) kept) × (length kept ≤ k)
     later = later-made r bu bf kept (made .is)

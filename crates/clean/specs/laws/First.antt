@@ -2,7 +2,7 @@
 -- Assumes nothing.
 use mathlib.Core.Path.{_≡_, refl, sym, ap, _∙_}
 use mathlib.Core.Bool.{Bool, true, false, cond, _&&_}
-use mathlib.Core.List.{List}
+use mathlib.Core.List.{List, []}
 use Prim.Native.Nat.{ℕ, _*_, _≤_, _<_}
 use native.Mathlib.Omega.{arith}
 use lib.Dec.{eqb, leb}
@@ -32,7 +32,7 @@ use Rattle.optimize.specs.laws.Whole as whole
 use Rattle.run.specs.laws.Reading.{AllFit, retainedIn}
 use Rattle.run.specs.laws.Fitting.{AllSound, Again, optimized-again, again-fits}
 use Rattle.clean.specs.laws.Ready.{Ready, casesIn, worked-on, written-back, written-ready}
-use Rattle.clean.specs.laws.Later.{To, outcome-unchanged, outcome-refused, outcome-rewritten}
+use Rattle.optimize.specs.laws.Outcomes.{To, outcome-unchanged, outcome-refused, outcome-rewritten}
 use Rattle.clean.specs.laws.Cleaning.{stopped}
 use Rattle.clean.specs.CleanAnswer.{cleanedOf, AnswersCleaned}
 
@@ -65,15 +65,15 @@ module _ (u : List ℕ) (l : Lent) (first second : ℕ) where
     unfolding cleanAnswer answerWith laidOut afterLayout afterSkipped
     clean-first e f = rw (laid, e, f)
 
-pub spare-test : (c : Counts) (room first second : ℕ) → room ≡ outputRoom (c .instructions) → (leb room first && leb room second) ≡ spareFor c first second
+pub spare-test : (c : Counts) (room first second : ℕ) → room ≡ outputRoom (c .instructions) (c .lines) → (leb room first && leb room second) ≡ spareFor c first second
 unfolding spareFor
 spare-test c room first second e = rw e
 
 -- a spare buffer is as long as the output
-room-in : (h : Counts) (out work32 work64 to : ℕ) → roomFor h (lentOf out work32 work64) ≡ true → leb (outputRoom (h .instructions)) to ≡ true → roomFor h (lentOf to work32 work64) ≡ true
+room-in : (h : Counts) (out work32 work64 to : ℕ) → roomFor h (lentOf out work32 work64) ≡ true → leb (outputRoom (h .instructions) (h .lines)) to ≡ true → roomFor h (lentOf to work32 work64) ≡ true
 unfolding roomFor
 room-in h out work32 work64 to e f =
-    let a = leb (outputRoom (h .instructions)) out in
+    let a = leb (outputRoom (h .instructions) (h .lines)) out in
     let b = leb (work32Room (h .instructions)) work32 in
     let c = leb (work64Room (h .instructions) (h .locals)) work64 in
     rw (f, right-true a b (left-true (a && b) c e), right-true (a && b) c e)
@@ -82,11 +82,11 @@ pub room-first : (h : Counts) (out work32 work64 first second : ℕ) → (roomFo
     → (roomFor h (lentOf out work32 work64) ≡ true) × (roomFor h (lentOf first work32 work64) ≡ true) × (roomFor h (lentOf second work32 work64) ≡ true)
 unfolding spareFor
 room-first h out work32 work64 first second e =
-    let lent = left-true (roomFor h (lentOf out work32 work64)) (leb (outputRoom (h .instructions)) first && leb (outputRoom (h .instructions)) second) e in
-    let spare = right-true (roomFor h (lentOf out work32 work64)) (leb (outputRoom (h .instructions)) first && leb (outputRoom (h .instructions)) second) e in (
+    let lent = left-true (roomFor h (lentOf out work32 work64)) (leb (outputRoom (h .instructions) (h .lines)) first && leb (outputRoom (h .instructions) (h .lines)) second) e in
+    let spare = right-true (roomFor h (lentOf out work32 work64)) (leb (outputRoom (h .instructions) (h .lines)) first && leb (outputRoom (h .instructions) (h .lines)) second) e in (
       lent,
-      room-in h out work32 work64 first lent (left-true (leb (outputRoom (h .instructions)) first) (leb (outputRoom (h .instructions)) second) spare),
-      room-in h out work32 work64 second lent (right-true (leb (outputRoom (h .instructions)) first) (leb (outputRoom (h .instructions)) second) spare),
+      room-in h out work32 work64 first lent (left-true (leb (outputRoom (h .instructions) (h .lines)) first) (leb (outputRoom (h .instructions) (h .lines)) second) spare),
+      room-in h out work32 work64 second lent (right-true (leb (outputRoom (h .instructions) (h .lines)) first) (leb (outputRoom (h .instructions) (h .lines)) second) spare),
     )
 
 -- ---- the first pass
@@ -137,9 +137,9 @@ module _ (u : List ℕ) (b : Bytes u) (out work32 work64 first second : ℕ) (la
       abbrev kept : List Retained
       kept = made .kept
 
-      put : to₁ ≡ putMid 0 (resultSize (length kept)) to (resultBytes kept)
+      put : to₁ ≡ putMid 0 (resultSize (length kept) 0) to (resultBytes kept [])
       unfolding outputAfter
-      put = w .1 ∙ ap (λ (q : Outcome). outputAfter q to) (made .is)
+      put = w .1 ∙ ap (λ (q : Outcome). outputAfter q [] to) (made .is)
 
       counts : (headerOf u .counts .metadata ≡ n) × (headerOf u .counts .types ≡ headerOf u .counts .locals) × (optimized S (cellsOf u) ≡ rewritten kept)
       counts = counted u kept (made .is)
@@ -160,14 +160,14 @@ module _ (u : List ℕ) (b : Bytes u) (out work32 work64 first second : ℕ) (la
       again : Again (casesIn u) n kept
       unfolding givenFunction
       again =
-          let w = given-well u b laid (counts .0) in
+          let w = given-well u b laid (counts .0) (counts .1) in
           let on = worked-on n (sizes .0) (sizes .1) in
           rw (cells-long u) at (optimized-again (givenFunction u) w (casesIn u) sound (rw (cells-long u) on) kept (counts .2))
 
       fits : AllFit (casesIn u) kept
       fits = again-fits (casesIn u) n kept (sizes .1) again
 
-      pub first-ready : Ready u to₁ k second work32 work64 × (resultSize k ≤ out)
+      pub first-ready : Ready u to₁ k second work32 work64 × (resultSize k 0 ≤ out)
       first-ready =
           let lent = room-for u (lentOf out work32 work64) laid worked (rooms .0) (counts .0) (counts .1) .out-room in
           let spare = room-for u (lentOf first work32 work64) laid worked (rooms .1) (counts .0) (counts .1) .out-room in

@@ -1,7 +1,7 @@
 -- The answers of the later passes and of the cleaning as values that are returned.
 -- Assumes nothing.
 use mathlib.Core.Path.{_≡_, refl, sym, ap, _∙_}
-use mathlib.Core.List.{List}
+use mathlib.Core.List.{List, []}
 use Prim.Native.Nat.{ℕ, _+_, _-_, _*_, _^_, _≤_, _<_}
 use native.Mathlib.Omega.{arith}
 use lib.ListN.{length}
@@ -18,37 +18,12 @@ use Rattle.answer.specs.Pass.{Outcome, unchanged, refused, rewritten, optimized
 use Rattle.optimize.specs.declared.Answer.{Answer}
 use Rattle.optimize.specs.declared.Answer.the-variants.{Unchanged, Refused, Rewritten}
 use Rattle.optimize.specs.laws.Parts.{answers-unchanged, answers-same}
+use Rattle.optimize.specs.laws.Outcomes.{To, outcome-unchanged, outcome-refused, outcome-rewritten}
 use Rattle.optimize.specs.PassAnswer.{answerOf, Answers}
 use Rattle.run.specs.laws.Reading.{placesIn, retainedIn, retainedAt, place-back}
 use Rattle.run.specs.laws.Fitting.{Again, placed-long}
 use Rattle.clean.specs.laws.Placing.{composed, composed-places}
 use Rattle.clean.specs.laws.Ready.{Ready, placedOutcome, laterOutcome, before-long, ready-places, ready-again, ready-old, pass-small, pass-worked, written-places, written-long, places-composed, casesIn}
-
--- ---- an answer's outcome
-
-pub outcome-unchanged : (o : Outcome) → Unchanged ≡ answerOf o → o ≡ unchanged
-unfolding answerOf
-outcome-unchanged unchanged e = refl
-outcome-unchanged (refused k p) e = let z : _≡_ {A = ℕ} 0 1 = cc in absurd (omega arith)
-outcome-unchanged (rewritten kept) e = let z : _≡_ {A = ℕ} 0 1 = cc in absurd (omega arith)
-
-pub outcome-refused : (o : Outcome) (k p : ℕ) → Refused k p ≡ answerOf o → o ≡ refused k p
-unfolding answerOf
-outcome-refused unchanged k p e = let z : _≡_ {A = ℕ} 0 1 = cc in absurd (omega arith)
-outcome-refused (refused m q) k p e = cc
-outcome-refused (rewritten kept) k p e = let z : _≡_ {A = ℕ} 0 1 = cc in absurd (omega arith)
-
--- rewritten to k instructions
-pub record To (o : Outcome) (k : ℕ) : Type 0 where
-  pub kept : List Retained
-  pub is : o ≡ rewritten kept
-  pub long : length kept ≡ k
-
-pub outcome-rewritten : (o : Outcome) (k : ℕ) → Rewritten k ≡ answerOf o → To o k
-unfolding answerOf
-outcome-rewritten unchanged k e = let z : _≡_ {A = ℕ} 0 1 = cc in absurd (omega arith)
-outcome-rewritten (refused m q) k e = let z : _≡_ {A = ℕ} 0 1 = cc in absurd (omega arith)
-outcome-rewritten (rewritten kept) k e = record { kept = kept; is = refl; long = cc }
 
 -- ---- a later pass
 
@@ -56,8 +31,8 @@ outcome-rewritten (rewritten kept) k e = record { kept = kept; is = refl; long =
 pub record Placeable (from to : List ℕ) (k j : ℕ) : Type 0 where
   pub few : k ≤ maxInstructions
   pub fewer : j ≤ k
-  pub from-long : resultSize k ≤ length from
-  pub to-long : resultSize j ≤ length to
+  pub from-long : resultSize k 0 ≤ length from
+  pub to-long : resultSize j 0 ≤ length to
   pub places : (p : ℕ) → p < j → u32At (placesIn j to) (placeSize * p) < k
 
 -- the parts from a and b on are the places
@@ -109,13 +84,13 @@ module _ {u from : List ℕ} {k t work32 work64 : ℕ} (r : Ready u from k t wor
     unfolding placedOutcome answerOf outputAfter
     unchanged-answers f =
         let e = outcome-unchanged o (sym f ∙ w .0) in
-        answers-same (laterOutcome S before) unchanged Unchanged to to₁ (later-is unchanged e) (refl, w .1 ∙ ap (λ (q : Outcome). outputAfter q to) e)
+        answers-same (laterOutcome S before) unchanged Unchanged to to₁ (later-is unchanged e) (refl, w .1 ∙ ap (λ (q : Outcome). outputAfter q [] to) e)
 
     pub refused-answers : (m p : ℕ) → a ≡ Refused m p → Answers (laterOutcome S before) (Refused m p) to to₁
     unfolding placedOutcome answerOf outputAfter
     refused-answers m p f =
         let e = outcome-refused o m p (sym f ∙ w .0) in
-        answers-same (laterOutcome S before) (refused m p) (Refused m p) to to₁ (later-is (refused m p) e) (refl, w .1 ∙ ap (λ (q : Outcome). outputAfter q to) e)
+        answers-same (laterOutcome S before) (refused m p) (Refused m p) to to₁ (later-is (refused m p) e) (refl, w .1 ∙ ap (λ (q : Outcome). outputAfter q [] to) e)
 
     module _ (j : ℕ) (f : a ≡ Rewritten j) where
       made : To o j
@@ -127,9 +102,9 @@ module _ {u from : List ℕ} {k t work32 work64 : ℕ} (r : Ready u from k t wor
       again : Again (casesIn u) k kept
       again = ready-again r bu bf h kept (made .is)
 
-      put : to₁ ≡ putMid 0 (resultSize (length kept)) to (resultBytes kept)
+      put : to₁ ≡ putMid 0 (resultSize (length kept) 0) to (resultBytes kept [])
       unfolding outputAfter
-      put = w .1 ∙ ap (λ (q : Outcome). outputAfter q to) (made .is)
+      put = w .1 ∙ ap (λ (q : Outcome). outputAfter q [] to) (made .is)
 
       small : (p : ℕ) → p < length kept → retainedAt kept p .place < 2 ^ 32
       small p l = let a = again .places p l in let f = r .few in omega arith

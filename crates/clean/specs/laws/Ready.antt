@@ -2,7 +2,7 @@
 -- Assumes nothing.
 use mathlib.Core.Path.{_≡_, refl, sym, ap, _∙_}
 use mathlib.Core.Bool.{Bool, true, false, cond}
-use mathlib.Core.List.{List, [], _∷_, _++_, append-assoc}
+use mathlib.Core.List.{List, [], _∷_, _++_, append-assoc, append-nil}
 use Prim.Native.Nat.{ℕ, _+_, _-_, _*_, _/_, _^_, _≤_, _<_, min}
 use native.Mathlib.Nat.{mul-le-mul-left}
 use native.Mathlib.Omega.{arith}
@@ -20,7 +20,7 @@ use Rattle.instruction.specs.Instruction.{instructionAt}
 use Rattle.unit.specs.Entry.{metadataAt, goodMetadata}
 use Rattle.unit.specs.laws.UnitLaws.{unit-laid, result-long, result-header-long, code-bytes-long, metadata-bytes-all-long, place-bytes-long}
 use Rattle.unit.specs.Layout.{headerOf, typesOf, constantsOf, functionsOf, externsOf, casesOf, isUnit}
-use Rattle.unit.specs.Result.{Retained, retainedFrom, resultHeader, codeBytes, metadataBytesAll, placeBytes, resultBytes, resultMetadataAt, resultPlacesAt}
+use Rattle.unit.specs.Result.{Retained, retainedFrom, resultHeader, codeBytes, metadataBytesAll, placeBytes, lineBytesAll, resultBytes, resultMetadataAt, resultPlacesAt}
 use Rattle.unit.specs.Size.{placeSize, instructionSize, metadataSize, constantSize, caseSize, resultHeaderSize, resultSize, setWords, maxSetWords, maxInstructions}
 use Rattle.effects.specs.Shape.{Sections, cellAt, noCell}
 use Rattle.answer.specs.Answer.{sectionsOf}
@@ -56,9 +56,9 @@ pub record Ready (u from : List ℕ) (k to work32 work64 : ℕ) : Type 0 where
   pub laid : isUnit u ≡ true
   pub typed : headerOf u .counts .types ≡ headerOf u .counts .locals
   pub few : k ≤ maxInstructions
-  pub long : resultSize k ≤ length from
+  pub long : resultSize k 0 ≤ length from
   pub good : (p : ℕ) → p < k → goodMetadata (casesIn u) (metadataAt (metadataIn k from) p) ≡ true
-  pub whole : take (resultSize k) from ≡ resultBytes (retainedIn k from)
+  pub whole : take (resultSize k 0) from ≡ resultBytes (retainedIn k from) []
   pub room : Room k (length (typesOf u)) to work32 work64
 
 -- "with old places in the given unit"
@@ -89,7 +89,7 @@ cells-before-long k from = length-map (retainedIn k from) retainedCell ∙ befor
 
 cells-before : (k : ℕ) (from : List ℕ) → Bytes from → cellsIn k (codeIn k from) (metadataIn k from) ≡ cellsAfter (retainedIn k from)
 cells-before k from b =
-    cells-in k (codeIn k from) (metadataIn k from) (bytes-mid 16 (instructionSize * k) from b)
+    cells-in k (codeIn k from) (metadataIn k from) (bytes-mid resultHeaderSize (instructionSize * k) from b)
     ∙ ext-getD noCell (tabulate k _) (cellsAfter (retainedIn k from)) (length-tabulate k _ ∙ sym (cells-before-long k from))
     (λ p h. let l : p < k = rw (length-tabulate k _) at h in getD-tabulate k _ p noCell l ∙ sym (cell-before k from p l))
 
@@ -120,9 +120,10 @@ module _ {u from : List ℕ} {k to work32 work64 : ℕ} (r : Ready u from k to w
       record {
         locals = unit-laid u (r .laid) .locals;
         described = rw (length-map before retainedCell) (omega arith);
+        typed = rw (unit-laid u (r .laid) .lengths .types ∙ r .typed) (omega arith);
         fields = λ p h.
             let l : p < k = rw (cells-before-long k from) at h in
-            rw (cell-before k from p l) (instruction-fields (codeIn k from) p (bytes-mid 16 (instructionSize * k) from bf));
+            rw (cell-before k from p l) (instruction-fields (codeIn k from) p (bytes-mid resultHeaderSize (instructionSize * k) from bf));
         constants = constants-below (constantsOf u) (bytes-mid (headerOf u .offsets .constants) (constantSize * headerOf u .counts .constants) u bu);
       }
 
@@ -143,15 +144,16 @@ module _ {u from : List ℕ} {k to work32 work64 : ℕ} (r : Ready u from k to w
   ready-given : 1 < k → Given k (codeIn k from) (metadataIn k from) (sectionsIn (typesOf u) (constantsOf u) (functionsOf u) (externsOf u) (casesOf u))
   ready-given h =
       let long = r .long in
-      let code : length (codeIn k from) ≡ instructionSize * k = mid-long from 16 (instructionSize * k) (omega arith) in
+      let code : length (codeIn k from) ≡ instructionSize * k = mid-long from resultHeaderSize (instructionSize * k) (omega arith) in
       record {
         some = h;
         few = r .few;
         code-long = omega (arith, code);
         metadata-long = mid-long from (resultMetadataAt k) (metadataSize * k) (omega arith);
         slots = rw (unit-laid u (r .laid) .lengths .types ∙ r .typed) (unit-laid u (r .laid) .locals);
+        typed = omega arith;
         good = r .good;
-        code-bytes = bytes-mid 16 (instructionSize * k) from bf;
+        code-bytes = bytes-mid resultHeaderSize (instructionSize * k) from bf;
         constant-bytes = bytes-mid (headerOf u .offsets .constants) (constantSize * headerOf u .counts .constants) u bu;
       }
 
@@ -186,8 +188,8 @@ module _ {u from : List ℕ} {k to work32 work64 : ℕ} (r : Ready u from k to w
   -- the old places of the code before
   pub ready-old : placesIn k from ≡ placeBytes before
   ready-old =
-      let split : from ≡ resultBytes before ++ drop (resultSize k) from = sym (take-append-drop (resultSize k) from) ∙ ap (λ (l : List ℕ). l ++ drop (resultSize k) from) (r .whole) in
-      ap (placesIn k) split ∙ (rw (before-long k from) at (places-in before (drop (resultSize k) from)))
+      let split : from ≡ resultBytes before [] ++ drop (resultSize k 0) from = sym (take-append-drop (resultSize k 0) from) ∙ ap (λ (l : List ℕ). l ++ drop (resultSize k 0) from) (r .whole) in
+      ap (placesIn k) split ∙ (rw (before-long k from) at (places-in before [] (drop (resultSize k 0) from)))
 
   -- what it rewrote fits again
   pub later-made : (kept : List Retained) → laterOutcome S before ≡ rewritten kept → AllFit (casesIn u) kept × (length kept ≤ k)
@@ -207,34 +209,34 @@ module _ {u from : List ℕ} {k to work32 work64 : ℕ} (r : Ready u from k to w
 -- ---- what a pass wrote
 
 -- a result that was written to a buffer
-module _ (cases : ℕ) (kept : List Retained) (to to′ : List ℕ) (e : to′ ≡ putMid 0 (resultSize (length kept)) to (resultBytes kept)) where
+module _ (cases : ℕ) (kept : List Retained) (to to′ : List ℕ) (e : to′ ≡ putMid 0 (resultSize (length kept) 0) to (resultBytes kept [])) where
   abbrev j : ℕ
   j = length kept
 
   abbrev rest : List ℕ
-  rest = drop (resultSize (length kept)) to
+  rest = drop (resultSize (length kept) 0) to
 
   pub written-places : placesIn (length kept) to′ ≡ placeBytes kept
-  written-places = ap (placesIn j) e ∙ places-in kept rest
+  written-places = ap (placesIn j) e ∙ places-in kept [] rest
 
-  pub written-long : resultSize (length kept) ≤ length to → resultSize (length kept) ≤ length to′
-  written-long h = rw e (rw (length-append (resultBytes kept) rest, result-long kept) (omega arith))
+  pub written-long : resultSize (length kept) 0 ≤ length to → resultSize (length kept) 0 ≤ length to′
+  written-long h = rw e (rw (length-append (resultBytes kept []) rest, result-long kept []) (omega arith))
 
   module _ (f : AllFit cases kept) where
     pub written-back : retainedIn (length kept) to′ ≡ kept
-    written-back = ap (retainedIn j) e ∙ retained-back cases kept rest f
+    written-back = ap (retainedIn j) e ∙ retained-back cases kept [] rest f
 
-    written-whole : take (resultSize j) to′ ≡ resultBytes (retainedIn j to′)
-    written-whole = ap (take (resultSize j)) e ∙ take-at (resultBytes kept) rest (resultSize j) (result-long kept) ∙ ap resultBytes (sym written-back)
+    written-whole : take (resultSize j 0) to′ ≡ resultBytes (retainedIn j to′) []
+    written-whole = ap (take (resultSize j 0)) e ∙ take-at (resultBytes kept []) rest (resultSize j 0) (result-long kept []) ∙ ap (λ (l : List Retained). resultBytes l []) (sym written-back)
 
     written-good : (p : ℕ) → p < j → goodMetadata cases (metadataAt (metadataIn j to′) p) ≡ true
     written-good p h =
-        let m : metadataIn j to′ ≡ metadataBytesAll kept = ap (metadataIn j) e ∙ metadata-in kept rest in
+        let m : metadataIn j to′ ≡ metadataBytesAll kept = ap (metadataIn j) e ∙ metadata-in kept [] rest in
         rw (m, metadata-back kept p h (f p h .metadata .fits)) (f p h .metadata .good)
 
     -- it may be given to the next pass
     pub written-ready : (u : List ℕ) (n out work32 work64 : ℕ) → isUnit u ≡ true → headerOf u .counts .types ≡ headerOf u .counts .locals → casesIn u ≡ cases
-        → n ≤ maxInstructions → length kept ≤ n → resultSize n ≤ length to → Room n (length (typesOf u)) out work32 work64
+        → n ≤ maxInstructions → length kept ≤ n → resultSize n 0 ≤ length to → Room n (length (typesOf u)) out work32 work64
         → Ready u to′ (length kept) out work32 work64
     written-ready u n out work32 work64 laid typed c few fewer fits room =
         record {
@@ -261,26 +263,26 @@ placed-metadata before (r ∷ rs) = rw (placed-metadata before rs)
 
 -- the places of a result replaced
 places-put : (kept : List Retained) (rest ys : List ℕ) → length ys ≡ placeSize * length kept
-    → putMid (resultPlacesAt (length kept)) (placeSize * length kept) (resultBytes kept ++ rest) ys ≡ (resultHeader (length kept) ++ codeBytes kept ++ metadataBytesAll kept ++ ys) ++ rest
-unfolding resultBytes
+    → putMid (resultPlacesAt (length kept)) (placeSize * length kept) (resultBytes kept [] ++ rest) ys ≡ (resultHeader (length kept) 0 ++ codeBytes kept ++ metadataBytesAll kept ++ ys) ++ rest
+unfolding resultBytes lineBytesAll
 places-put kept rest ys e =
     let k = length kept in
-    let a = resultHeader k ++ codeBytes kept ++ metadataBytesAll kept in
+    let a = resultHeader k 0 ++ codeBytes kept ++ metadataBytesAll kept in
     let long : length a ≡ resultPlacesAt k = simp (length-append, result-header-long, code-bytes-long, metadata-bytes-all-long) in
-    let split : resultBytes kept ++ rest ≡ a ++ (placeBytes kept ++ rest) = append-assoc a (placeBytes kept) rest in
+    let split : resultBytes kept [] ++ rest ≡ a ++ (placeBytes kept ++ rest) = ap (λ (l : List ℕ). l ++ rest) (append-nil (a ++ placeBytes kept)) ∙ append-assoc a (placeBytes kept) rest in
     rw (split, take-at a (placeBytes kept ++ rest) (resultPlacesAt k) long, drop-at a (placeBytes kept ++ rest) (resultPlacesAt k) long, drop-at (placeBytes kept) rest (placeSize * k) (place-bytes-long kept))
     (sym (append-assoc a ys rest))
 
 pub places-composed : (before kept : List Retained) (to to₁ to₂ old : List ℕ) → old ≡ placeBytes before
-    → to₁ ≡ putMid 0 (resultSize (length kept)) to (resultBytes kept)
+    → to₁ ≡ putMid 0 (resultSize (length kept) 0) to (resultBytes kept [])
     → to₂ ≡ putMid (resultPlacesAt (length kept)) (placeSize * length kept) to₁ (composed old (placesIn (length kept) to₁) (length kept))
     → composed (placeBytes before) (placeBytes kept) (length kept) ≡ placeBytes (placedBy before kept)
-    → to₂ ≡ putMid 0 (resultSize (length (placedBy before kept))) to (resultBytes (placedBy before kept))
-unfolding resultBytes
+    → to₂ ≡ putMid 0 (resultSize (length (placedBy before kept)) 0) to (resultBytes (placedBy before kept) [])
+unfolding resultBytes lineBytesAll
 places-composed before kept to to₁ to₂ old o e₁ e₂ c =
-    let rest = drop (resultSize (length kept)) to in
+    let rest = drop (resultSize (length kept) 0) to in
     let ys : List ℕ = placeBytes (placedBy before kept) in
     let found : composed old (placesIn (length kept) to₁) (length kept) ≡ ys = rw (o, written-places 0 kept to to₁ e₁) c in
     let long : length ys ≡ placeSize * length kept = place-bytes-long (placedBy before kept) ∙ rw (placed-long before kept) in
-    let put : to₂ ≡ (resultHeader (length kept) ++ codeBytes kept ++ metadataBytesAll kept ++ ys) ++ rest = e₂ ∙ rw (found, e₁) (places-put kept rest ys long) in
-    put ∙ rw (placed-long before kept, placed-code before kept, placed-metadata before kept)
+    let put : to₂ ≡ (resultHeader (length kept) 0 ++ codeBytes kept ++ metadataBytesAll kept ++ ys) ++ rest = e₂ ∙ rw (found, e₁) (places-put kept rest ys long) in
+    put ∙ rw (placed-long before kept, placed-code before kept, placed-metadata before kept, append-nil (resultHeader (length kept) 0 ++ codeBytes kept ++ metadataBytesAll kept ++ ys))

@@ -21,9 +21,9 @@ use Rattle.instruction.specs.declared.Class.the-variants.{Hint, LoadInt, LoadCo
 use Rattle.effects.specs.declared.Range.{Range}
 use Rattle.effects.specs.Shape.{Tables, Cell, applies, value, rangeOf, met}
 use Rattle.effects.specs.Table.{readShape, writeShape, arrayShape, shapeIn}
-use Rattle.effects.specs.Effects.{allReads, writes, demandsMet}
+use Rattle.effects.specs.Effects.{allReads, sureWrites, perhapsWrites, writes, demandsMet}
 use Rattle.effects.specs.laws.Form.{demandAt, demandRowOf, readParts, writeParts}
-use Rattle.effects.specs.laws.Ranges.{reads-other, writes-other, demands-row}
+use Rattle.effects.specs.laws.Ranges.{reads-other, perhaps-none, sure-parts, writes-sure, demands-row}
 
 -- is it one of those two?
 unfoldable pub isOutside : Class → Bool
@@ -104,6 +104,11 @@ by-class {A} f g e o inside =
 -- ---- the effects of their instructions
 
 module _ (T : Tables) (x : Cell) (inside : isOutside (class (x .instruction)) ≡ false) where
+  -- neither of the two that perhaps write is one of them
+  not-next : x .instruction .op ≡ op.MapIterNext → ⊥
+  unfolding tabulate tabulateFrom isOutside classOf single
+  not-next = eqb-false (x .instruction .op) op.MapIterNext (by-class (λ o. eqb o op.MapIterNext) (λ k. false) refl (x .instruction .op) inside)
+
   not-select : x .instruction .op ≡ op.SelectExec → ⊥
   unfolding tabulate tabulateFrom isOutside classOf single
   not-select = eqb-false (x .instruction .op) op.SelectExec (by-class (λ o. eqb o op.SelectExec) (λ k. false) refl (x .instruction .op) inside)
@@ -117,13 +122,19 @@ module _ (T : Tables) (x : Cell) (inside : isOutside (class (x .instruction)) �
       (rw (add-zero (x .instruction .a), add-zero (x .instruction .b), add-zero (x .instruction .c)))
       (x .instruction .op) inside
 
-  pub writes-by-class : writes T x ≡ writesByClass (class (x .instruction)) (x .instruction)
+  pub perhaps-by-class : perhapsWrites T x ≡ []
+  perhaps-by-class = perhaps-none T x not-select not-next
+
+  pub sure-by-class : sureWrites T x ≡ writesByClass (class (x .instruction)) (x .instruction)
   unfolding tabulate tabulateFrom isOutside classOf single writesByClass writeShape shapeIn rangeOf applies value
-  writes-by-class =
-      writes-other T x not-select
+  sure-by-class =
+      sure-parts T x
       ∙ by-class (λ o. map (rangeOf T x) (writeParts o)) (λ k. writesByClass k (x .instruction))
       (rw (add-zero (x .instruction .a)))
       (x .instruction .op) inside
+
+  pub writes-by-class : writes T x ≡ writesByClass (class (x .instruction)) (x .instruction)
+  writes-by-class = writes-sure T x perhaps-by-class ∙ sure-by-class
 
   pub demands-by-class : demandsMet T x ≡ true
   unfolding tabulate tabulateFrom isOutside classOf single demandAt met

@@ -66,8 +66,8 @@ unfoldable pub unpack : ℕ → ℕ → List Part
 unpack zero v = []
 unpack (suc n) v = formAt (v % 256) ∷ unpack n (v / 256)
 
--- a row: in its lowest byte how many ranges are read, and times 16 how many are written; in the next four bytes the forms that are
--- read, in the last three those that are written
+-- a row: in its lowest byte how many ranges are read, and times 16 how many are surely written; in the next four bytes the forms that
+-- are read, in the last three those that are surely written
 abbrev pub readsOf : ℕ → List Part
 readsOf row = unpack (row % 16) (row / 256)
 
@@ -92,7 +92,7 @@ rows =
     0x20112 ∷ 0x20112 ∷ 0x20112 ∷ 0x20112 ∷ 0x30000020112 ∷ 0x20112 ∷
     0x120000020112 ∷ 0x14010003 ∷ 0x20112 ∷ 0x50112 ∷ 0x120000020112 ∷ 0x14010003 ∷
     0x111 ∷ 0x111 ∷ 0xf050e0114 ∷ 0x15020113 ∷ 0x20112 ∷ 0x411 ∷
-    0x1a0000140112 ∷ 0x16130003 ∷ 0x130002 ∷ 0x111 ∷ 0x60000000111 ∷ 0x218070000000731 ∷
+    0x1a0000140112 ∷ 0x16130003 ∷ 0x130002 ∷ 0x111 ∷ 0x60000000111 ∷ 0x2070000000721 ∷
     0x20112 ∷ 0x130002 ∷ 0x190000000111 ∷ 0x1 ∷ 0x111 ∷ 0x111 ∷
     0 ∷ 0x130002 ∷ 0x101 ∷ 0x10 ∷ 0x10 ∷ 0x811 ∷
     0x201102 ∷ 0x201102 ∷ 0x201102 ∷ 0x301 ∷ 0x30000000010 ∷ 0x30000100112 ∷
@@ -104,7 +104,7 @@ rows =
 abbrev pub rowOf : ℕ → ℕ
 rowOf o = getD rows o 0x10
 
--- all parts that an opcode reads, the array range's with them, and all that it writes
+-- all parts that an opcode reads, the array range's with them, and all that it surely writes
 abbrev pub readParts : ℕ → List Part
 readParts o = readShape o .parts ++ arrayShape o .parts
 

@@ -19,7 +19,7 @@ use Rattle.unit.specs.Refusal.{invalidOpcode, effectError, slotOutside}
 use Rattle.effects.specs.declared.Range.{Range}
 use Rattle.effects.specs.Shape.{Tables, Cell, kind, isKind, met}
 use Rattle.effects.specs.Table.{readShape, arrayShape, writeShape, shapeIn}
-use Rattle.effects.specs.Effects.{allReads, writes, demandsMet, rangeFits, rangeWithin, allOf}
+use Rattle.effects.specs.Effects.{allReads, sureWrites, perhapsWrites, writes, demandsMet, rangeFits, rangeWithin, allOf}
 use Rattle.effects.specs.Check.{effectsSound, operandRefusal}
 use Rattle.effects.specs.laws.Form.{emptyRange}
 use Rattle.effects.specs.laws.Ranges.{CasesInside}
@@ -130,6 +130,11 @@ module _ (T : Tables) (x : Cell) where
   -- all ranges
   abbrev ranges : List Range
   ranges = allReads T x ++ writes T x
+
+  -- those that are read, surely written and perhaps written
+  pub all-ranges : (f : Range → Bool) → allOf f (allReads T x ++ writes T x) ≡ (allOf f (allReads T x) && (allOf f (sureWrites T x) && allOf f (perhapsWrites T x)))
+  unfolding writes
+  all-ranges f = rw (all-append f (allReads T x) (sureWrites T x ++ perhapsWrites T x), all-append f (sureWrites T x) (perhapsWrites T x))
 
   all-fit : allOf (rangeHolds slots) ranges ≡ allOf rangeFits ranges
   all-fit = all-same (rangeHolds slots) rangeFits holds-all ranges

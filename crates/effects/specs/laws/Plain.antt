@@ -17,11 +17,11 @@ use Rattle.instruction.specs.laws.Instruction.{Fields}
 use Rattle.instruction.specs.declared.Instruction.{Instruction}
 use Rattle.unit.specs.Refusal.{slotOutside}
 use Rattle.effects.specs.Shape.{Tables, Cell, applies, value, rangeOf, met}
-use Rattle.effects.specs.Effects.{allReads, writes, demandsMet, allOf}
+use Rattle.effects.specs.Effects.{allReads, sureWrites, writes, demandsMet, allOf}
 use Rattle.effects.specs.Check.{operandRefusal}
 use Rattle.effects.specs.laws.Form.{forms, formAt, unpack, rowOf, demandRowOf, demandAt, readsOf, writesOf, readParts, writeParts}
 use Rattle.effects.specs.laws.TableRows.{rows-read, rows-write}
-use Rattle.effects.specs.laws.Ranges.{reads-other, writes-other, demands-row}
+use Rattle.effects.specs.laws.Ranges.{reads-other, perhaps-none, sure-parts, writes-sure, demands-row}
 use Rattle.words.specs.laws.Truth.{left-true, right-true}
 use Rattle.effects.specs.laws.Operands.{slots, rangeHolds, holds-one, all-append, not-refused, refused-within}
 
@@ -138,8 +138,11 @@ module _ (s : ℕ) (few : s ≤ slots) (T : Tables) (x : Cell) (f : Fields (x .i
         let form : row / 65536 % 256 < 3 = omega (arith, p .low) in
         let reading : allOf (rangeHolds s) (allReads T x) ≡ ((eqb (row % 16) 0 || ltb (slotOf (row / 256 % 256) (x .instruction)) s) && (ltb (row % 16) 2 || ltb (slotOf (row / 65536 % 256) (x .instruction)) s)) =
         rw (reads-other T x (p .other), ← parts, ← second) (two (row % 16) (row / 256) (p .reads) (p .form) (rw second form)) in
+        -- MapIterNext's row is longer
+        let other : x .instruction .op ≡ op.MapIterNext → ⊥ = λ e. let long : row ≡ rowOf op.MapIterNext = r ∙ ap rowOf e in omega (arith, p .low) in
+        let sure : writes T x ≡ sureWrites T x = writes-sure T x (perhaps-none T x (p .other) other) in
         let writing : allOf (rangeHolds s) (writes T x) ≡ (eqb (row / 16 % 16) 0 || ltb (x .instruction .a) s) =
-        rw (writes-other T x (p .other), ← written, none) (once (row / 16 % 16) (p .writes)) in
+        rw (sure, sure-parts T x, ← written, none) (once (row / 16 % 16) (p .writes)) in
         all-append (rangeHolds s) (allReads T x) (writes T x) ∙ rw (reading, writing)
 
     plain-met : demandsMet T x ≡ true

@@ -14,7 +14,7 @@ use Rattle.unit.specs.Refusal.{invalidOpcode, effectError, slotOutside}
 use Rattle.effects.specs.declared.Check.the-variants.{Passed, Refused}
 use Rattle.effects.specs.declared.Range.{Range}
 use Rattle.effects.specs.Shape.{Tables, Cell, cellAt}
-use Rattle.effects.specs.Effects.{allReads, writes, demandsMet, rangeFits, rangeWithin, allOf}
+use Rattle.effects.specs.Effects.{allReads, sureWrites, perhapsWrites, writes, demandsMet, rangeFits, rangeWithin, allOf}
 use Rattle.effects.specs.Check.{lowest, effectsSound, operandRefusal, operandCheck}
 use Rattle.words.specs.laws.Truth.{left-true, right-true}
 use Rattle.effects.specs.laws.Operands.{all-append}
@@ -67,6 +67,12 @@ sound s T x e = go (ltb op.maxValid (x .instruction .op)) refl (demandsMet T x) 
     go false v false q f r w t e = absurd (omega arith)
     go false v true q false r w t e = absurd (omega arith)
     go false v true q true r false t e = absurd (omega arith)
+
+pub sure-within : {s : ℕ} {T : Tables} {x : Cell} → Sound s T x → allOf (rangeWithin s) (sureWrites T x) ≡ true
+unfolding writes
+sure-within {s} {T} {x} d =
+    left-true (allOf (rangeWithin s) (sureWrites T x)) (allOf (rangeWithin s) (perhapsWrites T x))
+    (sym (all-append (rangeWithin s) (sureWrites T x) (perhapsWrites T x)) ∙ d .writes-within)
 
 -- a slot of a range that is within s is below s
 pub within-slot : (s t : ℕ) (r : Range) → rangeWithin s r ≡ true → r .start ≤ t → t < r .start + r .count → t < s

@@ -107,7 +107,7 @@ pub rows-demand : (o : ℕ) → demandsOf (demandRowOf o) ≡ demands o
 unfolding demandAt readShape arrayShape writeShape shapeIn tabulate tabulateFrom
 rows-demand = by-table demandsOf demands demandRows 136 0 refl refl (λ o h. rw (reads-past o h, arrays-past o h, writes-past o h))
 
--- at most four ranges are read by a row, and three written
+-- at most four ranges are read by a row, and two written
 few : (table : List ℕ) (n other : ℕ) (f : ℕ → ℕ) (most : ℕ) → length table ≡ n → every n (λ o. leb (f (getD table o other)) most) ≡ true → f other ≤ most
     → (o : ℕ) → f (getD table o other) ≤ most
 few table n other f most long e h o = go (ltb o n) refl
@@ -122,6 +122,6 @@ pub reads-few : (o : ℕ) → rowOf o % 16 ≤ 4
 unfolding every
 reads-few = few rows 136 0x10 (λ r. r % 16) 4 refl refl (omega arith)
 
-pub writes-few : (o : ℕ) → rowOf o / 16 % 16 ≤ 3
+pub writes-few : (o : ℕ) → rowOf o / 16 % 16 ≤ 2
 unfolding every
-writes-few = few rows 136 0x10 (λ r. r / 16 % 16) 3 refl refl (omega arith)
+writes-few = few rows 136 0x10 (λ r. r / 16 % 16) 2 refl refl (omega arith)

@@ -8,7 +8,7 @@ put-answer-requires c κs =
     let p = c .before .before .before .before .before .before .before .before in
     let s = p .before .before .before .before .before .before .before .before .before in
     let e = p .pass .ensures in
-    (rw (e .answer) (fits-answer _ _ _ (e .output) (p .pass .kept .1 .0) (s .pre .0)), s .pre .1)
+    (rw (e .answer) (fits-answer _ _ _ _ (e .output) (p .pass .kept .1 .0) (s .pre .0)), s .pre .1)
 
 returns : tie.Need-returns
 returns c =

@@ -66,7 +66,7 @@ copy-all at i xs text text′ e h room =
 
 -- a result of n instructions lies within an output of so many bytes, 8,192 at most
 pub record Listed (n out : ℕ) : Type 0 where
-  pub within : resultSize n ≤ out
+  pub within : resultSize n 0 ≤ out
   pub few : out ≤ 8192
 
 -- an answer's result does

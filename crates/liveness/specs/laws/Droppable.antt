@@ -21,14 +21,14 @@ use Rattle.unit.specs.Entry.{metadataAt, goodMetadata}
 use Rattle.effects.specs.declared.Range.{Range}
 use Rattle.effects.specs.Shape.{Tables, Cell, cellAt, noCell}
 use Rattle.effects.specs.Table.{readShape, arrayShape, shapeIn}
-use Rattle.effects.specs.Effects.{reads, arrays, allReads, writes, rangeWithin, allOf}
+use Rattle.effects.specs.Effects.{reads, arrays, allReads, sureWrites, rangeWithin, allOf}
 use Rattle.effects.specs.laws.Form.{emptyRange}
 use Rattle.effects.specs.Check.{operandRefusal}
 use Rattle.effects.specs.laws.Cells.{cellOf, cellsBy, cells-long, cell-at}
 use Rattle.words.specs.laws.Truth.{left-true, right-true}
 use Rattle.effects.specs.laws.Operands.{cases-inside}
-use Rattle.effects.specs.laws.ByClass.{isOutside, writesByClass, writes-by-class}
-use Rattle.effects.specs.laws.Sound.{Sound, sound}
+use Rattle.effects.specs.laws.ByClass.{isOutside, writesByClass, sure-by-class}
+use Rattle.effects.specs.laws.Sound.{Sound, sound, sure-within}
 use Rattle.flow.specs.Branch.{branchInside}
 use Rattle.flow.specs.Block.{blockOf, blockCount}
 use Rattle.flow.specs.laws.Blocks.{blockStart, block-walk, block-below}
@@ -95,13 +95,13 @@ none-outside Panic i e = absurd (false≢true e)
 none-outside Outside i e = refl
 none-outside Invalid i e = refl
 
-written-within : (s : ℕ) (T : Tables) (x : Cell) → Within s (writes T x) → rangeWithin s (getD (writesByClass (class (x .instruction)) (x .instruction)) 0 emptyRange) ≡ true
+written-within : (s : ℕ) (T : Tables) (x : Cell) → Within s (sureWrites T x) → rangeWithin s (getD (writesByClass (class (x .instruction)) (x .instruction)) 0 emptyRange) ≡ true
 unfolding rangeWithin
 written-within s T x e = go (isOutside (class (x .instruction))) refl
   where
     go : (t : Bool) → isOutside (class (x .instruction)) ≡ t → rangeWithin s (getD (writesByClass (class (x .instruction)) (x .instruction)) 0 emptyRange) ≡ true
     go true q = rw (none-outside (class (x .instruction)) (x .instruction) q)
-    go false q = within-any s (writesByClass (class (x .instruction)) (x .instruction)) (rw (writes-by-class T x q) at e) 0
+    go false q = within-any s (writesByClass (class (x .instruction)) (x .instruction)) (rw (sure-by-class T x q) at e) 0
 
 -- where there is no cell, nothing is read
 nothing-read : (s : ℕ) (T : Tables) → Within s (allReads T noCell)
@@ -162,7 +162,7 @@ module _ {T : Tables} {n count : ℕ} {words metadata types leaders blocks start
         few = few-words;
         cases = cases-inside T x (d .good p h) (checked p h .demand);
         reads-fit = all-wider s (64 * w) enough-words (allReads T x) (checked p h .reads-within);
-        writes-fit = all-wider s (64 * w) enough-words (writes T x) (checked p h .writes-within);
+        writes-fit = all-wider s (64 * w) enough-words (sureWrites T x) (sure-within (checked p h));
       }
 
   -- past the end are no reads
@@ -184,7 +184,7 @@ module _ {T : Tables} {n count : ℕ} {words metadata types leaders blocks start
 
   -- the slots that a store writes have a type and a bit
   pub typed-at : (p : ℕ) → p < n → rangeWithin (length types) (getD (writesByClass (class (ofWord (getD words p 0))) (ofWord (getD words p 0))) 0 emptyRange) ≡ true
-  typed-at p h = let x : Cell = cellOf metadata p (getD words p 0) in written-within (length types) T x (checked p h .writes-within)
+  typed-at p h = let x : Cell = cellOf metadata p (getD words p 0) in written-within (length types) T x (sure-within (checked p h))
 
   pub held-at : (p : ℕ) → p < n → rangeWithin (64 * w) (getD (writesByClass (class (ofWord (getD words p 0))) (ofWord (getD words p 0))) 0 emptyRange) ≡ true
   held-at p h = let x : Cell = cellOf metadata p (getD words p 0) in written-within (64 * w) T x (fits-at p h .writes-fit)

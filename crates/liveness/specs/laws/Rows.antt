@@ -12,7 +12,7 @@ use lib.ListN.{length, getD, set, replicate, length-replicate}
 use lib.Seq.{getD-set-same, getD-set-other, set-out}
 use Rattle.words.specs.laws.Lists.{length-mapFrom, getD-mapFrom}
 use Rattle.effects.specs.Shape.{Tables, Sections, Cell}
-use Rattle.effects.specs.Effects.{allReads, writes, rangeHas, anyOf}
+use Rattle.effects.specs.Effects.{allReads, sureWrites, rangeHas, anyOf}
 use Rattle.flow.specs.Block.{blockOf}
 use Rattle.pc_map.specs.Boundary.{isKept}
 use Rattle.liveness.specs.Live.{Row, liveBefore, union, edges, isLast, noRow, joined, liveAfter, roundFrom}
@@ -21,10 +21,10 @@ abbrev pub bit : Row → ℕ → Bool
 bit row s = getD row s false
 
 pub before-bit : (T : Tables) (x : Cell) (row : Row) (s : ℕ) → s < length row
-    → bit (liveBefore T x row) s ≡ (anyOf (rangeHas s) (allReads T x) || (bit row s && not (anyOf (rangeHas s) (writes T x))))
+    → bit (liveBefore T x row) s ≡ (anyOf (rangeHas s) (allReads T x) || (bit row s && not (anyOf (rangeHas s) (sureWrites T x))))
 unfolding liveBefore
 before-bit T x row s h =
-    getD-mapFrom (λ t live. anyOf (rangeHas t) (allReads T x) || (live && not (anyOf (rangeHas t) (writes T x)))) 0 row s false false h ∙ rw zero-add
+    getD-mapFrom (λ t live. anyOf (rangeHas t) (allReads T x) || (live && not (anyOf (rangeHas t) (sureWrites T x)))) 0 row s false false h ∙ rw zero-add
 
 pub before-long : (T : Tables) (x : Cell) (row : Row) → length (liveBefore T x row) ≡ length row
 unfolding liveBefore

@@ -4,7 +4,7 @@ use mathlib.Core.Path.{_≡_, refl, ap}
 use mathlib.Core.Bool.{Bool, true, false, cond, _||_, not}
 use mathlib.Core.List.{List, [], _∷_, map}
 use mathlib.Core.Option.{Option, none, some}
-use Prim.Native.Nat.{ℕ, suc, _+_, _*_, _≤_, _<_}
+use Prim.Native.Nat.{ℕ, suc, _+_, _*_, _%_, _^_, _≤_, _<_}
 use lib.Dec.{eqb}
 use lib.ListN.{length, getD}
 use Rattle.words.specs.Lists.{mapFrom}
@@ -12,13 +12,14 @@ use Rattle.instruction.specs.declared.Instruction.{Instruction}
 use Rattle.instruction.specs.declared.Class.{Class}
 use Rattle.instruction.specs.declared.Class.the-variants.{Hint, LoadInt, LoadConst, Copy, CopyN, Unary, Binary, Jump, JumpIf, JumpIfNot, ForLoop, Return, Panic, Outside, Invalid}
 use Rattle.instruction.specs.Class.{numberOf}
-use Rattle.instruction.specs.Instruction.{class, imm32, ofWord, toWord}
+use Rattle.instruction.specs.Opcode as op
+use Rattle.instruction.specs.Instruction.{class, imm32, plain, withImm32, ofWord, toWord}
 use Rattle.unit.specs.Entry.{constantAt, typeValue, typeFloat}
 use Rattle.effects.specs.Shape.{Sections, Tables, Cell}
 use Rattle.effects.specs.laws.Cells.{cellOf, cellsBy}
-use Rattle.values.specs.Values.{Values, Expression, Represented, empty, valueOf, representative}
+use Rattle.values.specs.Values.{Values, Expression, empty, valueOf, representative}
 use Rattle.values.specs.laws.Folded.{expressionOf}
-use Rattle.values.specs.Number.{Numbered, isScalar, cleared, constantAtom, setBC, foldUnary, foldBinary, stored, byValue, numberUnary, numberBinary, numberCopy, numberConstant, numberRead, numberBy, number, numberFrom, numberCode}
+use Rattle.values.specs.Number.{Numbered, isScalar, cleared, constantAtom, setBC, foldUnary, foldBinary, stored, byValue, numberUnary, numberBinary, numberCopy, numberConstant, numberRead, numberBy, numberByWith, number, numberFrom, numberFromWith, numberCode, numberCodeWith}
 use Rattle.values.specs.laws.Entries.{key}
 use Rattle.values.specs.laws.Memory.{Memory, memoryOf, numberAt, keyAtom, constantKey, expressionKey, limit, Ready, Holds, atomIn}
 use Rattle.values.specs.laws.Promises.{Kept, Same}
@@ -33,6 +34,10 @@ use Rattle.values.specs.declared.Folded.the-variants.{Word, Not}
 -- numbering looks at the types and the constants of a unit alone
 abbrev pub sectionsWith : List ℕ → List ℕ → ℕ → Tables → Sections
 sectionsWith types constants locals tables = record { locals = locals; types = types; constants = constants; tables = tables }
+
+-- LoadInt of a word that fits 32 bits
+abbrev pub loadOf : Instruction → ℕ → Instruction
+loadOf i v = withImm32 (plain op.LoadInt (i .a) 0 0) (v % 2 ^ 32)
 
 unfoldable pub wordOf : Folded → Option ℕ
 wordOf (Word v) = some v
@@ -50,19 +55,19 @@ pub record Stands (n p : ℕ) (i : Instruction) (dest : ℕ → ℕ) : Type 0 wh
 pub record Becomes (n : ℕ) (types : List ℕ) (k c e : ℕ) (t : List ℕ) (x : Instruction) (t′ : List ℕ) (Good : (ℕ → ℕ) → List ℕ → Type 0) (f : (ℕ → ℕ) → Sections → Values → Numbered)
     : Type 0 where
   pub kept : Kept n (length types) k c e t t′
-  pub holds : (dest : ℕ → ℕ) (constants : List ℕ) (locals : ℕ) (tables : Tables) (v : Values) → Good dest constants → Holds n (length types) dest v (memoryOf n (length types) t)
+  pub holds : (dest : ℕ → ℕ) (constants : List ℕ) (locals : ℕ) (tables : Tables) (v : Values) → Good dest constants → Holds n (length types) types dest v (memoryOf n (length types) t)
       → (x ≡ f dest (sectionsWith types constants locals tables) v .instruction)
-      × Holds n (length types) dest (f dest (sectionsWith types constants locals tables) v .table) (memoryOf n (length types) t′)
+      × Holds n (length types) types dest (f dest (sectionsWith types constants locals tables) v .table) (memoryOf n (length types) t′)
 
 -- the known integer that an expression of two operands or of one folds to
 unfoldable pub foldBy : Bool → Expression → Option ℕ
 foldBy true e = foldBinary e (e .left) (e .right)
 foldBy false e = foldUnary e (e .left)
 
--- the second operand, where there is one
-unfoldable pub secondOf : List ℕ → Values → ℕ → Bool → Represented
+-- the slot of the second operand, where there is one
+unfoldable pub secondOf : List ℕ → Values → ℕ → Bool → ℕ
 secondOf types t s true = representative types t s
-secondOf types t s false = record { slot = s; table = t }
+secondOf types t s false = s
 
 -- of the values in memory at t: how many numbers there are, the value with a number, and an instruction's expression
 abbrev pub limitAt : ℕ → List ℕ → List ℕ → ℕ
@@ -111,13 +116,11 @@ pub record Coded (n S : ℕ) (m : Memory) (word : ℕ) : Type 0 where
   pub is : key word 0 ≡ expressionKey op flags left right
 
 -- the second operand of a binary opcode
-pub record Second (n S : ℕ) (types : List ℕ) (t : List ℕ) (s d : ℕ) (binary : Bool) (slot : ℕ) (t′ : List ℕ) : Type 0 where
+pub record Second (n S : ℕ) (types : List ℕ) (t : List ℕ) (s : ℕ) (binary : Bool) (slot : ℕ) (t′ : List ℕ) : Type 0 where
   pub kept : Kept n S 0 0 0 t t′
   pub same : Same n S t t′
-  pub low : binary ≡ true → slot < S
-  pub number : binary ≡ true → numberAt (memoryOf n S t) slot ≡ d
-  pub holds : (dest : ℕ → ℕ) (v : Values) → Holds n S dest v (memoryOf n S t)
-      → (slot ≡ secondOf types v s binary .slot) × Holds n S dest (secondOf types v s binary .table) (memoryOf n S t′)
+  pub holds : (dest : ℕ → ℕ) (v : Values) → Holds n S types dest v (memoryOf n S t)
+      → (slot ≡ secondOf types v s binary) × Holds n S types dest v (memoryOf n S t′)
 
 -- room for what one instruction adds
 pub record Room (n S : ℕ) (t : List ℕ) : Type 0 where
@@ -137,17 +140,11 @@ takes true v = eqb v 0
 takes false v = not (eqb v 0)
 
 module _ (S : Sections) where
-  -- an opcode of two operands or of one, once they are represented
-  unfoldable pub combined : Bool → ℕ → Instruction → Values → Numbered
-  combined binary p i t =
-      let e = expressionOf (i .op) (i .flags) (valueOf t (i .b)) (cond binary (valueOf t (i .c)) (Integer 0)) in
-      byValue S p i t e (foldBy binary e)
-
+  -- an opcode of two operands or of one
   unfoldable pub operated : Bool → ℕ → Instruction → Values → Numbered
   operated binary p i t =
-      let l = representative (S .types) t (i .b) in
-      let r = secondOf (S .types) (l .table) (i .c) binary in
-      combined binary p (setBC i (l .slot) (r .slot)) (r .table)
+      let e = expressionOf (i .op) (i .flags) (valueOf t (i .b)) (cond binary (valueOf t (i .c)) (Integer 0)) in
+      byValue S p (setBC i (representative (S .types) t (i .b)) (secondOf (S .types) t (i .c) binary)) t e (foldBy binary e)
 
   unfoldable pub undecidedBy : Instruction → Values → Numbered
   undecidedBy i t = cond (isScalar S (i .a)) (numberRead S i t) (record { instruction = i; table = t })
@@ -178,7 +175,7 @@ module _ (S : Sections) where
 
   -- that is the definition, but for the three classes that have cases of their own
   pub by-other : (k : Class) → (k ≡ JumpIf → ⊥) → (k ≡ JumpIfNot → ⊥) → (k ≡ Return → ⊥) → (p : ℕ) (i : Instruction) (t : Values) → numberBy S k p i t ≡ otherBy k p i t
-  unfolding numberBy otherBy pureBy
+  unfolding numberByWith otherBy pureBy
   by-other Hint a b c p i t = same-arms (isScalar S (i .a)) (cleared S i)
   by-other LoadInt a b c p i t = refl
   by-other LoadConst a b c p i t = refl
@@ -207,14 +204,14 @@ module _ (S : Sections) (leaders : List ℕ) where
   -- the metadata travel along
   pub number-words : (metadata : List ℕ) (q p : ℕ) (t : Values) (ws : List ℕ)
       → map (λ (x : Cell). toWord (x .instruction)) (numberFrom S leaders p t (mapFrom (cellOf metadata) q ws)) ≡ numberWords p t ws
-  unfolding numberWords numberFrom mapFrom
+  unfolding numberWords numberFromWith mapFrom
   number-words metadata q p t [] = refl
   number-words metadata q p t (w ∷ ws) =
       let r = number S p (ofWord w) (cond (eqb (getD leaders p 0) 1) empty t) in
       ap (λ (l : List ℕ). toWord (r .instruction) ∷ l) (number-words metadata (suc q) (suc p) (r .table) ws)
 
   pub code-words : (words metadata : List ℕ) → map (λ (x : Cell). toWord (x .instruction)) (numberCode S leaders (cellsBy words metadata)) ≡ numberWords 0 empty words
-  unfolding numberCode cellsBy
+  unfolding numberCodeWith cellsBy
   code-words words metadata = number-words metadata 0 0 empty words
 
 -- ---- what the walk starts from
@@ -225,23 +222,23 @@ pub record Begins (n S : ℕ) (t t′ : List ℕ) : Type 0 where
   pub epoch : memoryOf n S t′ .epoch ≡ 1
   pub constants : memoryOf n S t′ .constants ≡ 0
   pub expressions : memoryOf n S t′ .expressions ≡ 0
-  pub holds : (dest : ℕ → ℕ) → Holds n S dest empty (memoryOf n S t′)
+  pub holds : (types : List ℕ) (dest : ℕ → ℕ) → Holds n S types dest empty (memoryOf n S t′)
 
 -- a block starts with nothing known
 pub record Enters (n S leader : ℕ) (t t′ : List ℕ) : Type 0 where
   pub kept : Kept n S 1 0 0 t t′
-  pub holds : (dest : ℕ → ℕ) (v : Values) → Holds n S dest v (memoryOf n S t) → Holds n S dest (cond (eqb leader 1) empty v) (memoryOf n S t′)
+  pub holds : (types : List ℕ) (dest : ℕ → ℕ) (v : Values) → Holds n S types dest v (memoryOf n S t) → Holds n S types dest (cond (eqb leader 1) empty v) (memoryOf n S t′)
 
 -- a turn of the walk at place p, at the word w
 pub record Turns (n : ℕ) (types constants : List ℕ) (leader w p : ℕ) (t : List ℕ) (x : ℕ) (t′ : List ℕ) : Type 0 where
   pub kept : Kept n (length types) 2 1 1 t t′
-  pub holds : (dest : ℕ → ℕ) (locals : ℕ) (tables : Tables) (v : Values) → Stands n p (ofWord w) dest → Holds n (length types) dest v (memoryOf n (length types) t)
+  pub holds : (dest : ℕ → ℕ) (locals : ℕ) (tables : Tables) (v : Values) → Stands n p (ofWord w) dest → Holds n (length types) types dest v (memoryOf n (length types) t)
       → (x ≡ toWord (number (sectionsWith types constants locals tables) p (ofWord w) (cond (eqb leader 1) empty v) .instruction))
-      × Holds n (length types) dest (number (sectionsWith types constants locals tables) p (ofWord w) (cond (eqb leader 1) empty v) .table) (memoryOf n (length types) t′)
+      × Holds n (length types) types dest (number (sectionsWith types constants locals tables) p (ofWord w) (cond (eqb leader 1) empty v) .table) (memoryOf n (length types) t′)
 
 -- what numbering takes of the 64-bit work: the code, and the table of values behind it
 abbrev pub valuesRoom : ℕ → ℕ → ℕ
-valuesRoom n s = 13 * n + 2 * s + 4
+valuesRoom n s = 15 * n + 3 * s + 5
 
 -- what the walk asks: "slots below s" is what the check of all operands shows
 pub record Numberable (words leaders types memory : List ℕ) : Type 0 where

@@ -124,16 +124,16 @@ module _ {code words keep bounds kept : List ℕ} (k : Known code words keep bou
     retained-long : length (retainFrom keep 0 cells) ≡ boundary keep (length words)
     retained-long = retain-all keep (k .listed .mapped .flags) cells (k .listed .long ∙ sym (cells-long words metadata)) ∙ ap (boundary keep) (cells-long words metadata)
 
-    pub conclude-answers : (out out′ : List ℕ) → relocationCheck keep cells ≡ Passed → out′ ≡ putMid 0 (resultSize (length kept)) out (resultBytes (retainFrom keep 0 cells))
+    pub conclude-answers : (out out′ : List ℕ) → relocationCheck keep cells ≡ Passed → out′ ≡ putMid 0 (resultSize (length kept) 0) out (resultBytes (retainFrom keep 0 cells) [])
         → Answers (removal given cells keep) (Rewritten (getD bounds (length words) 0)) out out′
     unfolding answerOf outputAfter
     conclude-answers out out′ r e =
         let l = k .listed in
         let count : getD bounds (length words) 0 ≡ length (retainFrom keep 0 cells) = mapped-at keep bounds (l .mapped) (length words) (omega arith) ∙ sym retained-long in
         let many : length kept ≡ length (retainFrom keep 0 cells) = ap length (l .list) ∙ kept-many keep (l .mapped .flags) ∙ ap (boundary keep) (l .long) ∙ sym retained-long in
-        rw (conclude-rewritten r) (ap Rewritten count, e ∙ ap (λ (k : ℕ). putMid 0 (resultSize k) out (resultBytes (retainFrom keep 0 cells))) many)
+        rw (conclude-rewritten r) (ap Rewritten count, e ∙ ap (λ (k : ℕ). putMid 0 (resultSize k 0) out (resultBytes (retainFrom keep 0 cells) [])) many)
 
-  pub conclude-writable : (out : ℕ) → metadataSize * length words ≤ length metadata → BranchesInside words → relocationCheck keep cells ≡ Passed → resultSize (length words) ≤ out → Writable words metadata bounds kept out
+  pub conclude-writable : (out : ℕ) → metadataSize * length words ≤ length metadata → BranchesInside words → relocationCheck keep cells ≡ Passed → resultSize (length words) 0 ≤ out → Writable words metadata bounds kept out
   conclude-writable out entries inside r room =
       let most = sum-most keep (k .listed .mapped .flags) (length words) in
       writable words metadata keep bounds kept out (k .listed) entries inside r (omega arith)

@@ -48,6 +48,7 @@ module _ (n : ℕ) (code metadata : List ℕ) (S : Sections) (g : Given n code m
   well = record {
     locals = g .slots;
     described = rw given-long (omega arith);
+    typed = g .typed;
     fields = λ p h. rw (ap (λ (x : Cell). x .instruction) (given-at p (rw given-long at h))) (instruction-fields code p (g .code-bytes));
     constants = constants-below (S .constants) (g .constant-bytes);
   }

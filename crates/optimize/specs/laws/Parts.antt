@@ -81,13 +81,14 @@ pub record Given (n : ℕ) (code metadata : List ℕ) (S : Sections) : Type 0 wh
   pub code-long : instructionSize * n ≤ length code
   pub metadata-long : length metadata ≡ metadataSize * n
   pub slots : S .locals ≤ maxLocalSlots
+  pub typed : length (S .types) ≤ S .locals
   pub good : (p : ℕ) → p < n → goodMetadata (length (S .tables .cases) / caseSize) (metadataAt metadata p) ≡ true
   pub code-bytes : Bytes code
   pub constant-bytes : Bytes (S .constants)
 
 -- the lent buffers are long enough
 pub record Room (n s out work32 work64 : ℕ) : Type 0 where
-  pub out-room : resultSize n ≤ out
+  pub out-room : resultSize n 0 ≤ out
   pub room32 : work32Room n ≤ work32
   pub room64 : work64Room n s ≤ work64
 

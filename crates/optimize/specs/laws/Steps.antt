@@ -98,7 +98,7 @@ pub record Finished (n : ℕ) (code metadata : List ℕ) (out : ℕ) (work32 wor
   pub code-long : instructionSize * n ≤ length code
   pub metadata-long : metadataSize * n ≤ length metadata
   pub inside : BranchesInside (midOf 0 n work64)
-  pub room : resultSize n ≤ out
+  pub room : resultSize n 0 ≤ out
   pub long32 : work32Room n ≤ length work32
   pub long64 : n ≤ length work64
 
@@ -152,7 +152,7 @@ module _ {n : ℕ} {code metadata : List ℕ} {out : ℕ} {work32 work64 : List 
         × (instructionSize * length (midOf 0 k work64) ≤ length code)
         × (metadataSize * length (midOf 0 k work64) ≤ length metadata)
         × BranchesInside (midOf 0 k work64)
-        × (resultSize (length (midOf 0 k work64)) ≤ out)
+        × (resultSize (length (midOf 0 k work64)) 0 ≤ out)
         × Controls (midOf 0 k work64) (midOf at q work64) (length (midOf 0 k work64))
     finish-asks l b m g start many at count q same c =
         let listed : Listed (midOf (keepAt n) n work32) (midOf (keepAt n + n) (n + 1) work32) (midOf b m work32) (length (midOf 0 n work64)) =

@@ -64,12 +64,12 @@ module _ (u : List ℕ) (l : Lent) (laid : isUnit u ≡ true) (worked : isSkippe
   unfolding roomFor
   room-for =
       let h = headerOf u .counts in
-      let a = leb (outputRoom n) (l .out) in
+      let a = leb (outputRoom n (h .lines)) (l .out) in
       let b = leb (work32Room n) (l .work32) in
       let c = leb (work64Room n (h .locals)) (l .work64) in
       let first = left-true (a && b) c room in
       record {
-        out-room = leb-true (outputRoom n) (l .out) (left-true a b first);
+        out-room = let room : outputRoom n (h .lines) ≤ l .out = leb-true (outputRoom n (h .lines)) (l .out) (left-true a b first) in omega arith;
         room32 = leb-true (work32Room n) (l .work32) (right-true a b first);
         room64 = rw long-types (leb-true (work64Room n (h .locals)) (l .work64) (right-true (a && b) c room));
       }
@@ -84,6 +84,7 @@ module _ (u : List ℕ) (l : Lent) (laid : isUnit u ≡ true) (worked : isSkippe
         code-long = let e = u-laid .lengths .code in omega arith;
         metadata-long = rw (← described) (u-laid .lengths .metadata);
         slots = rw long-types (u-laid .locals);
+        typed = omega arith;
         good = λ p h. rw cases (u-laid .entries .metadata p (rw described h));
         code-bytes = bytes-mid (headerOf u .offsets .code) (instructionSize * n) u b;
         constant-bytes = bytes-mid (headerOf u .offsets .constants) (constantSize * headerOf u .counts .constants) u b;
@@ -145,7 +146,7 @@ module _ (u : List ℕ) where
   pass-laid h l laid e = rw (e, laid)
 
 -- the test of the room in the code's order
-pub room-test : (k : Counts) (out work32 work64 a b d : ℕ) → a ≡ outputRoom (k .instructions) → b ≡ work32Room (k .instructions) → d ≡ work64Room (k .instructions) (k .locals)
+pub room-test : (k : Counts) (out work32 work64 a b d : ℕ) → a ≡ outputRoom (k .instructions) (k .lines) → b ≡ work32Room (k .instructions) → d ≡ work64Room (k .instructions) (k .locals)
     → (leb a out && leb b work32 && leb d work64) ≡ roomFor k (lentOf out work32 work64)
 unfolding roomFor
 room-test k out work32 work64 a b d e f g = rw (e, f, g)

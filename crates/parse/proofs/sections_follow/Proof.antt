@@ -7,12 +7,13 @@ use Rattle.parse.proofs.sections_follow.Tie as tie
 
 returns : tie.Need-returns
 unfolding headerOf sectionsFollow
-returns c = cc (one-mul (u32At (c .before .before .before .before .before .before .before .before .before .args .unit .now) 12))
+returns c = cc (one-mul (u32At (c .before .before .before .before .before .before .before .before .before .before .args .unit .now) 12))
 
 pub sections-follow-spec : {M : Type 1} → statement M
 sections-follow-spec =
     tie.close
     (tie.spec
+    (λ c κs. search needs)
     (λ c κs. search needs)
     (λ c κs. search needs)
     (λ c κs. search needs)

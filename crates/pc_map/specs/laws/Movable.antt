@@ -66,10 +66,10 @@ pub record Writable (words metadata bounds kept : List ℕ) (room : ℕ) : Type 
   pub entries : metadataSize * length words ≤ length metadata
   pub movable : AllMovable kept words
   pub ends : EndsRetained kept words metadata bounds
-  pub fits : resultSize (length kept) ≤ room
+  pub fits : resultSize (length kept) 0 ≤ room
 
 pub writable : (words metadata keep bounds kept : List ℕ) (room : ℕ) → Listed keep bounds kept (length words) → metadataSize * length words ≤ length metadata → BranchesInside words
-    → relocationCheck keep (cellsBy words metadata) ≡ Passed → resultSize (boundary keep (length words)) ≤ room → Writable words metadata bounds kept room
+    → relocationCheck keep (cellsBy words metadata) ≡ Passed → resultSize (boundary keep (length words)) 0 ≤ room → Writable words metadata bounds kept room
 writable words metadata keep bounds kept room l entries inside passed fits = record {
   small = rw (← l .long) (l .mapped .small);
   few = rw (l .list, kept-many keep (l .mapped .flags)) (omega (arith, l .long, boundary-most keep (l .mapped .flags) (length keep)));

@@ -14,7 +14,7 @@ use lib.Seq.{drop-drop, getD-drop}
 use borrow.Author.Tests.{eqb-true, eqb-false, eq-eqb, lt-ltb}
 use Rattle.instruction.specs.Instruction.{class}
 use Rattle.effects.specs.Shape.{Tables, Sections, Cell, cellAt}
-use Rattle.effects.specs.Effects.{allReads, writes, rangeHas, anyOf}
+use Rattle.effects.specs.Effects.{allReads, sureWrites, rangeHas, anyOf}
 use Rattle.flow.specs.Branch.{falls, branches, target}
 use Rattle.flow.specs.Block.{blockCount}
 use Rattle.flow.specs.laws.Marks.{Marked}
@@ -96,7 +96,7 @@ module _ (S : Sections) (leaders keep : List ℕ) (cells : List Cell) (rows : Li
   reads p s = anyOf (rangeHas s) (allReads T (cell p))
 
   abbrev pub written : ℕ → ℕ → Bool
-  written p s = anyOf (rangeHas s) (writes T (cell p))
+  written p s = anyOf (rangeHas s) (sureWrites T (cell p))
 
   -- kept after dead stores are gone
   abbrev pub stays : ℕ → Bool
@@ -168,7 +168,7 @@ module _ (S : Sections) (leaders keep : List ℕ) (cells : List Cell) (rows : Li
     -- ---- bit by bit
 
     flow-bit : (t : Bool) (x : Cell) (row : Row) (s : ℕ) → s < length row
-        → bit (cond t (liveBefore T x row) row) s ≡ flow t (anyOf (rangeHas s) (allReads T x)) (bit row s) (anyOf (rangeHas s) (writes T x))
+        → bit (cond t (liveBefore T x row) row) s ≡ flow t (anyOf (rangeHas s) (allReads T x)) (bit row s) (anyOf (rangeHas s) (sureWrites T x))
     unfolding flow
     flow-bit true x row s h = before-bit T x row s h
     flow-bit false x row s h = refl

@@ -226,6 +226,8 @@ module _ (keep : List ℕ) where
 pub record Well (F : Function) : Type 0 where
   pub locals : F .sections .locals ≤ 65535
   pub described : length (F .cells) ≤ F .described
+  -- no more types than slots
+  pub typed : length (F .sections .types) ≤ F .sections .locals
   pub fields : (p : ℕ) → p < length (F .cells) → Fields (cellAt (F .cells) p .instruction)
   -- known constants are words of 64 bits
   pub constants : (k : ℕ) (v : Atom) → constantAtom (constantAt (F .sections .constants) k) ≡ some v → (p : ℕ) → Below p v
@@ -243,6 +245,7 @@ module _ (F : Function) (w : Well F) (some-code : 0 < length (F .cells)) (few : 
     locals = w .locals;
     few = few;
     described = w .described;
+    typed = w .typed;
     operands = passed-at (S .locals) (S .tables) cells checked-operands;
     fields = w .fields;
     constants = w .constants;

@@ -6,7 +6,7 @@ use mathlib.Core.List.{List, [], _∷_}
 use Prim.Native.Nat.{ℕ, zero, suc, _+_, _^_, _≤_, _<_}
 use native.Mathlib.Nat.{zero-add}
 use native.Mathlib.Omega.{arith}
-use lib.ListN.{length, length-map, List·getD-map}
+use lib.ListN.{length, getD, length-map, List·getD-map}
 use Rattle.instruction.specs.laws.Instruction.{Fields}
 use Rattle.unit.specs.Entry.{goodMetadata}
 use Rattle.unit.specs.Result.{Retained}
@@ -22,6 +22,8 @@ use Rattle.pc_map.specs.Boundary.{isKept}
 use Rattle.pc_map.specs.laws.Boundaries.{boundary-most}
 use Rattle.pc_map.specs.Relocate.{relocate, retainFrom}
 use Rattle.pc_map.specs.laws.Relocated.{moved-metadata}
+use Rattle.lines.specs.Lines.{placesOf}
+use Rattle.lines.specs.laws.Below.{Rising}
 use Rattle.answer.specs.Clean.{retainedCell, cellsAfter, placedBy}
 use Rattle.answer.specs.Pass.{rewritten, isWorkedOn, optimized, keptPlaces}
 use Rattle.run.specs.laws.Checked.{Well, numberable}
@@ -72,6 +74,40 @@ module _ (keep : List ℕ) (flags : Flags keep) (cases : ℕ) where
       go true (suc k) h ih = let r = ih k (omega arith) in (r .0, omega arith)
       go false k h ih = let r = ih k h in (r .0, omega arith)
 
+  -- old places rise
+  pub retained-from : (xs : List Cell) (p : ℕ) → (k : ℕ) → k < length (placesOf (retainFrom keep p xs)) → p ≤ getD (placesOf (retainFrom keep p xs)) k 0
+  unfolding retainFrom
+  retained-from [] p k h = absurd (omega arith)
+  retained-from (x ∷ xs) p k h = go (isKept keep p) k h (retained-from xs (suc p))
+    where
+      head : Retained
+      head = record { instruction = relocate keep p x .instruction; metadata = relocate keep p x .metadata; place = p }
+
+      rest : List Retained
+      rest = retainFrom keep (suc p) xs
+
+      go : (t : Bool) (k : ℕ) → k < length (placesOf (cond t (head ∷ rest) rest)) → ((k : ℕ) → k < length (placesOf rest) → suc p ≤ getD (placesOf rest) k 0) → p ≤ getD (placesOf (cond t (head ∷ rest) rest)) k 0
+      go true zero h ih = omega arith
+      go true (suc k) h ih = let r = ih k (omega arith) in omega arith
+      go false k h ih = let r = ih k h in omega arith
+
+  pub retained-rising : (xs : List Cell) (p : ℕ) → Rising (placesOf (retainFrom keep p xs))
+  unfolding retainFrom
+  retained-rising [] p i j h l = absurd (omega arith)
+  retained-rising (x ∷ xs) p i j h l = go (isKept keep p) i j h l (retained-rising xs (suc p))
+    where
+      head : Retained
+      head = record { instruction = relocate keep p x .instruction; metadata = relocate keep p x .metadata; place = p }
+
+      rest : List Retained
+      rest = retainFrom keep (suc p) xs
+
+      go : (t : Bool) (i j : ℕ) → i < j → j < length (placesOf (cond t (head ∷ rest) rest)) → Rising (placesOf rest) → getD (placesOf (cond t (head ∷ rest) rest)) i 0 < getD (placesOf (cond t (head ∷ rest) rest)) j 0
+      go true i zero h l ih = absurd (omega arith)
+      go true zero (suc j) h l ih = let r = retained-from xs (suc p) j (omega arith) in omega arith
+      go true (suc i) (suc j) h l ih = ih i j (omega arith) (omega arith)
+      go false i j h l ih = ih i j h l
+
   pub retained-few : (xs : List Cell) (p : ℕ) → length (retainFrom keep p xs) ≤ length xs
   unfolding retainFrom
   retained-few [] p = omega arith
@@ -98,6 +134,7 @@ pub record Again (cases n : ℕ) (kept : List Retained) : Type 0 where
   pub instructions : (p : ℕ) → p < length kept → Fields (retainedAt kept p .instruction)
   pub metadata : (p : ℕ) → p < length kept → Sound cases (retainedAt kept p .metadata)
   pub places : (p : ℕ) → p < length kept → retainedAt kept p .place < n
+  pub rising : Rising (placesOf kept)
 
 -- the fields of a result's cells
 cell-fields : (kept : List Retained) → ((p : ℕ) → p < length (cellsAfter kept) → Fields (cellAt (cellsAfter kept) p .instruction)) → (p : ℕ) → p < length kept → Fields (retainedAt kept p .instruction)
@@ -133,6 +170,7 @@ module _ (F : Function) (w : Well F) (cases : ℕ) (sound : AllSound cases (F .c
         instructions = cell-fields (retainFrom keep 0 code) (rw (← k .2) at (optimized-runs F w worked kept e .well .fields));
         metadata = λ p h. retained-sound keep flags cases code 0 numbered p h .0;
         places = λ p h. rw (← long) (rw zero-add at (retained-sound keep flags cases code 0 numbered p h .1));
+        rising = retained-rising keep flags cases code 0;
       })
 
 -- ---- with old places in the given unit

@@ -2,12 +2,13 @@
 -- Assumes nothing.
 use mathlib.Core.Path.{_≡_, refl, ap₂}
 use mathlib.Core.Logic.{_⊎_, inl, inr}
-use mathlib.Core.Bool.{Bool, true, false, _&&_, _||_, or-false, or-true, false≢true}
+use mathlib.Core.Bool.{Bool, true, false, _&&_, _||_, or-false, or-true, true≢false, false≢true}
 use mathlib.Core.List.{List, [], _∷_, _++_, map, append-nil}
 use Prim.Native.Nat.{ℕ, zero, suc, _+_, _-_, _≤_, _<_}
 use native.Mathlib.Decide.{ℕ-discrete}
 use native.Mathlib.Omega.{arith}
 use lib.Dec.{eqb, leb, ltb}
+use lib.ListN.{getD}
 use borrow.Author.Tests.{eqb-true, leb-true, ltb-true, le-leb, lt-ltb}
 use Rattle.instruction.specs.declared.Class.{Class}
 use Rattle.instruction.specs.declared.Class.the-variants.{Hint, LoadInt, LoadConst, Copy, CopyN, Unary, Binary, Jump, JumpIf, JumpIfNot, ForLoop, Return, Panic, Outside, Invalid}
@@ -16,7 +17,7 @@ use Rattle.effects.specs.declared.Range.{Range}
 use Rattle.effects.specs.Shape.{Tables, Sections, Cell}
 use Rattle.effects.specs.Effects.{allReads, rangeHas, rangeWithin, allOf, anyOf}
 use Rattle.effects.specs.laws.ByClass.{isOutside, readsByClass, writesByClass, reads-by-class}
-use Rattle.run.specs.Machine.{Words, World, put}
+use Rattle.run.specs.Machine.{Words, World, Node, put, isStored, replied}
 use Rattle.run.specs.laws.Removal.{Agree, SameAct, silent=, ask=, stop=, fail=}
 use Rattle.run.specs.Program.{actBy, event, givenRanges, slotsOf, slotsFrom}
 use Rattle.run.specs.laws.Gives.{given-by-class}
@@ -26,6 +27,35 @@ use Rattle.words.specs.laws.Truth.{left-true, right-true}
 pub put-other : (g : ℕ → Bool) (w σ : Words) (s : ℕ) → g s ≡ false → put g w σ s ≡ σ s
 unfolding put
 put-other g w σ s e = rw e
+
+-- a slot that is in no perhaps written range that was stored
+pub not-stored : (gs : List (ℕ → Bool)) (stored : ℕ → Bool) (s : ℕ) → ((i : ℕ) → getD gs i (λ t. false) s ≡ true → stored i ≡ false) → isStored gs stored s ≡ false
+unfolding isStored
+not-stored [] stored s h = refl
+not-stored (g ∷ gs) stored s h = go (stored 0) (g s) (h 0) (not-stored gs (λ i. stored (suc i)) s (λ i. h (suc i)))
+  where
+    go : (a b : Bool) → (b ≡ true → a ≡ false) → isStored gs (λ i. stored (suc i)) s ≡ false → (a && b || isStored gs (λ i. stored (suc i)) s) ≡ false
+    go true true f e = absurd (true≢false (f refl))
+    go true false f e = e
+    go false b f e = e
+
+-- a slot of one that was
+pub is-stored : (gs : List (ℕ → Bool)) (stored : ℕ → Bool) (s i : ℕ) → getD gs i (λ t. false) s ≡ true → stored i ≡ true → isStored gs stored s ≡ true
+unfolding isStored
+is-stored [] stored s i h e = absurd (false≢true h)
+is-stored (g ∷ gs) stored s zero h e = rw (h, e)
+is-stored (g ∷ gs) stored s (suc i) h e = rw (is-stored gs (λ i. stored (suc i)) s i h e) (or-true (stored 0 && g s))
+
+-- "the outside reply says for each perhaps written range whether it was stored": a slot that is neither surely given a word nor in a range
+-- that was stored keeps its word; a slot of a range that was stored gets the reply's
+module _ (N : Node) (stored : ℕ → Bool) (w σ : Words) (s : ℕ) where
+  pub keeps-word : N .gives s ≡ false → ((i : ℕ) → getD (N .perhaps) i (λ t. false) s ≡ true → stored i ≡ false) → put (replied N stored) w σ s ≡ σ s
+  unfolding put replied
+  keeps-word g h = rw (g, not-stored (N .perhaps) stored s h)
+
+  pub gets-word : (i : ℕ) → getD (N .perhaps) i (λ t. false) s ≡ true → stored i ≡ true → put (replied N stored) w σ s ≡ w s
+  unfolding put replied
+  gets-word i h e = rw (is-stored (N .perhaps) stored s i h e, or-true)
 
 pub data In (s : ℕ) : List ℕ → Type 0 where
   here : {l : List ℕ} → In s (s ∷ l)

@@ -35,7 +35,7 @@ use Rattle.values.specs.Number.{setA, setB, setBC, constantAtom}
 use Rattle.values.specs.laws.Named.{Named}
 use Rattle.effects.specs.laws.Single.{isSingle}
 use Rattle.run.specs.Machine.{Words, Event, World, State, at, put, goto, perform, stop, byReturn}
-use Rattle.run.specs.Program.{Function, hasMeaning, classIn, nodeBy, actBy, givenRanges, event, constantWord, unaryWord, binaryWord, slotsOf, slotsFrom}
+use Rattle.run.specs.Program.{Function, hasMeaning, classIn, nodeBy, actBy, givenRanges, perhapsSlots, event, constantWord, unaryWord, binaryWord, slotsOf, slotsFrom}
 use Rattle.run.specs.laws.Gives.{given-by-class}
 use Rattle.run.specs.laws.Slots.{named-of, named-refusal, oneByOne}
 use Rattle.run.specs.laws.Valuation.{Valuation, wordOf, expressionWord, wordOfExpression, Valid}
@@ -200,7 +200,7 @@ module _ (F : Function) (W : World) (p : ℕ) (σ : Words) (R : List Event) wher
   do-single k x e s m = rw (meant x m, e, given-one k x e s) (go k s)
     where
       go : (k : Class) → isSingle k ≡ true
-          → perform W (record { act = actBy S W x k; gives = λ t. anyOf (rangeHas t) (record { start = x .instruction .a; count = 1 } ∷ []); target = targetBy k p (x .instruction) }) p σ R (actBy S W x k σ)
+          → perform W (record { act = actBy S W x k; gives = λ t. anyOf (rangeHas t) (record { start = x .instruction .a; count = 1 } ∷ []); perhaps = perhapsSlots T x; target = targetBy k p (x .instruction) }) p σ R (actBy S W x k σ)
           ≡ Sets (x .instruction .a) (gave k x)
       go Hint s = absurd (false≢true s)
       go LoadInt s = refl
@@ -258,7 +258,7 @@ module _ (F : Function) (W : World) (p : ℕ) (σ : Words) (R : List Event) wher
   do-quiet k x e q m = rw (meant x m, e, given-none k x e q) (go k q)
     where
       go : (k : Class) → Quiet k
-          → perform W (record { act = actBy S W x k; gives = λ t. anyOf (rangeHas t) []; target = targetBy k p (x .instruction) }) p σ R (actBy S W x k σ)
+          → perform W (record { act = actBy S W x k; gives = λ t. anyOf (rangeHas t) []; perhaps = perhapsSlots T x; target = targetBy k p (x .instruction) }) p σ R (actBy S W x k σ)
           ≡ Moves (jumps k x) (targetBy k p (x .instruction))
       go k hint = refl
       go k jump = refl

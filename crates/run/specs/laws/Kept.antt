@@ -18,7 +18,7 @@ use Rattle.unit.specs.Size.{setWords, maxSetWords}
 use Rattle.effects.specs.declared.Range.{Range}
 use Rattle.effects.specs.Shape.{Tables, Sections, Cell, cellAt}
 use Rattle.effects.specs.laws.Sound.{sound}
-use Rattle.effects.specs.Effects.{allReads, writes, rangeHas, allOf, anyOf}
+use Rattle.effects.specs.Effects.{allReads, sureWrites, perhapsWrites, writes, rangeHas, allOf, anyOf}
 use Rattle.effects.specs.laws.ByClass.{isOutside}
 use Rattle.flow.specs.Branch.{branches, target}
 use Rattle.flow.specs.Block.{blockCount}
@@ -38,7 +38,7 @@ use Rattle.answer.specs.Pass.{usefulPlaces, keptPlaces}
 use Rattle.run.specs.Machine.{SameRuns}
 use Rattle.run.specs.Program.{Function, givenRanges, slotsOf, programOf}
 use Rattle.run.specs.Returned.{resultFunction}
-use Rattle.run.specs.laws.Gives.{given-writes, jump-gives}
+use Rattle.run.specs.laws.Gives.{given-sure, jump-gives}
 use Rattle.words.specs.laws.Truth.{left-true, right-true}
 use Rattle.run.specs.laws.Step.{Succ, next, branch}
 use Rattle.run.specs.laws.Frame.{In, slots-any, slots-within, any-left}
@@ -103,12 +103,12 @@ dead-pure S x a e = go (isPure (class (x .instruction))) e
     go true e = refl
     go false e = e
 
-dead-unread : (S : Sections) (x : Cell) (a : Row) (s : ℕ) → isDead S x a ≡ true → anyOf (rangeHas s) (writes (S .tables) x) ≡ true → bit a s ≡ false
-unfolding isDead
+dead-unread : (S : Sections) (x : Cell) (a : Row) (s : ℕ) → isDead S x a ≡ true → anyOf (rangeHas s) (sureWrites (S .tables) x) ≡ true → bit a s ≡ false
+unfolding isDead writes
 dead-unread S x a s e h = go (isPure (class (x .instruction))) e
   where
     go : (t : Bool) → cond t (allOf (unread S a) (writes (S .tables) x)) false ≡ true → bit a s ≡ false
-    go true e = unread-slots S a (writes (S .tables) x) s e h
+    go true e = unread-slots S a (writes (S .tables) x) s e (any-left (rangeHas s) (sureWrites (S .tables) x) (perhapsWrites (S .tables) x) h)
     go false e = absurd (false≢true e)
 
 module _ (G : Function) (leaders : List ℕ) (N : Removing G leaders) where
@@ -211,10 +211,10 @@ module _ (G : Function) (leaders : List ℕ) (N : Removing G leaders) where
         → anyOf (rangeHas s) (givenRanges T (cell p)) ≡ false → Live p s
     unfolding givenRanges
     passes-on p h q g s v w =
-        (v .0, before-flow S leaders useful code rows A p s h (v .0) ∙ flow-kept (remains p) _ _ _ (out S leaders useful code rows A p q s (v .0) h g (v .1)) (go (anyOf (rangeHas s) (writes T (cell p))) refl))
+        (v .0, before-flow S leaders useful code rows A p s h (v .0) ∙ flow-kept (remains p) _ _ _ (out S leaders useful code rows A p q s (v .0) h g (v .1)) (go (anyOf (rangeHas s) (sureWrites T (cell p))) refl))
       where
-        go : (t : Bool) → anyOf (rangeHas s) (writes T (cell p)) ≡ t → anyOf (rangeHas s) (writes T (cell p)) ≡ false
-        go true e = absurd (true≢false (sym (any-left (rangeHas s) (writes T (cell p)) _ e) ∙ w))
+        go : (t : Bool) → anyOf (rangeHas s) (sureWrites T (cell p)) ≡ t → anyOf (rangeHas s) (sureWrites T (cell p)) ≡ false
+        go true e = absurd (true≢false (sym (any-left (rangeHas s) (sureWrites T (cell p)) _ e) ∙ w))
         go false e = e
 
     -- a place that is gone passes on what is live
@@ -228,9 +228,9 @@ module _ (G : Function) (leaders : List ℕ) (N : Removing G leaders) where
         let f : isOutside (class (cell p .instruction)) ≡ false = pure-inside (class (cell p .instruction)) pure in
         let k : passes (class (cell p .instruction)) ≡ true = pure-passes (class (cell p .instruction)) pure in
         let a : bit (after S leaders useful code rows p) s ≡ true = out S leaders useful code rows A p (suc p) s (v .0) h (next (passing-falls (class (cell p .instruction)) k)) (v .1) in
-        ap (anyOf (rangeHas s)) (given-writes T (cell p) f) ∙ go (anyOf (rangeHas s) (writes T (cell p))) refl a
+        ap (anyOf (rangeHas s)) (given-sure T (cell p) f) ∙ go (anyOf (rangeHas s) (sureWrites T (cell p))) refl a
       where
-        go : (t : Bool) → anyOf (rangeHas s) (writes T (cell p)) ≡ t → bit (after S leaders useful code rows p) s ≡ true → anyOf (rangeHas s) (writes T (cell p)) ≡ false
+        go : (t : Bool) → anyOf (rangeHas s) (sureWrites T (cell p)) ≡ t → bit (after S leaders useful code rows p) s ≡ true → anyOf (rangeHas s) (sureWrites T (cell p)) ≡ false
         go true e a = absurd (true≢false (sym a ∙ dead-unread S (cell p) (after S leaders useful code rows p) s d e))
         go false e a = e
 

@@ -18,7 +18,7 @@ use Rattle.effects.specs.Check.{operandRefusal}
 use Rattle.flow.specs.Branch.{falls, branches, target}
 use Rattle.values.specs.declared.Atom.{Atom}
 use Rattle.values.specs.Values.{Values, empty}
-use Rattle.values.specs.Number.{Numbered, constantAtom, number, numberFrom, numberCode}
+use Rattle.values.specs.Number.{Numbered, constantAtom, number, numberFrom, numberFromWith, numberCode, numberCodeWith}
 use Rattle.run.specs.Machine.{Words, Event, World, Reply, words, finish, at, put, Act, silent, ask, stop, fail, Node, goto, answered, perform, step, SameRuns}
 use Rattle.run.specs.laws.LockStep.{Holds, held, past, Lock, lock-step}
 use Rattle.run.specs.laws.Removal.{Goes, silently, asked}
@@ -43,7 +43,7 @@ module _ (S : Sections) (leaders : List ℕ) where
 
   numbered-from : (xs : List Cell) (p : ℕ) (t : Values) (k : ℕ) → k < length xs
       → cellAt (numberFrom S leaders p t xs) k ≡ rewrite (cellAt xs k) (number S (p + k) (cellAt xs k .instruction) (tableFrom p t xs k) .instruction)
-  unfolding numberFrom tableFrom
+  unfolding numberFromWith tableFrom
   numbered-from [] p t k h = absurd (omega arith)
   numbered-from (x ∷ xs) p t zero h = rw add-zero
   numbered-from (x ∷ xs) p t (suc k) h = numbered-from xs (suc p) _ k (omega arith) ∙ rw (suc-add p k, add-suc p k)
@@ -57,7 +57,7 @@ module _ (S : Sections) (leaders : List ℕ) where
   table-suc (x ∷ y ∷ xs) p t (suc k) h = table-suc (y ∷ xs) (suc p) _ k (omega arith) ∙ rw (suc-add p (suc k), suc-add p k, add-suc p (suc k), add-suc p k)
 
   length-numbered : (xs : List Cell) (p : ℕ) (t : Values) → length (numberFrom S leaders p t xs) ≡ length xs
-  unfolding numberFrom
+  unfolding numberFromWith
   length-numbered [] p t = refl
   length-numbered (x ∷ xs) p t = ap suc (length-numbered xs (suc p) _)
 
@@ -70,6 +70,7 @@ pub record Numberable (F : Function) (leaders : List ℕ) : Type 0 where
   pub locals : F .sections .locals ≤ 65535
   pub few : length (F .cells) ≤ 65536
   pub described : length (F .cells) ≤ F .described
+  pub typed : length (F .sections .types) ≤ F .sections .locals
   -- the operands are not refused
   pub operands : (p : ℕ) → p < length (F .cells) → operandRefusal (F .sections .locals) (F .sections .tables) (cellAt (F .cells) p) ≡ 0
   pub fields : (p : ℕ) → p < length (F .cells) → Fields (cellAt (F .cells) p .instruction)
@@ -97,11 +98,11 @@ module _ (F : Function) (leaders : List ℕ) (N : Numberable F leaders) where
   numberedFunction = record { cells = numberCode S leaders (F .cells); described = F .described; sections = S }
 
   pub numbered-at : (p : ℕ) → p < length (F .cells) → cellAt (numberedFunction .cells) p ≡ rewrite (cell p) (result p .instruction)
-  unfolding numberedFunction numberCode
+  unfolding numberedFunction numberCodeWith
   numbered-at p h = numbered-from S leaders (F .cells) 0 empty p h ∙ rw zero-add
 
   pub numbered-long : length (numberedFunction .cells) ≡ length (F .cells)
-  unfolding numberedFunction numberCode
+  unfolding numberedFunction numberCodeWith
   numbered-long = length-numbered S leaders (F .cells) 0 empty
 
   table-next : (p : ℕ) → suc p < length (F .cells) → table (suc p) ≡ entering S leaders (suc p) (result p .table)
@@ -128,19 +129,19 @@ module _ (F : Function) (leaders : List ℕ) (N : Numberable F leaders) where
     meant-at : (p : ℕ) (σ : Words) (R : List Event) → p < length (F .cells) → Meant F W p σ R (cell p)
     meant-at p σ R h = let d = N .described in (omega arith, N .operands p h)
 
-    sound-at : (p : ℕ) (σ : Words) (R : List Event) (h : p < length (F .cells)) (Q : Static (S .locals) (table p) p)
-        → Sound F W p σ R (cell p) (meant-at p σ R h) (let f = N .few in omega arith) (table p) Q (result p)
-    sound-at p σ R h Q = number-sound F W p σ R (cell p) (meant-at p σ R h) _ (table p) Q _ refl (N .fields p h) (λ v q. N .constants _ v q p)
+    sound-at : (p : ℕ) (σ : Words) (R : List Event) (h : p < length (F .cells)) (Q : Static (table p) p)
+        → Sound F W p σ R (cell p) (meant-at p σ R h) (let f = N .few in omega arith) (N .typed) (table p) Q (result p)
+    sound-at p σ R h Q = number-sound F W p σ R (cell p) (meant-at p σ R h) _ (N .typed) (table p) Q _ refl (N .fields p h) (λ v q. N .constants _ v q p)
 
     -- the tables are sound by themselves, at every place
-    pub static-at : (p : ℕ) → p < length (F .cells) → Static (S .locals) (table p) p
+    pub static-at : (p : ℕ) → p < length (F .cells) → Static (table p) p
     static-at zero h = rw table-first (static-empty 0)
     static-at (suc p) h =
         let l : p < length (F .cells) = omega arith in
         let s = sound-at p (λ t. 0) [] l (static-at p l) .static in
         rw (table-next p h) (go (eqb (getD leaders (suc p) 0) 1) s)
       where
-        go : (b : Bool) → Static (S .locals) (result p .table) (suc p) → Static (S .locals) (cond b empty (result p .table)) (suc p)
+        go : (b : Bool) → Static (result p .table) (suc p) → Static (cond b empty (result p .table)) (suc p)
         go true s = static-empty (suc p)
         go false s = s
 
@@ -154,7 +155,7 @@ module _ (F : Function) (leaders : List ℕ) (N : Numberable F leaders) where
     holds-answered : (M : Node) (p : ℕ) (σ : Words) (R : List Event) (r : Reply) → ((j : Bool) → goto M p j < length (F .cells) → table (goto M p j) ≡ empty)
         → Holds Inv (answered M p σ R r)
     unfolding answered
-    holds-answered M p σ R (words w j) f = held (inv-empty _ _ (f j))
+    holds-answered M p σ R (words w stored j) f = held (inv-empty _ _ (f j))
     holds-answered M p σ R finish f = past
 
     holds-perform : (M : Node) (p : ℕ) (σ : Words) (R : List Event) (A : Act) → ((j : Bool) → Goes A j → goto M p j < length (F .cells) → table (goto M p j) ≡ empty)

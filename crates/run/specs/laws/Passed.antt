@@ -79,6 +79,7 @@ module _ (F : Function) (w : Well F) (worked : isWorkedOn (length (F .cells)) â‰
         well = record {
           locals = w .locals;
           described = rw (length-map (retainFrom keep 0 code) retainedCell) (omega arith);
+          typed = w .typed;
           fields = retained-fields keep code 0 (numbered-fields F w some-code few o b);
           constants = w .constants;
         };

@@ -17,8 +17,9 @@ use Rattle.instruction.specs.laws.Instruction.{Fields}
 use Rattle.instruction.specs.laws.ReadBack.{read-back}
 use Rattle.unit.specs.Entry.{metadataAt, metadataBytes, goodMetadata}
 use Rattle.unit.specs.laws.UnitLaws.{MetadataFields, metadata-read-back, code-bytes-long, metadata-bytes-all-long, place-bytes-long, result-header-long}
-use Rattle.unit.specs.Result.{Retained, retainedFrom, readResult, resultHeader, codeBytes, metadataBytesAll, placeBytes, resultBytes, resultMetadataAt, resultPlacesAt}
+use Rattle.unit.specs.Result.{Retained, retainedFrom, readResult, resultHeader, codeBytes, metadataBytesAll, placeBytes, lineBytesAll, resultBytes, resultMetadataAt, resultPlacesAt, resultLinesAt}
 use Rattle.unit.specs.Size.{resultHeaderSize, instructionSize, metadataSize, placeSize, maxInstructions}
+use Rattle.unit.specs.declared.Line.{Line}
 use Rattle.unit.specs.declared.Metadata.{Metadata}
 use Rattle.effects.specs.Shape.{noCell}
 use Rattle.pc_map.specs.laws.Retaining.{Section, code-section, metadata-section, place-section}
@@ -63,12 +64,12 @@ AllFit cases kept = (p : ℕ) → p < length kept → Fits cases (retainedAt kep
 middle : (a xs b : List ℕ) (i k : ℕ) → length a ≡ i → length xs ≡ k → midOf i k (a ++ xs ++ b) ≡ xs
 middle a xs b i k e f = ap (take k) (ap (drop i) (append-assoc a xs b) ∙ drop-at a (xs ++ b) i e) ∙ take-at xs b k f
 
-module _ (kept : List Retained) (rest : List ℕ) where
+module _ (kept : List Retained) (lines : List Line) (rest : List ℕ) where
   abbrev k : ℕ
   k = length kept
 
   abbrev header : List ℕ
-  header = resultHeader k
+  header = resultHeader k (length lines)
 
   abbrev code : List ℕ
   code = codeBytes kept
@@ -79,26 +80,31 @@ module _ (kept : List Retained) (rest : List ℕ) where
   abbrev places : List ℕ
   places = placeBytes kept
 
+  -- what stands behind the old places
+  abbrev after : List ℕ
+  after = lineBytesAll lines ++ rest
+
   front : length (header ++ code) ≡ resultMetadataAt k
   front = simp (length-append, result-header-long, code-bytes-long)
 
-  pub code-in : codeIn k (resultBytes kept ++ rest) ≡ codeBytes kept
+  pub code-in : codeIn k (resultBytes kept lines ++ rest) ≡ codeBytes kept
   unfolding resultBytes
   code-in =
-      let e : resultBytes kept ++ rest ≡ header ++ code ++ (metadata ++ (places ++ rest)) = simp append-assoc in
-      ap (codeIn k) e ∙ middle header code (metadata ++ (places ++ rest)) resultHeaderSize (instructionSize * k) (result-header-long k) (code-bytes-long kept)
+      let e : resultBytes kept lines ++ rest ≡ header ++ code ++ (metadata ++ (places ++ after)) = simp append-assoc in
+      ap (codeIn k) e ∙ middle header code (metadata ++ (places ++ after)) resultHeaderSize (instructionSize * k) (result-header-long k (length lines)) (code-bytes-long kept)
 
-  pub metadata-in : metadataIn k (resultBytes kept ++ rest) ≡ metadataBytesAll kept
+  pub metadata-in : metadataIn k (resultBytes kept lines ++ rest) ≡ metadataBytesAll kept
   unfolding resultBytes
   metadata-in =
-      let e : resultBytes kept ++ rest ≡ (header ++ code) ++ metadata ++ (places ++ rest) = simp append-assoc in
-      ap (metadataIn k) e ∙ middle (header ++ code) metadata (places ++ rest) (resultMetadataAt k) (metadataSize * k) front (metadata-bytes-all-long kept)
+      let e : resultBytes kept lines ++ rest ≡ (header ++ code) ++ metadata ++ (places ++ after) = simp append-assoc in
+      ap (metadataIn k) e ∙ middle (header ++ code) metadata (places ++ after) (resultMetadataAt k) (metadataSize * k) front (metadata-bytes-all-long kept)
 
-  pub places-in : placesIn k (resultBytes kept ++ rest) ≡ placeBytes kept
+  pub places-in : placesIn k (resultBytes kept lines ++ rest) ≡ placeBytes kept
   unfolding resultBytes
   places-in =
       let long : length (header ++ code ++ metadata) ≡ resultPlacesAt k = length-append (header ++ code) metadata ∙ rw (front, metadata-bytes-all-long) in
-      middle (header ++ code ++ metadata) places rest (resultPlacesAt k) (placeSize * k) long (place-bytes-long kept)
+      let e : resultBytes kept lines ++ rest ≡ (header ++ code ++ metadata) ++ places ++ after = simp append-assoc in
+      ap (placesIn k) e ∙ middle (header ++ code ++ metadata) places after (resultPlacesAt k) (placeSize * k) long (place-bytes-long kept)
 
 -- ---- their entries
 
@@ -136,10 +142,10 @@ module _ (kept : List Retained) (p : ℕ) (h : p < length kept) where
       ∙ ap fromLe (middle (placeBytes (take p kept)) (toLe 4 (r .place)) (placeBytes (drop (suc p) kept)) (placeSize * p) placeSize (ahead-long place-section kept p h) (length-toLe 4 (r .place)))
       ∙ from-to 4 (r .place) f
 
-pub retained-back : (cases : ℕ) (kept : List Retained) (rest : List ℕ) → AllFit cases kept → retainedIn (length kept) (resultBytes kept ++ rest) ≡ kept
+pub retained-back : (cases : ℕ) (kept : List Retained) (lines : List Line) (rest : List ℕ) → AllFit cases kept → retainedIn (length kept) (resultBytes kept lines ++ rest) ≡ kept
 unfolding retainedFrom
-retained-back cases kept rest f =
-    rw (code-in kept rest, metadata-in kept rest, places-in kept rest)
+retained-back cases kept lines rest f =
+    rw (code-in kept lines rest, metadata-in kept lines rest, places-in kept lines rest)
     (ext-getD noRetained (tabulate (length kept) _) kept (length-tabulate (length kept) _)
     (λ p h.
     let l : p < length kept = rw (length-tabulate (length kept) _) at h in
@@ -148,7 +154,7 @@ retained-back cases kept rest f =
 
 -- ---- the header
 
--- the word of a header between those before it and those after it
+-- the word of a header between those before it and those after it; the last two, of the lines, are not asked for
 word-back : (a b : List ℕ) (i v : ℕ) → length a ≡ i → v < 2 ^ 32 → u32At (a ++ toLe 4 v ++ b) i ≡ v
 word-back a b i v e h = ap fromLe (middle a (toLe 4 v) b i 4 e (length-toLe 4 v)) ∙ from-to 4 v h
 
@@ -174,14 +180,14 @@ module _ (a b c d : ℕ) (rest : List ℕ) where
   fourth-word : d < 2 ^ 32 → u32At (words ++ rest) 12 ≡ d
   fourth-word h = word-back (toLe 4 a ++ toLe 4 b ++ toLe 4 c) rest 12 d (simp (length-append, length-toLe)) h
 
--- a result is what is read of it
-pub result-back : (cases : ℕ) (kept : List Retained) (rest : List ℕ) → length kept ≤ maxInstructions → AllFit cases kept → readResult (resultBytes kept ++ rest) ≡ kept
+-- a result is what is read of it, whatever lines it has
+pub result-back : (cases : ℕ) (kept : List Retained) (lines : List Line) (rest : List ℕ) → length kept ≤ maxInstructions → AllFit cases kept → readResult (resultBytes kept lines ++ rest) ≡ kept
 unfolding readResult resultBytes resultHeader
-result-back cases kept rest few f =
+result-back cases kept lines rest few f =
     let k = length kept in
-    let tail : List ℕ = codeBytes kept ++ (metadataBytesAll kept ++ (placeBytes kept ++ rest)) in
-    let e : resultBytes kept ++ rest ≡ words k resultHeaderSize (resultMetadataAt k) (resultPlacesAt k) tail ++ tail = simp append-assoc in
-    let at : (i v : ℕ) → u32At (words k resultHeaderSize (resultMetadataAt k) (resultPlacesAt k) tail ++ tail) i ≡ v → u32At (resultBytes kept ++ rest) i ≡ v
+    let tail : List ℕ = toLe 4 (length lines) ++ (toLe 4 (resultLinesAt k) ++ (codeBytes kept ++ (metadataBytesAll kept ++ (placeBytes kept ++ (lineBytesAll lines ++ rest))))) in
+    let e : resultBytes kept lines ++ rest ≡ words k resultHeaderSize (resultMetadataAt k) (resultPlacesAt k) tail ++ tail = simp append-assoc in
+    let at : (i v : ℕ) → u32At (words k resultHeaderSize (resultMetadataAt k) (resultPlacesAt k) tail ++ tail) i ≡ v → u32At (resultBytes kept lines ++ rest) i ≡ v
     = λ i v q. ap (λ (l : List ℕ). u32At l i) e ∙ q in
     rw (
       at 0 k (first-word k resultHeaderSize (resultMetadataAt k) (resultPlacesAt k) tail (omega arith)),
@@ -189,4 +195,4 @@ result-back cases kept rest few f =
       at 8 (resultMetadataAt k) (third-word k resultHeaderSize (resultMetadataAt k) (resultPlacesAt k) tail (omega arith)),
       at 12 (resultPlacesAt k) (fourth-word k resultHeaderSize (resultMetadataAt k) (resultPlacesAt k) tail (omega arith)),
     )
-    (retained-back cases kept rest f)
+    (retained-back cases kept lines rest f)

@@ -8,14 +8,14 @@ use Rattle.instruction.specs.declared.Class.{Class}
 use Rattle.instruction.specs.declared.Class.the-variants.{Hint, LoadInt, LoadConst, Copy, CopyN, Unary, Binary, Jump, JumpIf, JumpIfNot, ForLoop, Return, Panic, Outside, Invalid}
 use Rattle.instruction.specs.Instruction.{class}
 use Rattle.effects.specs.Shape.{Tables, Sections, Cell}
-use Rattle.effects.specs.Effects.{allReads, writes, demandsMet}
+use Rattle.effects.specs.Effects.{allReads, sureWrites, perhapsWrites, writes, demandsMet}
 use Rattle.effects.specs.Check.{operandRefusal, effectsSound}
-use Rattle.effects.specs.laws.ByClass.{isOutside, readsByClass, writesByClass, reads-by-class, writes-by-class, demands-by-class}
+use Rattle.effects.specs.laws.ByClass.{isOutside, readsByClass, writesByClass, reads-by-class, sure-by-class, perhaps-by-class, demands-by-class}
 use Rattle.flow.specs.Loop.{isLoopHint}
 use Rattle.pc_map.specs.Relocate.{movedJump, movedForLoop, movedHint, relocateBy}
 use Rattle.run.specs.Machine.{Words, World}
 use Rattle.run.specs.Program.{actBy, event, givenRanges, recordedMetadata}
-use Rattle.run.specs.laws.Gives.{given-writes}
+use Rattle.run.specs.laws.Gives.{given-sure}
 
 -- by a test
 pub pick : {A : Type 0} (P : A → Type 0) (b : Bool) {y z : A} → P y → P z → P (cond b y z)
@@ -74,13 +74,26 @@ module _ (keep : List ℕ) (p : ℕ) (x : Cell) where
         let h : isOutside (class (x .instruction)) ≡ false = rw e f in
         reads-by-class T (relocateBy keep k p x) g ∙ rw (same-class k e, q) (sym (reads-by-class T x h ∙ rw e))
 
+    -- what is written stays
+    pub record SameWrites (y : Cell) : Type 0 where
+      pub sure : sureWrites T y ≡ sureWrites T x
+      pub perhaps : perhapsWrites T y ≡ perhapsWrites T x
+      pub given : givenRanges T y ≡ givenRanges T x
+
+    all-stay : SameWrites x
+    all-stay = record { sure = refl; perhaps = refl; given = refl }
+
     same-writes : (k : Class) → class (x .instruction) ≡ k → isOutside k ≡ false → writesByClass k (relocateBy keep k p x .instruction) ≡ writesByClass k (x .instruction)
-        → (writes T (relocateBy keep k p x) ≡ writes T x) × (givenRanges T (relocateBy keep k p x) ≡ givenRanges T x)
+        → SameWrites (relocateBy keep k p x)
     same-writes k e f q =
         let g : isOutside (class (relocateBy keep k p x .instruction)) ≡ false = rw (same-class k e) f in
         let h : isOutside (class (x .instruction)) ≡ false = rw e f in
-        let w : writes T (relocateBy keep k p x) ≡ writes T x = writes-by-class T (relocateBy keep k p x) g ∙ rw (same-class k e, q) (sym (writes-by-class T x h ∙ rw e)) in
-        (w, given-writes T (relocateBy keep k p x) g ∙ w ∙ sym (given-writes T x h))
+        let w : sureWrites T (relocateBy keep k p x) ≡ sureWrites T x = sure-by-class T (relocateBy keep k p x) g ∙ rw (same-class k e, q) (sym (sure-by-class T x h ∙ rw e)) in
+        record {
+          sure = w;
+          perhaps = perhaps-by-class T (relocateBy keep k p x) g ∙ sym (perhaps-by-class T x h);
+          given = given-sure T (relocateBy keep k p x) g ∙ w ∙ sym (given-sure T x h);
+        }
 
     pub relocated-reads : (k : Class) → class (x .instruction) ≡ k → allReads T (relocateBy keep k p x) ≡ allReads T x
     unfolding relocateBy movedJump movedForLoop readsByClass isOutside
@@ -101,23 +114,23 @@ module _ (keep : List ℕ) (p : ℕ) (x : Cell) where
     relocated-reads Invalid e = refl
 
     pub relocated-writes : (k : Class) → class (x .instruction) ≡ k
-        → (writes T (relocateBy keep k p x) ≡ writes T x) × (givenRanges T (relocateBy keep k p x) ≡ givenRanges T x)
+        → SameWrites (relocateBy keep k p x)
     unfolding relocateBy movedJump movedForLoop writesByClass isOutside
     relocated-writes Hint e = same-writes Hint e refl refl
-    relocated-writes LoadInt e = (refl, refl)
-    relocated-writes LoadConst e = (refl, refl)
-    relocated-writes Copy e = (refl, refl)
-    relocated-writes CopyN e = (refl, refl)
-    relocated-writes Unary e = (refl, refl)
-    relocated-writes Binary e = (refl, refl)
+    relocated-writes LoadInt e = all-stay
+    relocated-writes LoadConst e = all-stay
+    relocated-writes Copy e = all-stay
+    relocated-writes CopyN e = all-stay
+    relocated-writes Unary e = all-stay
+    relocated-writes Binary e = all-stay
     relocated-writes Jump e = same-writes Jump e refl refl
     relocated-writes JumpIf e = same-writes JumpIf e refl refl
     relocated-writes JumpIfNot e = same-writes JumpIfNot e refl refl
     relocated-writes ForLoop e = same-writes ForLoop e refl refl
-    relocated-writes Return e = (refl, refl)
-    relocated-writes Panic e = (refl, refl)
-    relocated-writes Outside e = (refl, refl)
-    relocated-writes Invalid e = (refl, refl)
+    relocated-writes Return e = all-stay
+    relocated-writes Panic e = all-stay
+    relocated-writes Outside e = all-stay
+    relocated-writes Invalid e = all-stay
 
     same-demands : (k : Class) → class (x .instruction) ≡ k → isOutside k ≡ false → demandsMet T (relocateBy keep k p x) ≡ demandsMet T x
     same-demands k e f =
@@ -145,8 +158,8 @@ module _ (keep : List ℕ) (p : ℕ) (x : Cell) where
 
     -- and whether it is refused
     pub relocated-refusal : (s : ℕ) (k : Class) → class (x .instruction) ≡ k → operandRefusal s T (relocateBy keep k p x) ≡ operandRefusal s T x
-    unfolding operandRefusal effectsSound
-    relocated-refusal s k e = rw (relocated-demands k e, relocated-reads k e, relocated-writes k e .0, relocated-op k)
+    unfolding operandRefusal effectsSound writes
+    relocated-refusal s k e = rw (relocated-demands k e, relocated-reads k e, relocated-writes k e .sure, relocated-writes k e .perhaps, relocated-op k)
 
   -- and what it does
   module _ (S : Sections) (W : World) (σ : Words) where

@@ -1,7 +1,7 @@
 -- Removal: places that are not kept go, and the kept ones are moved to the number of kept places before them.
 use mathlib.Core.Path.{_≡_, refl, sym, ap, _∙_, subst}
 use mathlib.Core.Logic.{_⊎_, inl, inr}
-use mathlib.Core.Bool.{Bool, true, false, cond, not}
+use mathlib.Core.Bool.{Bool, true, false, cond, not, _||_}
 use mathlib.Core.List.{List, [], _∷_}
 use mathlib.Core.Option.{none, some}
 use Prim.Native.Nat.{ℕ, _+_, _-_, _≤_, _<_}
@@ -10,7 +10,7 @@ use lib.Dec.{ltb, eqb, T, ltb→lt, lt→ltb, nltb→le, eqb-refl}
 use native.Mathlib.Omega.{arith}
 use Rattle.run.specs.System.{Same}
 use Rattle.run.specs.laws.Simulation.{Sim, simulated}
-use Rattle.run.specs.Machine.{Words, Event, Way, byCode, World, Reply, words, finish, Act, silent, ask, stop, fail, Program, State, at, over, put, goto, answered, perform, step, wayOf, logOf, system}
+use Rattle.run.specs.Machine.{Words, Event, Way, byCode, World, Reply, words, finish, Act, silent, ask, stop, fail, Program, State, at, over, put, goto, replied, answered, perform, step, wayOf, logOf, system}
 
 -- the words of two runs agree on a set of slots
 abbrev pub Agree : (ℕ → Type 0) → Words → Words → Type 0
@@ -34,6 +34,7 @@ module _ (reach : ℕ → Type 0) (live : ℕ → ℕ → Type 0) (bnd : ℕ →
     pub inside : bnd p < P′ .size
     pub acts : (σ σ′ : Words) → Agree (live p) σ σ′ → SameAct (P .node p .gives) (P .node p .act σ) (P′ .node (bnd p) .act σ′)
     pub gives= : (s : ℕ) → P′ .node (bnd p) .gives s ≡ P .node p .gives s
+    pub perhaps= : P′ .node (bnd p) .perhaps ≡ P .node p .perhaps
     pub goto= : (j : Bool) → goto (P′ .node (bnd p)) (bnd p) j ≡ bnd (goto (P .node p) p j)
     pub reach+ : (σ : Words) (j : Bool) → Goes (P .node p .act σ) j → reach (goto (P .node p) p j)
     pub live+ : (σ : Words) (j : Bool) → Goes (P .node p .act σ) j
@@ -111,13 +112,20 @@ le-of-way P p σ R w e = go (ltb p (P .size)) refl
     go true q = let z : _≡_ {A = ℕ} 0 1 = cc in absurd (omega arith)
     go false q = nltb→le p (P .size) (rw q tt)
 
+left-false : (a b : Bool) → (a || b) ≡ false → a ≡ false
+left-false true b e = e
+left-false false b e = refl
+
 module _ (reach : ℕ → Type 0) (live : ℕ → ℕ → Type 0) (bnd : ℕ → ℕ) (W : World) (P P′ : Program) (G : Removal reach live bnd P P′) where
   kept-answer : (p : ℕ) → Kept reach live bnd P P′ p → (σ σ′ : Words) (R : List Event) → Agree (live p) σ σ′ → (e : Event)
       → P .node p .act σ ≡ ask e → (r : Reply) → Rel reach live bnd (answered (P .node p) p σ R r) (answered (P′ .node (bnd p)) (bnd p) σ′ R r)
-  unfolding answered
-  kept-answer p K σ σ′ R ag e q (words w j) =
+  unfolding answered replied
+  kept-answer p K σ σ′ R ag e q (words w stored j) =
       let g : Goes (P .node p .act σ) j = rw q asked in
-      rw (K .goto= j) (on (K .reach+ σ j g) (put-agree _ _ w w σ σ′ (live p) _ (K .gives=) (λ s t. refl) (K .live+ σ j g) ag))
+      let r= : (s : ℕ) → replied (P′ .node (bnd p)) stored s ≡ replied (P .node p) stored s = λ s. rw (K .gives= s, K .perhaps=) in
+      -- what the reply gives no word is not surely given one
+      let l+ : (s : ℕ) → live (goto (P .node p) p j) s → replied (P .node p) stored s ≡ false → live p s = λ s m n. K .live+ σ j g s m (left-false (P .node p .gives s) _ n) in
+      rw (K .goto= j) (on (K .reach+ σ j g) (put-agree _ _ w w σ σ′ (live p) _ r= (λ s t. refl) l+ ag))
   kept-answer p K σ σ′ R ag e q finish = off
 
   kept-move : (p : ℕ) → Kept reach live bnd P P′ p → (σ σ′ : Words) (R : List Event) → Agree (live p) σ σ′

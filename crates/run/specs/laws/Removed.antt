@@ -23,7 +23,7 @@ use Rattle.pc_map.specs.Relocate.{relocate, retainFrom}
 use Rattle.answer.specs.Clean.{retainedCell, cellsAfter}
 use Rattle.run.specs.Machine.{Words, World, silent, goto, SameRuns}
 use Rattle.run.specs.laws.Removal.{Kept, Gone, Removal, removal}
-use Rattle.run.specs.Program.{Function, hasMeaning, classIn, nodeBy, actBy, givenRanges, slotsOf, programOf}
+use Rattle.run.specs.Program.{Function, hasMeaning, classIn, nodeBy, actBy, givenRanges, perhapsSlots, slotsOf, programOf}
 use Rattle.run.specs.Returned.{resultFunction}
 use Rattle.run.specs.laws.Gives.{jump-gives}
 use Rattle.run.specs.laws.Step.{Succ, next, branch, goes-succ}
@@ -140,13 +140,14 @@ module _ (F : Function) (keep : List ℕ) (reach : ℕ → Type 0) (live : ℕ �
       goto-moved p h e false = sym (boundary-kept keep p (rw (← A .long) h) e)
 
       kept-place : (p : ℕ) → p < length (F .cells) → reach p → isKept keep p ≡ true → Kept reach live (boundary keep) (programOf F W) (programOf F′ W) p
-      unfolding programOf nodeBy resultFunction
+      unfolding programOf nodeBy perhapsSlots resultFunction
       kept-place p h r e = record {
         inside = inside p h e;
         acts = λ σ σ′ ag.
             rw (moved-cell p h e, class-moved p h e, class-given p h, relocated-act keep p (cell p) (F .sections) W σ′ (classAt p) refl)
             (frame (F .sections) W (cell p) σ σ′ (classAt p) refl (λ s i. ag s (A .reads p h r e s i)));
-        gives= = λ s. rw (moved-cell p h e, relocated-writes keep p (cell p) T (classAt p) refl .1);
+        gives= = λ s. rw (moved-cell p h e, relocated-writes keep p (cell p) T (classAt p) refl .given);
+        perhaps= = rw (moved-cell p h e, relocated-writes keep p (cell p) T (classAt p) refl .perhaps);
         goto= = goto-moved p h e;
         reach+ = λ σ j g. A .onward p h r _ (rw (class-given p h) (goes-succ F W (classAt p) p (cell p) σ j (rw (class-given p h) at g)));
         live+ = λ σ j g. A .flows p h r e _ (rw (class-given p h) (goes-succ F W (classAt p) p (cell p) σ j (rw (class-given p h) at g)));

@@ -14,24 +14,13 @@ use Rattle.instruction.specs.declared.Class.the-variants.{Hint, LoadInt, LoadCo
 use Rattle.instruction.specs.Class.{classOf}
 use Rattle.values.specs.declared.Atom.{Atom}
 use Rattle.values.specs.declared.Atom.the-variants.{Integer, Float, Definition}
-use Rattle.values.specs.Values.{sameAtom, Expression, sameExpression, Values, empty, atStart, valueIn, slotIn, expressionIn, valueOf, learn}
+use Rattle.values.specs.Values.{sameAtom, Expression, sameExpression, Values, empty, atStart, valueIn, expressionIn, valueOf, store, learn}
+use Rattle.values.specs.laws.Lowest.{same-atom}
 use Rattle.run.specs.Machine.{Words, World, put}
 use Rattle.run.specs.Program.{unaryWord, binaryWord}
 use Rattle.words.specs.laws.Truth.{left-true, right-true}
 
 -- ---- the tests say what they seem to
-
-pub same-atom : (v w : Atom) → sameAtom v w ≡ true → v ≡ w
-unfolding sameAtom
-same-atom (Integer x) (Integer y) e = ap Integer (eqb-true x y e)
-same-atom (Integer x) (Float y) e = absurd (false≢true e)
-same-atom (Integer x) (Definition q t) e = absurd (false≢true e)
-same-atom (Float x) (Integer y) e = absurd (false≢true e)
-same-atom (Float x) (Float y) e = ap Float (eqb-true x y e)
-same-atom (Float x) (Definition q t) e = absurd (false≢true e)
-same-atom (Definition p s) (Integer y) e = absurd (false≢true e)
-same-atom (Definition p s) (Float y) e = absurd (false≢true e)
-same-atom (Definition p s) (Definition q t) e = ap₂ Definition (eqb-true p q (left-true (eqb p q) (eqb s t) e)) (eqb-true s t (right-true (eqb p q) (eqb s t) e))
 
 abbrev expressionOf : ℕ → ℕ → Atom → Atom → Expression
 expressionOf o f l r = record { opcode = o; flags = f; left = l; right = r }
@@ -122,75 +111,48 @@ word-new ρ p s w h = rw (ne-eqb p atStart (λ e. omega arith), eq-eqb p p refl)
 
 -- ---- tables
 
--- What holds of the table before place p whatever the slots hold: it names no later definition, and a recorded slot is one of the
--- function's.
-pub record Static (width : ℕ) (t : Values) (p : ℕ) : Type 0 where
+-- What holds of the table before place p whatever the slots hold: it names no later definition.
+pub record Static (t : Values) (p : ℕ) : Type 0 where
   pub slot< : (s : ℕ) → Below p (valueOf t s)
   pub expression< : (e : Expression) (v : Atom) → expressionIn (t .expressions) e ≡ some v → Below p v × BelowBoth p e
-  pub recorded< : (v : Atom) (r : ℕ) → slotIn (t .recorded) v ≡ some r → r < width
 
 -- It is true of the words of the slots.
 pub record Valid (W : World) (ρ : Valuation) (t : Values) (σ : Words) : Type 0 where
   pub slot= : (s : ℕ) → wordOf ρ (valueOf t s) ≡ σ s
   pub expression= : (e : Expression) (v : Atom) → expressionIn (t .expressions) e ≡ some v → wordOf ρ v ≡ wordOfExpression W ρ e
 
+pub static-empty : (p : ℕ) → Static empty p
+unfolding valueIn expressionIn
+static-empty p = record { slot< = λ s. initially; expression< = λ e v q. let z : _≡_ {A = ℕ} 0 1 = cc in absurd (omega arith) }
+
+pub static-suc : {t : Values} {p : ℕ} → Static t p → Static t (suc p)
+static-suc h = record {
+  slot< = λ s. below-suc (h .slot< s);
+  expression< = λ e v q. let b = h .expression< e v q in (below-suc (b .0), below-both-suc (b .1));
+}
+
 -- slot a holds value v
-unfoldable pub hold : Values → ℕ → Atom → Values
-hold t a v = record { slots = record { slot = a; value = v } ∷ t .slots; recorded = t .recorded; expressions = t .expressions }
+pub static-store : {t : Values} {p : ℕ} (a : ℕ) (v : Atom) → Static t p → Below p v → Static (store t a v) p
+unfolding store valueIn
+static-store {t} {p} a v h b = record { slot< = λ s. under s (eqb a s); expression< = h .expression< }
+  where
+    under : (s : ℕ) (u : Bool) → Below p (cond u v (valueIn (t .slots) s))
+    under s true = b
+    under s false = h .slot< s
 
--- slot s is recorded for value v
-unfoldable pub recorded : Values → ℕ → Atom → Values
-recorded t s v = record { slots = t .slots; recorded = record { slot = s; value = v } ∷ t .recorded; expressions = t .expressions }
-
-module _ {width : ℕ} where
-  pub static-empty : (p : ℕ) → Static width empty p
-  unfolding valueIn slotIn expressionIn
-  static-empty p = record {
-    slot< = λ s. initially;
-    expression< = λ e v q. let z : _≡_ {A = ℕ} 0 1 = cc in absurd (omega arith);
-    recorded< = λ v r q. let z : _≡_ {A = ℕ} 0 1 = cc in absurd (omega arith);
-  }
-
-  pub static-suc : {t : Values} {p : ℕ} → Static width t p → Static width t (suc p)
-  static-suc h = record {
-    slot< = λ s. below-suc (h .slot< s);
-    expression< = λ e v q. let b = h .expression< e v q in (below-suc (b .0), below-both-suc (b .1));
-    recorded< = h .recorded<;
-  }
-
-  pub static-hold : {t : Values} {p : ℕ} (a : ℕ) (v : Atom) → Static width t p → Below p v → Static width (hold t a v) p
-  unfolding hold valueIn
-  static-hold {t} {p} a v h b = record { slot< = λ s. under s (eqb a s); expression< = h .expression<; recorded< = h .recorded< }
-    where
-      under : (s : ℕ) (u : Bool) → Below p (cond u v (valueIn (t .slots) s))
-      under s true = b
-      under s false = h .slot< s
-
-  pub static-record : {t : Values} {p : ℕ} (s : ℕ) (v : Atom) → s < width → Static width t p → Static width (recorded t s v) p
-  unfolding recorded slotIn
-  static-record {t} s v l h = record { slot< = h .slot<; expression< = h .expression<; recorded< = λ u r q. go u r (sameAtom v u) q }
-    where
-      go : (u : Atom) (r : ℕ) (b : Bool) → cond b (some s) (slotIn (t .recorded) u) ≡ some r → r < width
-      go u r true q = let z : s ≡ r = cc in rw z at l
-      go u r false q = h .recorded< u r q
-
-  -- a fresh definition at place p
-  pub static-learn : {t : Values} {p : ℕ} (e : Expression) (a : ℕ) → Static width t p → BelowBoth p e → Static width (learn t e (Definition p a)) (suc p)
-  unfolding learn expressionIn
-  static-learn {t} {p} e a h be = record {
-    slot< = λ s. below-suc (h .slot< s);
-    expression< = λ d v m. go d v (sameExpression e d) refl m;
-    recorded< = h .recorded<;
-  }
-    where
-      go : (d : Expression) (v : Atom) (u : Bool) → sameExpression e d ≡ u → cond u (some (Definition p a)) (expressionIn (t .expressions) d) ≡ some v
-          → Below (suc p) v × BelowBoth (suc p) d
-      go d v true i m =
-          let d= : e ≡ d = same-expression e d i in
-          let v= : Definition p a ≡ v = cc in
-          let k : p < suc p = omega arith in
-          rw (← d=, ← v=) (before k, below-both-suc be)
-      go d v false i m = let b = h .expression< d v m in (below-suc (b .0), below-both-suc (b .1))
+-- a fresh definition at place p
+pub static-learn : {t : Values} {p : ℕ} (e : Expression) (a : ℕ) → Static t p → BelowBoth p e → Static (learn t e (Definition p a)) (suc p)
+unfolding learn expressionIn
+static-learn {t} {p} e a h be = record { slot< = λ s. below-suc (h .slot< s); expression< = λ d v m. go d v (sameExpression e d) refl m }
+  where
+    go : (d : Expression) (v : Atom) (u : Bool) → sameExpression e d ≡ u → cond u (some (Definition p a)) (expressionIn (t .expressions) d) ≡ some v
+        → Below (suc p) v × BelowBoth (suc p) d
+    go d v true i m =
+        let d= : e ≡ d = same-expression e d i in
+        let v= : Definition p a ≡ v = cc in
+        let k : p < suc p = omega arith in
+        rw (← d=, ← v=) (before k, below-both-suc be)
+    go d v false i m = let b = h .expression< d v m in (below-suc (b .0), below-both-suc (b .1))
 
 module _ {W : World} where
   -- each slot holds the word that it has
@@ -202,24 +164,20 @@ module _ {W : World} where
   }
 
   -- the slots that g names are slot a alone, which is given the word of v
-  pub valid-hold : {ρ : Valuation} {t : Values} {σ : Words} (g : ℕ → Bool) (a : ℕ) (v : Atom) (w : ℕ) → ((s : ℕ) → g s ≡ eqb a s)
-      → Valid W ρ t σ → wordOf ρ v ≡ w → Valid W ρ (hold t a v) (put g (λ s. w) σ)
-  unfolding hold put valueIn
-  valid-hold {ρ} {t} {σ} g a v w is h e = record { slot= = λ s. rw (is s) (same s (eqb a s)); expression= = h .expression= }
+  pub valid-store : {ρ : Valuation} {t : Values} {σ : Words} (g : ℕ → Bool) (a : ℕ) (v : Atom) (w : ℕ) → ((s : ℕ) → g s ≡ eqb a s)
+      → Valid W ρ t σ → wordOf ρ v ≡ w → Valid W ρ (store t a v) (put g (λ s. w) σ)
+  unfolding store put valueIn
+  valid-store {ρ} {t} {σ} g a v w is h e = record { slot= = λ s. rw (is s) (same s (eqb a s)); expression= = h .expression= }
     where
       same : (s : ℕ) (u : Bool) → wordOf ρ (cond u v (valueIn (t .slots) s)) ≡ cond u w (σ s)
       same s true = e
       same s false = h .slot= s
 
-  pub valid-record : {ρ : Valuation} {t : Values} {σ : Words} (s : ℕ) (v : Atom) → Valid W ρ t σ → Valid W ρ (recorded t s v) σ
-  unfolding recorded
-  valid-record s v h = record { slot= = h .slot=; expression= = h .expression= }
-
   -- a fresh definition: its word is the expression's
-  pub valid-learn : {width : ℕ} {ρ : Valuation} {t : Values} {p : ℕ} {σ : Words} (e : Expression) (a w : ℕ) → p < atStart → Static width t p → Valid W ρ t σ → BelowBoth p e
+  pub valid-learn : {ρ : Valuation} {t : Values} {p : ℕ} {σ : Words} (e : Expression) (a w : ℕ) → p < atStart → Static t p → Valid W ρ t σ → BelowBoth p e
       → wordOfExpression W ρ e ≡ w → Valid W (define ρ p w) (learn t e (Definition p a)) σ
   unfolding learn expressionIn
-  valid-learn {width} {ρ} {t} {p} {σ} e a w l k h be q = record {
+  valid-learn {ρ} {t} {p} {σ} e a w l k h be q = record {
     slot= = λ s. word-old ρ w (k .slot< s) ∙ h .slot= s;
     expression= = λ d v m. eq d v (sameExpression e d) refl m;
   }

@@ -11,7 +11,7 @@ use Rattle.short.proofs.header_word.Tie as tie
 
 -- the words by the unit's end
 by-end : (n end : ℕ) → end ≡ unitSize n
-    → (n ∷ n ∷ 2 ∷ 2 ∷ 0 ∷ 0 ∷ 0 ∷ 0 ∷ 0 ∷ headerSize ∷ (headerSize + instructionSize * n) ∷ (end - 2) ∷ end ∷ end ∷ end ∷ end ∷ []) ≡ headerWords n
+    → (n ∷ n ∷ 2 ∷ 2 ∷ 0 ∷ 0 ∷ 0 ∷ 0 ∷ 0 ∷ headerSize ∷ (headerSize + instructionSize * n) ∷ (end - 2) ∷ end ∷ end ∷ end ∷ end ∷ 0 ∷ end ∷ []) ≡ headerWords n
 unfolding headerWords
 by-end n end e =
     let types : end - 2 ≡ headerSize + instructionSize * n + metadataSize * n = omega arith in

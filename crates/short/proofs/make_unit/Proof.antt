@@ -50,9 +50,6 @@ slice-write-out c =
 loop-again : tie.Need-loop-again Inv-loop μ-loop
 loop-again c = written-more (c .before .before .loop .inv) (c .before .loop-test .taken) _ (c .byte .ensures)
 
-cast-result : tie.Need-cast-result Inv-loop μ-loop
-cast-result c = let d = known (c .before .before) in let n = few d in omega (arith, d .end-is)
-
 same-length : tie.Need-same-length Inv-loop μ-loop
 same-length c = written-long (c .before .loop .inv)
 
@@ -78,6 +75,6 @@ make-unit-spec =
     (λ c. search needs)
     (λ c. search needs)
     loop-again
-    cast-result
+    (λ c. let d = known (c .before .before) in let n = few d in omega (arith, d .end-is))
     same-length
     returns-3)

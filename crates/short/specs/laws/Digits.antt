@@ -85,7 +85,7 @@ little-endian-at w (x ∷ xs) (suc q) j h k =
 
 -- ---- the unit of a function of n instructions
 
-pub header-words : (n : ℕ) → length (headerWords n) ≡ 16
+pub header-words : (n : ℕ) → length (headerWords n) ≡ 18
 unfolding headerWords
 header-words n = refl
 
@@ -116,7 +116,7 @@ module _ (code : List Instruction) where
   words-long = rw (length-append, front-long, middle-long)
 
   -- a byte of the header, of the code, and behind it
-  pub header-byte : (q j : ℕ) → q < 16 → j < 4 → getD (unitOfCode code) (4 * q + j) 0 ≡ getD (headerWords n) q 0 / 256 ^ j % 256
+  pub header-byte : (q j : ℕ) → q < 18 → j < 4 → getD (unitOfCode code) (4 * q + j) 0 ≡ getD (headerWords n) q 0 / 256 ^ j % 256
   unfolding unitOfCode
   header-byte q j h k =
       List·getD-append (front ++ middle) zeros 0 (4 * q + j) (rw words-long (omega arith))

@@ -15,13 +15,14 @@ use Rattle.words.specs.laws.Le.{from-to}
 use Rattle.words.specs.laws.Lists.{every-at}
 use Rattle.words.specs.laws.Regions.{mid-long}
 use Rattle.words.specs.laws.Truth.{both}
-use Rattle.unit.specs.Entry.{metadataAt, metadataBytes, goodMetadata, typeAt, goodType, goodConstant, caseAt, goodCase}
-use Rattle.unit.specs.Layout.{headerOf, sectionsFollow, goodCounts, goodEntries, hasSections, isUnit, wideSelect, afterUnit, layoutOf, codeOf, metadataOf, typesOf, constantsOf, functionsOf, externsOf, casesOf}
-use Rattle.unit.specs.Refusal.{notUnit, tooManyCases}
-use Rattle.unit.specs.Result.{Retained, resultHeader, codeBytes, metadataBytesAll, placeBytes, resultBytes}
-use Rattle.unit.specs.Size.{headerSize, instructionSize, metadataSize, constantSize, functionSize, externSize, caseSize, maxLocalSlots, resultSize}
+use Rattle.unit.specs.Entry.{metadataAt, metadataBytes, lineBytes, goodMetadata, typeAt, goodType, goodConstant, caseAt, goodCase}
+use Rattle.unit.specs.Layout.{headerOf, sectionsFollow, goodCounts, goodEntries, hasSections, isUnit, linesRise, wideSelect, afterLines, afterUnit, layoutOf, codeOf, metadataOf, typesOf, constantsOf, functionsOf, externsOf, casesOf, linesOf}
+use Rattle.unit.specs.Refusal.{notUnit, linePlaces, tooManyCases}
+use Rattle.unit.specs.Result.{Retained, resultHeader, codeBytes, metadataBytesAll, placeBytes, lineBytesAll, resultBytes}
+use Rattle.unit.specs.Size.{headerSize, instructionSize, metadataSize, constantSize, functionSize, externSize, caseSize, lineSize, maxLocalSlots, resultHeaderSize, resultSize}
 use Rattle.unit.specs.declared.Header.{Header}
 use Rattle.unit.specs.declared.Layout.the-variants.{Unit, Refused}
+use Rattle.unit.specs.declared.Line.{Line}
 use Rattle.unit.specs.declared.Metadata.{Metadata}
 
 passed : (s t : Bool) → cond s t false ≡ true → (s ≡ true) × (t ≡ true)
@@ -37,12 +38,14 @@ pub record Sections (h : Header) (size : ℕ) : Type 0 where
   pub functions : h .offsets .functions ≡ h .offsets .constants + constantSize * h .counts .constants
   pub externs : h .offsets .externs ≡ h .offsets .functions + functionSize * h .counts .functions
   pub cases : h .offsets .cases ≡ h .offsets .externs + externSize * h .counts .externs
-  pub end : size ≡ h .offsets .cases + caseSize * h .counts .cases
+  pub lines : h .offsets .lines ≡ h .offsets .cases + caseSize * h .counts .cases
+  pub end : size ≡ h .offsets .lines + lineSize * h .counts .lines
 
 pub sections-follow : (h : Header) (size : ℕ) → sectionsFollow h size ≡ true → Sections h size
 unfolding sectionsFollow
 sections-follow h size e =
-    let cases = both _ _ e in
+    let lines = both _ _ e in
+    let cases = both _ _ (lines .0) in
     let externs = both _ _ (cases .0) in
     let functions = both _ _ (externs .0) in
     let constants = both _ _ (functions .0) in
@@ -57,7 +60,8 @@ sections-follow h size e =
       functions = eqb-true _ _ (constants .1);
       externs = eqb-true _ _ (functions .1);
       cases = eqb-true _ _ (externs .1);
-      end = eqb-true _ _ (cases .1);
+      lines = eqb-true _ _ (cases .1);
+      end = eqb-true _ _ (lines .1);
     }
 
 -- so each section lies within the unit
@@ -69,9 +73,10 @@ pub record Within (h : Header) (size : ℕ) : Type 0 where
   pub functions : h .offsets .functions + functionSize * h .counts .functions ≤ size
   pub externs : h .offsets .externs + externSize * h .counts .externs ≤ size
   pub cases : h .offsets .cases + caseSize * h .counts .cases ≤ size
+  pub lines : h .offsets .lines + lineSize * h .counts .lines ≤ size
 
 pub within : (h : Header) (size : ℕ) → Sections h size → Within h size
-within h size s = record { code = omega arith; metadata = omega arith; types = omega arith; constants = omega arith; functions = omega arith; externs = omega arith; cases = omega arith }
+within h size s = record { code = omega arith; metadata = omega arith; types = omega arith; constants = omega arith; functions = omega arith; externs = omega arith; cases = omega arith; lines = omega arith }
 
 -- and has as many entries as the header says
 pub record Lengths (u : List ℕ) : Type 0 where
@@ -82,6 +87,7 @@ pub record Lengths (u : List ℕ) : Type 0 where
   pub functions : length (functionsOf u) ≡ functionSize * headerOf u .counts .functions
   pub externs : length (externsOf u) ≡ externSize * headerOf u .counts .externs
   pub cases : length (casesOf u) ≡ caseSize * headerOf u .counts .cases
+  pub lines : length (linesOf u) ≡ lineSize * headerOf u .counts .lines
 
 pub lengths : (u : List ℕ) → Within (headerOf u) (length u) → Lengths u
 lengths u w =
@@ -94,6 +100,7 @@ lengths u w =
       functions = mid-long u (h .offsets .functions) (functionSize * h .counts .functions) (w .functions);
       externs = mid-long u (h .offsets .externs) (externSize * h .counts .externs) (w .externs);
       cases = mid-long u (h .offsets .cases) (caseSize * h .counts .cases) (w .cases);
+      lines = mid-long u (h .offsets .lines) (lineSize * h .counts .lines) (w .lines);
     }
 
 -- each of which is good
@@ -170,22 +177,28 @@ pub not-laid-out : (u : List ℕ) → isUnit u ≡ false → layoutOf u ≡ Refu
 unfolding layoutOf
 not-laid-out u e = rw e
 
-pub too-many-cases : (u : List ℕ) → isUnit u ≡ true → wideSelect u < headerOf u .counts .metadata → layoutOf u ≡ Refused tooManyCases (wideSelect u)
+pub lines-fall : (u : List ℕ) → isUnit u ≡ true → linesRise u ≡ false → layoutOf u ≡ Refused linePlaces 0
 unfolding layoutOf afterUnit
-too-many-cases u e h = rw (e, lt-ltb (wideSelect u) (headerOf u .counts .metadata) h)
+lines-fall u e f = rw (e, f)
 
-pub laid-out : (u : List ℕ) → isUnit u ≡ true → headerOf u .counts .metadata ≤ wideSelect u → layoutOf u ≡ Unit (headerOf u)
-unfolding layoutOf afterUnit
-laid-out u e h = rw (e, le-ltb (wideSelect u) (headerOf u .counts .metadata) h)
+pub too-many-cases : (u : List ℕ) → isUnit u ≡ true → linesRise u ≡ true → wideSelect u < headerOf u .counts .metadata → layoutOf u ≡ Refused tooManyCases (wideSelect u)
+unfolding layoutOf afterUnit afterLines
+too-many-cases u e f h = rw (e, f, lt-ltb (wideSelect u) (headerOf u .counts .metadata) h)
 
-pub layout-unit : (u : List ℕ) (h : Header) → layoutOf u ≡ Unit h → (isUnit u ≡ true) × (h ≡ headerOf u)
-unfolding layoutOf afterUnit
-layout-unit u h = go (isUnit u) refl (ltb (wideSelect u) (headerOf u .counts .metadata))
+pub laid-out : (u : List ℕ) → isUnit u ≡ true → linesRise u ≡ true → headerOf u .counts .metadata ≤ wideSelect u → layoutOf u ≡ Unit (headerOf u)
+unfolding layoutOf afterUnit afterLines
+laid-out u e f h = rw (e, f, le-ltb (wideSelect u) (headerOf u .counts .metadata) h)
+
+pub layout-unit : (u : List ℕ) (h : Header) → layoutOf u ≡ Unit h → (isUnit u ≡ true) × (h ≡ headerOf u) × (linesRise u ≡ true)
+unfolding layoutOf afterUnit afterLines
+layout-unit u h = go (isUnit u) refl (linesRise u) refl (ltb (wideSelect u) (headerOf u .counts .metadata))
   where
-    go : (t : Bool) → isUnit u ≡ t → (w : Bool) → cond t (cond w (Refused tooManyCases (wideSelect u)) (Unit (headerOf u))) (Refused notUnit 0) ≡ Unit h → (isUnit u ≡ true) × (h ≡ headerOf u)
-    go true r true e = let z : _≡_ {A = ℕ} 0 1 = cc in absurd (omega arith)
-    go true r false e = (r, cc)
-    go false r w e = let z : _≡_ {A = ℕ} 0 1 = cc in absurd (omega arith)
+    go : (t : Bool) → isUnit u ≡ t → (l : Bool) → linesRise u ≡ l → (w : Bool)
+        → cond t (cond l (cond w (Refused tooManyCases (wideSelect u)) (Unit (headerOf u))) (Refused linePlaces 0)) (Refused notUnit 0) ≡ Unit h → (isUnit u ≡ true) × (h ≡ headerOf u) × (linesRise u ≡ true)
+    go true r true f true e = let z : _≡_ {A = ℕ} 0 1 = cc in absurd (omega arith)
+    go true r true f false e = (r, cc, f)
+    go true r false f w e = let z : _≡_ {A = ℕ} 0 1 = cc in absurd (omega arith)
+    go false r l f w e = let z : _≡_ {A = ℕ} 0 1 = cc in absurd (omega arith)
 
 -- every field of an entry fits its width
 pub record MetadataFields (d : Metadata) : Type 0 where
@@ -240,8 +253,8 @@ pub metadata-read-back : (a b : List ℕ) (k : ℕ) (d : Metadata) → length a 
 metadata-read-back a b k d long f = metadata-at-place a (metadataBytes d) b k long (metadata-bytes-long d) ∙ entry-read-back d f
 
 -- bytes that come from entries, k for each
-entries-long : (k : ℕ) (bytes : List Retained → List ℕ) → length (bytes []) ≡ 0 → ((x : Retained) (xs : List Retained) → length (bytes (x ∷ xs)) ≡ k + length (bytes xs))
-    → (xs : List Retained) → length (bytes xs) ≡ k * length xs
+entries-long : {A : Type 0} (k : ℕ) (bytes : List A → List ℕ) → length (bytes []) ≡ 0 → ((x : A) (xs : List A) → length (bytes (x ∷ xs)) ≡ k + length (bytes xs))
+    → (xs : List A) → length (bytes xs) ≡ k * length xs
 entries-long k bytes none more [] = none ∙ sym (mul-zero k)
 entries-long k bytes none more (x ∷ xs) = more x xs ∙ ap (λ (n : ℕ). k + n) (entries-long k bytes none more xs) ∙ rw mul-suc (omega arith)
 
@@ -257,10 +270,14 @@ pub place-bytes-long : (xs : List Retained) → length (placeBytes xs) ≡ 4 * l
 unfolding placeBytes toLe
 place-bytes-long = entries-long 4 placeBytes refl (λ x xs. omega arith)
 
-pub result-header-long : (k : ℕ) → length (resultHeader k) ≡ 16
-unfolding resultHeader toLe
-result-header-long k = refl
+pub line-bytes-all-long : (ls : List Line) → length (lineBytesAll ls) ≡ lineSize * length ls
+unfolding lineBytesAll lineBytes toLe
+line-bytes-all-long = entries-long 8 lineBytesAll refl (λ x xs. omega arith)
 
-pub result-long : (xs : List Retained) → length (resultBytes xs) ≡ resultSize (length xs)
+pub result-header-long : (k l : ℕ) → length (resultHeader k l) ≡ resultHeaderSize
+unfolding resultHeader toLe
+result-header-long k l = refl
+
+pub result-long : (xs : List Retained) (ls : List Line) → length (resultBytes xs ls) ≡ resultSize (length xs) (length ls)
 unfolding resultBytes
-result-long xs = simp (length-append, result-header-long, code-bytes-long, metadata-bytes-all-long, place-bytes-long) (omega arith)
+result-long xs ls = simp (length-append, result-header-long, code-bytes-long, metadata-bytes-all-long, place-bytes-long, line-bytes-all-long) (omega arith)

@@ -13,7 +13,7 @@ use Rattle.instruction.specs.Instruction.{ofWord, class}
 use Rattle.effects.specs.Shape.{Tables}
 use Rattle.effects.specs.Effects.{rangeHas, anyOf}
 use Rattle.effects.specs.laws.Form.{emptyRange}
-use Rattle.effects.specs.laws.ByClass.{readsByClass, writesByClass, reads-by-class, writes-by-class}
+use Rattle.effects.specs.laws.ByClass.{readsByClass, writesByClass, reads-by-class, sure-by-class}
 use Rattle.effects.specs.laws.Branching.{isBranching, readsCondition, isLoop, by-branching, branching-inside}
 use Rattle.unit.specs.declared.Metadata.{Metadata}
 use Rattle.use_def.specs.laws.Sets.{Put, range, slotIf, slot-within}
@@ -83,7 +83,7 @@ module _ (w : ℕ) (e : isBranching (class (ofWord w)) ≡ true) (T : Tables) (m
   put-branch-reads l l₁ l₂ x y a b f d g h q s =
       let inside = branching-inside k e in
       before-read T (cell w m) l l₂
-      (λ t n. rw (writes-by-class T (cell w m) inside) (not-read k e (ofWord w) t (rw (reads-by-class T (cell w m) inside) at n)))
+      (λ t n. rw (sure-by-class T (cell w m) inside) (not-read k e (ofWord w) t (rw (reads-by-class T (cell w m) inside) at n)))
       (put-slot-reads T (cell w m) k refl inside l l₁ l₂ x y a b (rw (f, d) (condition-read k e (ofWord w))) (rw (g, h) (limit-read k e (ofWord w))) q s)
 
 -- it is no store, so it is not dead

@@ -14,16 +14,16 @@ use Rattle.unit.specs.declared.Metadata.{Metadata}
 use Rattle.unit.specs.Entry.{metadataAt}
 use Rattle.effects.specs.declared.Range.{Range}
 use Rattle.effects.specs.Shape.{Tables, Cell, rangeOf}
-use Rattle.effects.specs.Effects.{allReads, writes}
+use Rattle.effects.specs.Effects.{allReads, sureWrites}
 use Rattle.effects.specs.laws.Form.{formAt, unpack, rowOf}
 use Rattle.effects.specs.laws.TableRows.{rows-read, rows-write}
-use Rattle.effects.specs.laws.Ranges.{CasesInside, reads-other, writes-other}
+use Rattle.effects.specs.laws.Ranges.{CasesInside, reads-other, sure-parts}
 use Rattle.effects.specs.laws.Plain.{isPlain, slot-form}
 
--- what an instruction touches with metadata m is what it touches with m′
+-- what an instruction reads and surely writes with metadata m is what it does with m′
 pub record SameRanges (i : Instruction) (m m′ : Metadata) : Type 0 where
   pub reads : (T : Tables) → allReads T (record { instruction = i; metadata = m }) ≡ allReads T (record { instruction = i; metadata = m′ })
-  pub writes : (T : Tables) → writes T (record { instruction = i; metadata = m }) ≡ writes T (record { instruction = i; metadata = m′ })
+  pub writes : (T : Tables) → sureWrites T (record { instruction = i; metadata = m }) ≡ sureWrites T (record { instruction = i; metadata = m′ })
   pub cases : (l : List ℕ) → CasesInside l (record { instruction = i; metadata = m′ }) → CasesInside l (record { instruction = i; metadata = m })
 
 module _ (i : Instruction) (m m′ : Metadata) where
@@ -72,7 +72,7 @@ module _ (i : Instruction) (m m′ : Metadata) where
       let past : row / 2 ^ 40 ≡ 0 = omega arith in
       record {
         reads = λ T. rw (reads-other T (x T) other, reads-other T (x′ T) other, ← rows-read (i .op)) (each T (row % 16) v form second);
-        writes = λ T. rw (writes-other T (x T) other, writes-other T (x′ T) other, ← rows-write (i .op), past) (none T (row / 16 % 16));
+        writes = λ T. rw (sure-parts T (x T), sure-parts T (x′ T), ← rows-write (i .op), past) (none T (row / 16 % 16));
         cases = λ l f e. absurd (other e);
       }
 

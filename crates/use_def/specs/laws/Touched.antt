@@ -1,4 +1,4 @@
--- The slots that an instruction reads and those that it writes, over all its ranges.
+-- The slots that an instruction reads and those that it surely writes, over all its ranges.
 -- Assumes nothing.
 use mathlib.Core.Path.{_≡_, refl, sym, ap, _∙_}
 use mathlib.Core.Bool.{Bool, true, false, cond, not, _&&_, _||_, and-true, or-false}
@@ -16,13 +16,13 @@ use Rattle.instruction.specs.declared.Class.the-variants.{Hint, LoadInt, LoadCo
 use Rattle.instruction.specs.Instruction.{ofWord, class}
 use Rattle.unit.specs.declared.Metadata.{Metadata}
 use Rattle.effects.specs.declared.Range.{Range}
-use Rattle.effects.specs.Shape.{Tables, Cell}
-use Rattle.effects.specs.Effects.{allReads, writes, rangeHas, rangeWithin, anyOf, allOf}
+use Rattle.effects.specs.Shape.{Tables, Cell, tablesOf}
+use Rattle.effects.specs.Effects.{allReads, sureWrites, rangeHas, rangeWithin, anyOf, allOf}
 use Rattle.effects.specs.laws.Form.{emptyRange}
 use Rattle.words.specs.laws.Truth.{left-true, right-true}
 use Rattle.effects.specs.laws.Operands.{all-at}
-use Rattle.effects.specs.laws.Ranges.{CasesInside}
-use Rattle.effects.specs.laws.ByClass.{isOutside, readsByClass, writesByClass, reads-by-class, writes-by-class}
+use Rattle.effects.specs.laws.Ranges.{CasesInside, same-sure}
+use Rattle.effects.specs.laws.ByClass.{isOutside, readsByClass, writesByClass, reads-by-class, sure-by-class}
 use Rattle.use_def.specs.laws.Sets.{Put, slotIf, put-more, put-as, put-slot, has-none}
 
 -- an instruction's word with metadata
@@ -37,7 +37,7 @@ abbrev pub reading : Tables → Cell → ℕ → Bool
 reading T x = touches (allReads T x)
 
 abbrev pub writing : Tables → Cell → ℕ → Bool
-writing T x = touches (writes T x)
+writing T x = touches (sureWrites T x)
 
 -- no range leaves the s slots
 abbrev pub Within : ℕ → List Range → Type 0
@@ -48,7 +48,16 @@ pub record Fits (count : ℕ) (T : Tables) (x : Cell) : Type 0 where
   pub few : count ≤ 1024
   pub cases : CasesInside (T .cases) x
   pub reads-fit : Within (64 * count) (allReads T x)
-  pub writes-fit : Within (64 * count) (writes T x)
+  pub writes-fit : Within (64 * count) (sureWrites T x)
+
+-- one whose surely written slots do; these are the same with any cases
+pub record WritesFit (count : ℕ) (functions externs : List ℕ) (x : Cell) : Type 0 where
+  pub few : count ≤ 1024
+  pub fit : (cases : List ℕ) → Within (64 * count) (sureWrites (tablesOf functions externs cases) x)
+
+pub writes-fit-any : {count : ℕ} {functions externs cases : List ℕ} {x : Cell} → Fits count (tablesOf functions externs cases) x → WritesFit count functions externs x
+writes-fit-any {count} {functions} {externs} {cases} {x} f =
+    record { few = f .few; fit = λ any. rw (same-sure functions externs any cases x) (f .writes-fit) }
 
 -- what is live before an instruction, of what is live after it
 abbrev pub Before : Tables → Cell → List ℕ → List ℕ → Type 0
@@ -185,8 +194,8 @@ module _ (T : Tables) (x : Cell) (k : Class) (e : k ≡ class (x .instruction)) 
   reads-here : allReads T x ≡ readsByClass k (x .instruction)
   reads-here = rw e (reads-by-class T x (rw e at inside))
 
-  writes-here : writes T x ≡ writesByClass k (x .instruction)
-  writes-here = rw e (writes-by-class T x (rw e at inside))
+  writes-here : sureWrites T x ≡ writesByClass k (x .instruction)
+  writes-here = rw e (sure-by-class T x (rw e at inside))
 
   pub put-reads : (b : Bool) (l l₁ l₂ : List ℕ) (f g : Range) → f ≡ getD (readsByClass k (x .instruction)) 0 emptyRange → g ≡ getD (readsByClass k (x .instruction)) 1 emptyRange
       → Put b (λ t. rangeHas t f) l l₁ → Put b (λ t. rangeHas t g) l₁ l₂ → Put b (reading T x) l l₂
@@ -210,5 +219,5 @@ module _ (T : Tables) (x : Cell) (k : Class) (e : k ≡ class (x .instruction)) 
   pub reads-in : (s j : ℕ) (f : Range) → Within s (allReads T x) → f ≡ getD (readsByClass k (x .instruction)) j emptyRange → rangeWithin s f ≡ true
   reads-in s j f w d = rw d (within-any s (readsByClass k (x .instruction)) (rw reads-here at w) j)
 
-  pub writes-in : (s j : ℕ) (f : Range) → Within s (writes T x) → f ≡ getD (writesByClass k (x .instruction)) j emptyRange → rangeWithin s f ≡ true
+  pub writes-in : (s j : ℕ) (f : Range) → Within s (sureWrites T x) → f ≡ getD (writesByClass k (x .instruction)) j emptyRange → rangeWithin s f ≡ true
   writes-in s j f w d = rw d (within-any s (writesByClass k (x .instruction)) (rw writes-here at w) j)

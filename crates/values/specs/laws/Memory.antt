@@ -1,15 +1,15 @@
--- The table of values in lent memory, by value numbers: each slot has the number of its value, each number has a mark of the slot
--- that is recorded for it, and two tables of entries give the numbers of constants and of expressions.
+-- The table of values in lent memory, by value numbers: each slot has the number of its value, each number has bounds of the slots
+-- that hold it, and two tables of entries give the numbers of constants and of expressions.
 -- Assumes nothing.
 use mathlib.Core.Path.{_≡_}
-use mathlib.Core.Bool.{cond, _&&_}
+use mathlib.Core.Bool.{Bool, true, false, cond, _&&_}
 use mathlib.Core.List.{List}
 use mathlib.Core.Option.{Option, none, some}
 use Prim.Native.Nat.{ℕ, zero, suc, _+_, _*_, _-_, _/_, _%_, _≤_, _<_}
 use lib.Dec.{eqb, ltb}
 use lib.ListN.{length, getD}
 use borrow.Rule.Slice.PartMut.{midOf}
-use Rattle.values.specs.Values.{Values, Expression, atStart, valueIn, slotIn, expressionIn}
+use Rattle.values.specs.Values.{Values, Expression, atStart, valueIn, expressionIn}
 use Rattle.values.specs.laws.Entries.{Key, key, keyAt, value, newest, Linked}
 use Rattle.values.specs.declared.Atom.{Atom}
 use Rattle.values.specs.declared.Atom.the-variants.{Integer, Float, Definition}
@@ -22,29 +22,29 @@ use Rattle.values.specs.declared.Found.the-variants.{At, Nothing}
 abbrev pub part : ℕ → ℕ → List ℕ → List ℕ
 part a e t = midOf a (e - a) t
 
--- Where the regions start: the epoch and the numbers of constants and of expressions; a word for each of S slots; a mark for each
--- number; then twice 5 n words of entries.
+-- Where the regions start: the epoch and the numbers of constants and of expressions; a word for each of S slots; two words of
+-- bounds for each number; then twice 5 n words of entries.
 abbrev pub slotsAt : ℕ
 slotsAt = 3
 
-abbrev pub marksAt : ℕ → ℕ
-marksAt S = 3 + S
+abbrev pub boundsAt : ℕ → ℕ
+boundsAt S = 3 + S
 
 abbrev pub constantsAt : ℕ → ℕ → ℕ
-constantsAt n S = 4 + 2 * S + 2 * n
+constantsAt n S = 5 + 3 * S + 4 * n
 
 abbrev pub expressionsAt : ℕ → ℕ → ℕ
-expressionsAt n S = 4 + 2 * S + 7 * n
+expressionsAt n S = 5 + 3 * S + 9 * n
 
 abbrev pub endAt : ℕ → ℕ → ℕ
-endAt n S = 4 + 2 * S + 12 * n
+endAt n S = 5 + 3 * S + 14 * n
 
 pub record Memory : Type 0 where
   pub epoch : ℕ
   pub constants : ℕ
   pub expressions : ℕ
   pub slot : ℕ → ℕ
-  pub mark : ℕ → ℕ
+  pub bounds : ℕ → ℕ
   pub constantTable : List ℕ
   pub expressionTable : List ℕ
 
@@ -55,7 +55,7 @@ memoryOf n S t =
       constants = getD t 1 0;
       expressions = getD t 2 0;
       slot = λ s. getD t (3 + s) 0;
-      mark = λ d. getD t (marksAt S + d) 0;
+      bounds = λ x. getD t (boundsAt S + x) 0;
       constantTable = part (constantsAt n S) (expressionsAt n S) t;
       expressionTable = part (expressionsAt n S) (endAt n S) t;
     }
@@ -66,9 +66,34 @@ memoryOf n S t =
 unfoldable pub numberAt : Memory → ℕ → ℕ
 numberAt m s = cond (eqb (m .slot s / 4294967296) (m .epoch)) (m .slot s % 4294967296) s
 
--- the slot that was recorded for a number in this epoch
-unfoldable pub markedAt : Memory → ℕ → Found
-markedAt m d = cond (eqb (m .mark d / 65536) (m .epoch)) (At (m .mark d % 65536)) Nothing
+-- Two types are of one group if their lowest bits are equal: Value is in one group, Float in the other. A number has a word of
+-- bounds for each group.
+abbrev pub boundsOf : ℕ → ℕ → ℕ
+boundsOf d type = 2 * d + type % 2
+
+-- The slots of the group that hold number d lie from `first` on and before `end`, as the word of this epoch says. Where there is none,
+-- only slot d may hold number d.
+unfoldable pub firstOf : ℕ → ℕ → ℕ → ℕ
+firstOf epoch word d = cond (eqb (word / 4294967296) epoch) (word / 65536 % 65536) d
+
+unfoldable pub endOf : ℕ → ℕ → ℕ → ℕ → ℕ
+endOf S epoch word d = cond (eqb (word / 4294967296) epoch) (word % 65536 + 1) (cond (ltb d S) (d + 1) 0)
+
+-- the same type, or only the same group?
+unfoldable pub alike : Bool → ℕ → ℕ → Bool
+alike true x y = eqb x y
+alike false x y = eqb (x % 2) (y % 2)
+
+-- does slot r hold number d, and is its type like this one?
+unfoldable pub holder : List ℕ → Memory → ℕ → ℕ → Bool → ℕ → Bool
+holder types m d type exact r = eqb (numberAt m r) d && alike exact (getD types r 0) type
+
+-- r is the lowest such slot from `from` on, where it is below `to`
+pub record Lowest (types : List ℕ) (m : Memory) (d type : ℕ) (exact : Bool) (from to r : ℕ) : Type 0 where
+  pub low : from ≤ r
+  pub high : from ≤ to → r ≤ to
+  pub passed : (q : ℕ) → from ≤ q → q < r → holder types m d type exact q ≡ false
+  pub hit : r < to → holder types m d type exact r ≡ true
 
 -- a constant by its kind and its bits
 unfoldable pub keyAtom : Key → Atom
@@ -80,27 +105,6 @@ constantKey kind bits = key bits kind
 -- the key of an expression by the numbers of its values
 abbrev pub expressionKey : ℕ → ℕ → ℕ → ℕ → Key
 expressionKey op flags left right = key (op + 256 * flags + 65536 * left + 1099511627776 * right) 0
-
-unfoldable pub slotFound : Found → Option ℕ
-slotFound (At r) = some r
-slotFound Nothing = none
-
--- a slot that was found, or slot s
-unfoldable pub slotOr : ℕ → Found → ℕ
-slotOr s (At r) = r
-slotOr s Nothing = s
-
--- the slot that was recorded for a number in this epoch, or slot s
-abbrev pub markedOr : Memory → ℕ → ℕ → ℕ
-markedOr m d s = cond (eqb (m .mark d / 65536) (m .epoch)) (m .mark d % 65536) s
-
--- the recorded slot where it still has the number and has the type
-unfoldable pub usableIn : List ℕ → Memory → ℕ → ℕ → Found → Found
-usableIn types m d type Nothing = Nothing
-usableIn types m d type (At r) = cond (eqb (numberAt m r) d && eqb (getD types r 0) type) (At r) Nothing
-
-abbrev pub usableAt : List ℕ → Memory → ℕ → ℕ → Found
-usableAt types m d type = usableIn types m d type (markedAt m d)
 
 module _ (n S : ℕ) where
   -- the numbers in use: one for each slot's value at the block's start, one for each place, one for Integer 0, then the constants
@@ -136,11 +140,9 @@ module _ (n S : ℕ) where
     pub few-constants : m .constants ≤ n
     pub few-expressions : m .expressions ≤ n
     pub slots-past : (s : ℕ) → s < S → m .slot s / 4294967296 ≤ m .epoch
-    pub marks-past : (d : ℕ) → d < S + 2 * n + 1 → m .mark d / 65536 ≤ m .epoch
-    -- a mark of this epoch names a slot
-    pub marks-low : (d : ℕ) → d < S + 2 * n + 1 → m .mark d / 65536 ≡ m .epoch → m .mark d % 65536 < S
-    -- no number that is not in use has a mark
-    pub fresh : (d : ℕ) → limit m ≤ d → d < S + 2 * n + 1 → m .mark d / 65536 < m .epoch
+    pub bounds-past : (x : ℕ) → x < 2 * (S + 2 * n + 1) → m .bounds x / 4294967296 ≤ m .epoch
+    -- bounds of this epoch lie among the slots
+    pub bounds-low : (x : ℕ) → x < 2 * (S + 2 * n + 1) → m .bounds x / 4294967296 ≡ m .epoch → m .bounds x % 65536 < S
     -- slots, and expressions with their values, have numbers in use
     pub slots-low : (s : ℕ) → s < S → numberAt m s < limit m
     pub values-low : (j : ℕ) → j < m .expressions → value (m .expressionTable) n j < limit m
@@ -171,12 +173,14 @@ module _ (n S : ℕ) (dest : ℕ → ℕ) where
     pub low : number < limit n S m
     pub is : atomIn m number ≡ w
 
+module _ (n S : ℕ) (types : List ℕ) (dest : ℕ → ℕ) where
   pub record Holds (v : Values) (m : Memory) : Type 0 where
-    pub slots : (s : ℕ) → s < S → atomIn m (numberAt m s) ≡ valueIn (v .slots) s
-    pub recorded : (d : ℕ) → d < limit n S m → slotFound (markedAt m d) ≡ slotIn (v .recorded) (atomIn m d)
-    pub recorded-numbered : (w : Atom) (r : ℕ) → slotIn (v .recorded) w ≡ some r → HasNumber m w
+    pub slots : (s : ℕ) → s < S → atomIn n S dest m (numberAt m s) ≡ valueIn (v .slots) s
+    -- each slot lies within the bounds of its number and type
+    pub first : (s : ℕ) → s < S → firstOf (m .epoch) (m .bounds (boundsOf (numberAt m s) (getD types s 0))) (numberAt m s) ≤ s
+    pub end : (s : ℕ) → s < S → s < endOf S (m .epoch) (m .bounds (boundsOf (numberAt m s) (getD types s 0))) (numberAt m s)
     pub expressions : (op flags left right : ℕ) → op < 256 → flags < 256 → left < limit n S m → right < limit n S m
-        → atomFound m (expressionAt n S m (expressionKey op flags left right))
-        ≡ expressionIn (v .expressions) (record { opcode = op; flags = flags; left = atomIn m left; right = atomIn m right })
-    pub left-numbered : (e : Expression) (w : Atom) → expressionIn (v .expressions) e ≡ some w → HasNumber m (e .left)
-    pub right-numbered : (e : Expression) (w : Atom) → expressionIn (v .expressions) e ≡ some w → HasNumber m (e .right)
+        → atomFound n S dest m (expressionAt n S m (expressionKey op flags left right))
+        ≡ expressionIn (v .expressions) (record { opcode = op; flags = flags; left = atomIn n S dest m left; right = atomIn n S dest m right })
+    pub left-numbered : (e : Expression) (w : Atom) → expressionIn (v .expressions) e ≡ some w → HasNumber n S dest m (e .left)
+    pub right-numbered : (e : Expression) (w : Atom) → expressionIn (v .expressions) e ≡ some w → HasNumber n S dest m (e .right)

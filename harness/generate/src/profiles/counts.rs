@@ -7,7 +7,7 @@ use crate::damage;
 use crate::draft::{Draft, ROOM};
 use crate::rng::Rng;
 use reference::Opcode;
-use unit::{Case, Function, Kind, Metadata, Parts, MAX_SELECT_CASES};
+use unit::{Case, Function, Kind, Line, Metadata, Parts, MAX_SELECT_CASES};
 
 /// Counts that do not agree, defer, and functions of no, one and two instructions; in some of them a select of
 /// about as many cases as it may have.
@@ -86,7 +86,9 @@ fn whole(rng: &mut Rng) -> Parts {
     while !draft.is_full() {
         draft.pure(20);
     }
-    draft.finish()
+    let mut parts = draft.finish();
+    parts.lines = vec![Line { place: 0, line: 7 }, Line { place: 1, line: 9 }];
+    parts
 }
 
 /// Every damage of one small unit, for the recorded answers.

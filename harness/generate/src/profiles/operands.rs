@@ -203,26 +203,42 @@ fn edge_instruction(draft: &mut Draft, len: usize) {
     };
 }
 
-/// SelectExec with ranges of cases, some empty, some overlapping, some about as many as a select may have.
+/// SelectExec with ranges of cases, some empty, some overlapping, some about as many as a select may have, and
+/// MapIterNext, between stores into the slots that they perhaps write and reads of them, in several blocks.
 pub(super) fn selects(rng: &mut Rng) -> Parts {
-    let n = rng.within(2..=7);
+    let n = rng.within(2..=9);
     let s = ROOM + rng.within(2..=6);
     let most = MAX_SELECT_CASES as usize;
     let many = rng.percent(20);
     let cases = if many { rng.within(most - 1..=most + 3) } else { rng.within(0..=4) };
     let mut draft = Draft::new(rng, n, s).with_types();
     for _ in 0..cases {
-        let case = draft.case();
+        let mut case = draft.case();
+        if draft.rng.percent(50) {
+            case.slot = draft.slot();
+            case.elem_slots = 1;
+        }
         draft.parts.cases.push(case);
     }
-    while !draft.is_full() {
-        match draft.rng.below(6) {
-            0 | 1 => draft.any_opcode(Opcode::SelectExec as u8),
-            2 => {
-                let opcode = draft.rng.pick(&[Opcode::SelectBegin, Opcode::SelectSend, Opcode::SelectRecv]);
+    while draft.place() + 1 < n {
+        match draft.rng.below(16) {
+            0..=2 => draft.any_opcode(Opcode::SelectExec as u8),
+            3..=5 => map_iter_next(&mut draft),
+            6 => {
+                let opcode = draft.rng.pick(&[
+                    Opcode::SelectBegin,
+                    Opcode::SelectSend,
+                    Opcode::SelectRecv,
+                    Opcode::MapIterNext,
+                ]);
                 draft.any_opcode(opcode as u8);
             }
-            3 => draft.give_back(),
+            7 => draft.give_back(),
+            8 => draft.any_branch(),
+            9..=12 => {
+                let (slot, value) = (draft.slot(), draft.rng.below(3) as i32);
+                draft.load_int(slot, value);
+            }
             _ => draft.pure(20),
         }
         if many && draft.rng.percent(30) {
@@ -230,5 +246,14 @@ pub(super) fn selects(rng: &mut Rng) -> Parts {
             *metadata = Metadata { second: cases as u32, ..Metadata::new(Kind::SelectExecLayout) };
         }
     }
+    draft.give_back();
     draft.finish()
+}
+
+/// MapIterNext with its iterator in the frame's last slots, so that key and value are seldom among them.
+fn map_iter_next(draft: &mut Draft) {
+    let (a, c) = (draft.slot().min(3), draft.slot());
+    let b = (draft.parts.types.len() - 7) as u16;
+    let metadata = draft.short_metadata(Kind::MapIterNext);
+    draft.push(Instruction { op: Opcode::MapIterNext as u8, flags: 0, a, b, c }, metadata);
 }

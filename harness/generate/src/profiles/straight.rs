@@ -57,6 +57,28 @@ pub(super) fn constants(rng: &mut Rng) -> Parts {
     draft.finish()
 }
 
+/// Few values in many slots of several types: copied, overwritten and restored, with clearings between.
+pub(super) fn holders(rng: &mut Rng) -> Parts {
+    let (n, s) = (rng.within(4..=24), rng.within(3..=12));
+    let mut draft = Draft::new(rng, n, s).with_types();
+    while draft.place() + 1 < n {
+        let (a, b, c) = (draft.slot(), draft.slot(), draft.slot());
+        match draft.rng.below(20) {
+            0..=10 => draft.op(Opcode::Copy, 0, a, b, 0),
+            11 => {
+                let value = draft.rng.below(2) as i32;
+                draft.load_int(a, value);
+            }
+            12 => draft.op(Opcode::AddF, 0, a, b, c),
+            13..=16 => draft.again(),
+            17 | 18 => draft.op(Opcode::AddF, 0, a, 0, 1),
+            _ => draft.op(Opcode::Hint, 0, 0, 0, 0),
+        }
+    }
+    draft.give_back();
+    draft.finish()
+}
+
 /// Everything together, in functions of up to 60 instructions.
 pub(super) fn mixed(rng: &mut Rng) -> Parts {
     let n = rng.within(8..=60);

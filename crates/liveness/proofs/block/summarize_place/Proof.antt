@@ -7,6 +7,7 @@ use Rattle.instruction.specs.Instruction.{ofWord}
 use Rattle.effects.specs.Shape.{Tables, Cell, tablesOf}
 use Rattle.effects.specs.laws.Cells.{cellOf}
 use Rattle.words.specs.laws.Only.{only-none, lent-long, second-long}
+use Rattle.use_def.specs.laws.Touched.{writes-fit-any}
 use Rattle.use_def.specs.laws.SingleSets.{SingleFits, single-fits}
 use Rattle.use_def.specs.laws.BranchSets.{BranchFits, branch-fits}
 use Rattle.liveness.specs.laws.Through.{not-placed, lent-placed}
@@ -82,7 +83,7 @@ returns-3 c =
 put-writes-requires : tie.Need-put-writes-requires
 put-writes-requires c κs =
     let s = c .before .before .before .before .before .before .before .before .before .before .before .before .before .before .before .before in
-    rw (c .before .from-word .ensures, lent-long (s .args .memory .now) (s .args .preserved) (s .args .w) (s .pre .2)) (s .pre .3, s .pre .5)
+    rw (c .before .from-word .ensures, lent-long (s .args .memory .now) (s .args .preserved) (s .args .w) (s .pre .2)) (s .pre .3, writes-fit-any (s .pre .5))
 
 live-before-requires : tie.Need-live-before-requires
 live-before-requires c κs =
@@ -95,7 +96,7 @@ returns-4 c =
     let i = c .before .before .before .before .before .before .before .before .from-word .ensures in
     let v = c .before .before .before .before .before .before .put-writes in
     let u = c .before .before .live-before in
-    lent-placed (tables s) (cell s) _ (eq-eqb _ _ (c .before .before .before .before .before .before .before .before .before .before .before .before .before .before .before .if1 .left)) _ _ _ _ _ _ (s .pre .1) (s .pre .2) (v .kept .0) (u .kept .0) (rw i at (v .ensures)) (rw i at (u .ensures)) _ refl
+    lent-placed (tables s) (cell s) _ (eq-eqb _ _ (c .before .before .before .before .before .before .before .before .before .before .before .before .before .before .before .if1 .left)) _ _ _ _ _ _ (s .pre .1) (s .pre .2) (v .kept .0) (u .kept .0) (rw i at (v .ensures (s .args .cases .now))) (rw i at (u .ensures)) _ refl
 
 pub summarize-place-spec : {M : Type 1} → statement M
 summarize-place-spec =

@@ -8,7 +8,7 @@ store-requires : tie.Need-store-requires
 store-requires c κs = (c .before .before .before .representative .ensures .kept .ready, c .before .before .before .before .before .before .before .before .before .pre .2, same-limit (c .before .before .before .representative .ensures .same) (c .before .before .before .before .before .number .ensures .1))
 
 returns : tie.Need-returns
-returns c = copy-becomes (c .before .before .before .before .before .before .before .before .before .before .before .before .args .i) (c .before .before .before .before .before .before .representative .ensures) (c .before .before .store .ensures)
+returns c = copy-becomes (c .before .before .before .before .before .before .before .before .before .before .before .before .args .i) (c .before .before .before .before .before .before .before .before .before .before .before .before .pre .1) (c .before .before .before .before .before .before .before .before .number .ensures .0) (c .before .before .before .before .before .before .representative .ensures) (c .before .before .store .ensures)
 
 pub number-copy-spec : {M : Type 1} → statement M
 number-copy-spec =

@@ -2,7 +2,7 @@ use Rattle.numbering.proofs.Classes.{number-other, jump-named, jump-by}
 use Rattle.numbering.proofs.Walking.{as-becomes}
 use native.Mathlib.Omega.{arith}
 use mathlib.Core.Path.{sym, _∙_}
-use Rattle.values.specs.Number.{numberBy}
+use Rattle.values.specs.Number.{numberByWith}
 use Rattle.numbering.specs.laws.Walk.{}
 use Rattle.values.specs.laws.Named.{Named}
 use borrow.Author.Needs.{needs}
@@ -23,7 +23,7 @@ returns : tie.Need-returns
 returns c = as-becomes (omega arith) (omega arith) (omega arith) (λ dest d l T v y h. (tt, rw (← c .before .before .before .before .before .before .class .ensures, c .before .before .before .jumps-on-zero .ensures) (jump-by _ _ (c .before .before .before .before .before .before .before .before .before .before .args .p) (c .before .before .before .before .before .before .before .before .before .before .args .i) v (c .before .before .before .before .before .match .keys1)))) (c .before .before .number-jump .ensures)
 
 returns-2 : tie.Need-returns-2
-unfolding Named numberBy
+unfolding Named numberByWith
 returns-2 c = let k = sym (c .before .before .before .before .before .before .class .ensures) ∙ c .before .before .before .before .enum-told .given .1 in as-becomes (omega arith) (omega arith) (omega arith) (λ dest d l T v y h. (tt, rw k)) (c .before .before .number-return .ensures)
 
 returns-3 : tie.Need-returns-3

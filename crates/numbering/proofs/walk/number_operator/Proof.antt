@@ -11,7 +11,7 @@ by-value-requires : tie.Need-by-value-requires
 by-value-requires c κs = (room-kept (c .before .before .before .before .before .before .before .before .before .before .before .before .before .before .before .before .before .pre .0) (kept-then (c .before .before .before .before .before .before .before .before .before .before .before .representative .ensures .kept) (c .before .before .before .before .before .second .ensures .kept)), c .before .before .before .before .before .before .before .before .before .before .before .before .before .before .before .before .before .pre .3, c .before .before .before .before .before .before .before .before .before .before .before .before .before .before .before .before .before .pre .4, same-limit (same-then (c .before .before .before .before .before .before .before .before .before .before .before .representative .ensures .same) (c .before .before .before .before .before .second .ensures .same)) (c .before .before .before .before .before .before .before .before .before .before .before .before .before .number .ensures .1), same-limit (c .before .before .before .before .before .second .ensures .same) (c .before .before .before .before .before .before .before .second-number .ensures .1))
 
 returns : tie.Need-returns
-returns c = operator-becomes (c .before .before .before .before .before .before .before .before .before .before .before .before .before .before .before .before .before .before .before .before .args .i) (c .before .before .before .before .before .before .before .before .before .before .before .before .before .before .before .before .before .before .before .before .args .p) (c .before .before .before .before .before .before .before .before .before .before .before .before .before .before .before .before .before .before .before .before .args .binary) _ (c .before .before .before .before .before .before .before .before .before .before .before .before .before .before .representative .ensures) (c .before .before .before .before .before .before .before .before .before .before .second-number .ensures .0) (c .before .before .before .before .before .before .before .before .second .ensures) (c .before .before .before .before .fold-numbers .ensures) (c .before .before .by-value .ensures)
+returns c = operator-becomes (c .before .before .before .before .before .before .before .before .before .before .before .before .before .before .before .before .before .before .before .before .args .i) (c .before .before .before .before .before .before .before .before .before .before .before .before .before .before .before .before .before .before .before .before .args .p) (c .before .before .before .before .before .before .before .before .before .before .before .before .before .before .before .before .before .before .before .before .args .binary) _ (c .before .before .before .before .before .before .before .before .before .before .before .before .before .before .before .before .before .before .before .before .pre .1) (c .before .before .before .before .before .before .before .before .before .before .before .before .before .before .before .before .before .before .before .before .pre .2) (c .before .before .before .before .before .before .before .before .before .before .before .before .before .before .before .before .number .ensures .0) (c .before .before .before .before .before .before .before .before .before .before .before .before .before .before .representative .ensures) (c .before .before .before .before .before .before .before .before .before .before .second-number .ensures .0) (c .before .before .before .before .before .before .before .before .second .ensures) (c .before .before .before .before .fold-numbers .ensures) (c .before .before .by-value .ensures)
 
 pub number-operator-spec : {M : Type 1} → statement M
 number-operator-spec =

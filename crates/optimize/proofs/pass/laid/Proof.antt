@@ -6,6 +6,8 @@ use Rattle.unit.specs.Layout.{headerOf}
 use Rattle.unit.specs.laws.UnitLaws.{unit-laid}
 use Rattle.answer.specs.Answer.{isSkipped}
 use Rattle.optimize.specs.laws.Parts.{answers-unchanged, answers-refused, answers-same}
+use native.Mathlib.Omega.{arith}
+use Rattle.optimize.specs.laws.Lines.{lines-fit}
 use Rattle.optimize.specs.laws.Whole.{worked-on, layout-skipped, layout-short, layout-worked}
 use borrow.Author.Needs.{needs}
 use Rattle.optimize.proofs.pass.laid.Statement.{statement}
@@ -20,7 +22,7 @@ returns c = let s = c .before .before .before .before .before .before in answers
 
 has-room-requires : tie.Need-has-room-requires
 has-room-requires c κs = let s = c .before .before .before .before .before .before in
-    (worked-on (s .args .c) (sym (c .before .is-skipped .ensures) ∙ c .if1 .left) .1, rw (s .pre .1) (unit-laid (s .args .unit .now) (s .pre .0) .locals))
+    (worked-on (s .args .c) (sym (c .before .is-skipped .ensures) ∙ c .if1 .left) .1, rw (s .pre .1) (unit-laid (s .args .unit .now) (s .pre .0) .locals), rw (s .pre .1) (lines-fit (s .args .unit .now) (λ i. omega (arith, c .before .before .before .before .before .shared-slice-known .given i))))
 
 returns-2 : tie.Need-returns-2
 returns-2 c = let s = c .before .before .before .before .before .before .before .before in

@@ -4,6 +4,7 @@ use Prim.Native.Nat.{ℕ, _≤_, _-_}
 use native.Mathlib.Omega.{arith}
 use lib.ListN.{length}
 use Rattle.unit.specs.Result.{codeBytes}
+use Rattle.unit.specs.Size.{resultHeaderSize}
 use Rattle.pc_map.specs.laws.Listed.{Listed}
 use Rattle.pc_map.specs.laws.Retaining.{code-section}
 use Rattle.pc_map.proofs.Writing.{WrittenTo, section-begin, section-turn, section-end}
@@ -12,7 +13,7 @@ use Rattle.pc_map.proofs.retained.write_code.Statement.{statement}
 use Rattle.pc_map.proofs.retained.write_code.Tie as tie
 
 abbrev Inv-loop : tie.InvT-loop
-Inv-loop words bounds kept out₀ k q₀ out q = (q ≤ length kept) × (length out ≡ length out₀) × ((keep metadata : List ℕ) → Listed keep bounds kept (length words) → WrittenTo 8 codeBytes keep kept words metadata 16 out₀ out q)
+Inv-loop words bounds kept out₀ k q₀ out q = (q ≤ length kept) × (length out ≡ length out₀) × ((keep metadata : List ℕ) → Listed keep bounds kept (length words) → WrittenTo 8 codeBytes keep kept words metadata resultHeaderSize out₀ out q)
 
 abbrev μ-loop : tie.MeasureT-loop
 μ-loop words bounds kept out₀ k q₀ out q = length kept - q

@@ -129,6 +129,15 @@ fn detail(refusal: Refusal, place: usize, parts: &Parts) -> Option<String> {
         Refusal::LoopMoved if instruction.imm32() as usize > n => {
             format!("its exit is place {}, the function's end is {n}", instruction.imm32())
         }
+        Refusal::LinePlaces => {
+            let falls = parts.lines.windows(2).find(|pair| pair[0].place >= pair[1].place);
+            match (falls, parts.lines.last()) {
+                (Some([line, next]), _) => {
+                    format!("place {} is followed by place {}", line.place, next.place)
+                }
+                (_, line) => format!("a line is on place {}, {last}", line?.place),
+            }
+        }
         Refusal::SelectCases => format!("metadata {place} is of a select of {} cases", metadata.second),
         Refusal::LoopMoved => format!("its end, place {}, is removed by this pass", metadata.end_pc),
     })

@@ -30,7 +30,7 @@ each instruction that was removed or replaced:
   operand replaced  it reads another slot that holds the same value
 
 Places are counted from 0; L12 is place 12, an old one on the left, a new one on
-the right.
+the right. line=7 is the line of the script that a place has.
 
 usage: lampruda list [--clean] [--json] [UNIT]
 
@@ -99,8 +99,8 @@ fn rows(workspace: &mut Workspace, unit: &Unit, answered: &Answered, clean: bool
         let after = if fate.is_removed() { None } else { new.next() };
         Row {
             old,
-            before: before_lines.mnemonic(old),
-            after: after.map(|new| (new, after_lines.mnemonic(new))),
+            before: before_lines.mnemonic(old) + &before_lines.marker(old),
+            after: after.map(|new| (new, after_lines.mnemonic(new) + &after_lines.marker(new))),
             fate,
             pass: (clean && fate.is_removed()).then_some(pass),
         }
