@@ -117,6 +117,11 @@ fn operand() {
     check("operand");
 }
 
+#[test]
+fn short() {
+    check("short");
+}
+
 /// No subcommand is forgotten here, and none has help that a terminal of 80 columns breaks.
 #[test]
 fn every_subcommand() {
