@@ -1,8 +1,8 @@
 -- A result with its lines: the entries behind it, and their number in its header.
 -- Assumes nothing.
-use mathlib.Core.Path.{_≡_, refl, sym, ap, _∙_}
+use mathlib.Core.Path.{_≡_, sym, ap, _∙_}
 use mathlib.Core.List.{List, [], _∷_, _++_, append-assoc, append-nil}
-use Prim.Native.Nat.{ℕ, zero, suc, _+_, _*_, _/_, _^_, _≤_, _<_}
+use Prim.Native.Nat.{ℕ, zero, suc, _+_, _*_, _/_, _^_, _<_}
 use native.Mathlib.Nat.{mul-suc}
 use native.Mathlib.Omega.{arith}
 use lib.ListN.{length, getD, take, drop, length-append, length-map, take-append-drop}
@@ -15,7 +15,7 @@ use Rattle.unit.specs.declared.Line.{Line}
 use Rattle.unit.specs.Entry.{linesIn}
 use Rattle.unit.specs.Result.{Retained, codeBytes, metadataBytesAll, placeBytes, lineBytesAll, resultHeader, resultBytes, resultMetadataAt, resultPlacesAt, resultLinesAt}
 use Rattle.unit.specs.Size.{lineSize, placeSize, resultHeaderSize, resultSize}
-use Rattle.unit.specs.laws.UnitLaws.{code-bytes-long, metadata-bytes-all-long, place-bytes-long, result-header-long}
+use Rattle.unit.specs.laws.UnitLaws.{code-bytes-long, metadata-bytes-all-long, place-bytes-long}
 use Rattle.lines.specs.Lines.{movedLines, placesOf}
 use Rattle.lines.specs.laws.Below.{placesIn}
 use Rattle.lines.specs.laws.Moving.{RisingLines, SweptAll, Unlined, oldPlaces}

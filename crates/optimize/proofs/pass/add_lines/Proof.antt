@@ -1,4 +1,3 @@
-use mathlib.Core.Path.{_∙_}
 use Rattle.optimize.specs.laws.Lines.{linable-to, lined-unchanged, lined-refused, lined-rewritten}
 use borrow.Author.Needs.{needs}
 use Rattle.optimize.proofs.pass.add_lines.Statement.{statement}
