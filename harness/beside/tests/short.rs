@@ -48,7 +48,8 @@ fn the_buffer_stays_but_for_the_unit() {
         for room in [0, 1, size - 1, size, size + 1, size + 40] {
             let mut out = vec![0xa5; room];
             let made = unsafe { sys::lampruda_short_unit(number, out.as_mut_ptr(), out.len()) };
-            let (kind, value) = if room < size { (sys::SHORT_REFUSED, 2) } else { (sys::SHORT_UNIT, size as u32) };
+            let (kind, value) =
+                if room < size { (sys::SHORT_REFUSED, 2) } else { (sys::SHORT_UNIT, size as u32) };
             assert_eq!(made, sys::Made { kind, number: value, place: 0 });
             let written = if room < size { 0 } else { size };
             assert!(out[written..].iter().all(|&byte| byte == 0xa5));

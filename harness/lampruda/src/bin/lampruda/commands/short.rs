@@ -11,9 +11,9 @@ use unit::Unit;
 pub const COMMAND: Command = Command {
     name: "short",
     summary: "a short function by its number, its number, or a survey of all",
-    help: &["Prints the text of a short function, by its number. They are the 346,176 functions
-of 2, 3 and 4 instructions out of 24, over two Value slots, numbered from 0:
-shorter first, then by the earliest differing instruction. The 24 are
+    help: &["Prints the text of a short function, by its number. They are the 346,176
+functions of 2, 3 and 4 instructions out of 24, over two Value slots, numbered
+from 0: shorter first, then by the earliest differing instruction. The 24 are
 
   LoadInt (a, then value 0 or 1), Copy (a, b), AddI (a, b, c),
   JumpIf (a, then distance -1 or 1), Jump (-1 or 1), Return 0 with count 0 or 1
