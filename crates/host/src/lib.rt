@@ -128,10 +128,10 @@ fn made_numbers(m: Made) -> MadeNumbers
             number: size,
             place: 0,
         },
-        Made::Refused(k, p) => MadeNumbers {
+        Made::Refused(number, place) => MadeNumbers {
             kind: 1,
-            number: k,
-            place: p,
+            number,
+            place,
         },
         Made::None => MadeNumbers {
             kind: 2,
