@@ -2,3 +2,4 @@ pub mod Computed
 pub mod Unit
 pub mod Starred
 pub mod Runs
+pub mod Apart

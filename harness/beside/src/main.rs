@@ -10,6 +10,7 @@ mod mutate;
 mod operand;
 mod options;
 mod parallel;
+mod short;
 mod table;
 mod tally;
 
@@ -19,7 +20,8 @@ use std::process::ExitCode;
 const USAGE: &str = "usage: beside compare [--seed S] [--count N] [--profile NAME] [--small-world]
        beside bench [--seed S] [--longest N] [--svg FILE] | --unit FILE
        beside fuzz [--seed S] [--count N] [--from INDEX] [--seconds T]
-       beside operand [--seed S] [--count N]";
+       beside operand [--seed S] [--count N]
+       beside short [--seed S] [--count N]";
 
 fn main() -> ExitCode {
     let arguments: Vec<String> = std::env::args().skip(1).collect();
@@ -29,6 +31,7 @@ fn main() -> ExitCode {
             "bench" => bench::run(options),
             "fuzz" => fuzz::run(options),
             "operand" => operand::run(options),
+            "short" => short::run(options),
             _ => Err(USAGE.into()),
         }),
         None => Err(USAGE.into()),

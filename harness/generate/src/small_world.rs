@@ -1,7 +1,7 @@
 //! All short functions: two Value slots, 24 instructions, functions of 2, 3 and 4 of them.
 
 use reference::Opcode;
-use unit::{Instruction, Metadata, Parts, TYPE_VALUE};
+use unit::{Instruction, Metadata, Parts, Unit, TYPE_VALUE};
 
 /// The functions' lengths, shorter first.
 const LENGTHS: [u32; 3] = [2, 3, 4];
@@ -40,6 +40,18 @@ impl Default for SmallWorld {
 }
 
 impl SmallWorld {
+    /// "and its number from it": of the function that stands in these bytes, if they are its unit.
+    pub fn number(&self, bytes: &[u8]) -> Option<u64> {
+        let parts = Parts::decode(&Unit::check(bytes)?);
+        let base = self.instructions.len() as u64;
+        let length = parts.code.len() as u32;
+        let before: u64 = LENGTHS.into_iter().filter(|&shorter| shorter < length).map(|n| base.pow(n)).sum();
+        let digits = parts.code.iter().map(|code| self.instructions.iter().position(|known| known == code));
+        let rank = digits.into_iter().try_fold(0, |so_far, digit| Some(base * so_far + digit? as u64))?;
+        let number = LENGTHS.contains(&length).then_some(before + rank)?;
+        (self.unit(number)? == bytes).then_some(number)
+    }
+
     /// "shorter first, then by the earliest differing instruction"
     pub fn unit(&self, number: u64) -> Option<Vec<u8>> {
         let base = self.instructions.len() as u64;
