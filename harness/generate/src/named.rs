@@ -616,6 +616,11 @@ fn many_cases() -> Vec<Named> {
             refused(1, 0),
         ),
         Named::new(
+            "lines come before 25 select cases",
+            Parts { lines: entries(&[(2, 1)]), ..of_cases(25) },
+            refused(11, 0),
+        ),
+        Named::new(
             "25 entries in the case section, and no such select",
             with_metadata(room_for(25), 0, select(1)),
             Stated::Unchanged,
