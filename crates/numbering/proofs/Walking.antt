@@ -4,26 +4,26 @@ use mathlib.Core.Path.{_≡_, refl, sym, ap, _∙_}
 use mathlib.Core.Bool.{Bool, true, false, cond, _&&_}
 use mathlib.Core.List.{List, [], _∷_}
 use mathlib.Core.Option.{Option, none, some}
-use Prim.Native.Nat.{ℕ, _+_, _%_, _^_, _≤_, _<_}
+use Prim.Native.Nat.{ℕ, _+_, _≤_, _<_}
 use native.Mathlib.Omega.{arith}
 use lib.Dec.{eqb}
-use lib.ListN.{length, getD}
+use lib.ListN.{length}
 use types.Run.{OneOf, miss}
 use borrow.Author.Tests.{eq-eqb}
 use denote.Enum.Declared.{tagOf as variantOf}
 use Rattle.instruction.specs.declared.Instruction.{Instruction}
 use Rattle.instruction.specs.declared.Class.{Class}
 use Rattle.instruction.specs.declared.Class.the-variants.{Return}
-use Rattle.instruction.specs.Instruction.{plain, withImm32}
+use Rattle.instruction.specs.Instruction.{plain}
 use Rattle.values.specs.Fold.{fitsImm32}
 use Rattle.effects.specs.Shape.{Sections, Tables}
-use Rattle.values.specs.Values.{Values, Expression, valueOf, expressionIn, lowestSlot, representative, learn}
+use Rattle.values.specs.Values.{Values, Expression, valueOf, expressionIn, learn}
 use Rattle.values.specs.Number.{Numbered, setA, setB, setBC, heldOrStays, folded, stored as storedBy, copyOrStay, copied, byExpression, byValue, byValueWith, numberCopy, numberConstant, numberRead, decided, numberJump, cleared as clearedBy, numberBy, numberByWith}
 use Rattle.values.specs.laws.Folded.{integerOf, expressionOf}
-use Rattle.values.specs.laws.Entries.{Key}
+use Rattle.values.specs.laws.Entries.{Key, key}
 use Rattle.values.specs.laws.Memory.{memoryOf, numberAt, keyAtom, constantKey, expressionKey, limit, integerAt, expressionAt, Ready, atomIn, atomFound, Holds}
 use Rattle.values.specs.laws.Promises.{Kept, Clears, Represents, Stores, Shares, Interns, Learns}
-use Rattle.numbering.specs.laws.Walk.{sectionsWith, loadOf, wordOf, Stands, Becomes, Second, secondNumber, foldBy, secondOf, atomOf, KindOf, operated, scalarIn, undecidedBy, pureBy, otherBy}
+use Rattle.numbering.specs.laws.Walk.{sectionsWith, loadOf, wordOf, Stands, Becomes, Known, Valued, Second, secondNumber, foldBy, secondOf, atomOf, KindOf, operated, scalarIn, undecidedBy, pureBy, otherBy}
 use Rattle.values.specs.declared.Atom.{Atom}
 use Rattle.values.specs.declared.Atom.the-variants.{Integer, Float, Definition}
 use Rattle.values.specs.declared.Found.{Found}
@@ -35,7 +35,7 @@ use Rattle.values.specs.declared.Folded.the-variants.{Word, Not}
 use Rattle.values.proofs.Atom.{the-type}
 use Rattle.values.proofs.Atoms.{atom-place, atom-zero, integer-at}
 use Rattle.values.proofs.Recording.{unchanged, same-self}
-use Rattle.numbering.proofs.Keeping.{widen, kept-then, same-value, same-then, valueAt, Knows, shared-slot, shared-none, known-expression}
+use Rattle.numbering.proofs.Keeping.{widen, kept-then, same-value, same-then, valueAt, Knows, shared-slot, shared-none, found-low, known-expression}
 
 -- ---- steps
 
@@ -178,13 +178,11 @@ module _ {n : ℕ} {types : List ℕ} {t : List ℕ} where
       let fits = sym e ∙ q in
       as-becomes (omega arith) (omega arith) (omega arith) (λ dest z l T v y h. (tt, rw (fits, s))) b
 
-  pub word-wide : (i : Instruction) (w : ℕ) {d : ℕ} {b : Bool} {x : Instruction} {t₁ t′ : List ℕ} → b ≡ fitsImm32 w → b ≡ false → Interns n (length types) t 0 w d t₁
+  pub word-wide : (i : Instruction) (w : ℕ) {d : ℕ} {x : Instruction} {t₁ t′ : List ℕ} → fitsImm32 w ≡ false → Interns n (length types) t 0 w d t₁
       → Becomes n types 0 0 0 t₁ x t′ (λ dest z. Unit {0}) (λ dest S v. storedBy S (copied S i v (valueAt n types t₁ dest d)) v (valueAt n types t₁ dest d))
       → Becomes n types 0 1 0 t x t′ (λ dest z. Unit {0}) (λ dest S v. storedBy S (folded S (heldOrStays S) i v w) v (Integer w))
   unfolding folded keyAtom
-  word-wide i w e q d b =
-      let wide = sym e ∙ q in
-      after (λ dest v. v) (d .kept) (d .holds types) (λ dest z l T v y h. (tt, rw (d .is dest, wide))) b
+  word-wide i w wide d b = after (λ dest v. v) (d .kept) (d .holds types) (λ dest z l T v y h. (tt, rw (d .is dest, wide))) b
 
   -- folded, or looked up
   pub folded-word : (i : Instruction) (p : ℕ) (g : (ℕ → ℕ) → Expression) {f : Folded} {w : ℕ} {x : Instruction} {t′ : List ℕ} → f ≡ Word w
@@ -193,11 +191,83 @@ module _ {n : ℕ} {types : List ℕ} {t : List ℕ} where
   unfolding byValueWith wordOf
   folded-word i p g q b = as-becomes (omega arith) (omega arith) (omega arith) (λ dest z l T v y h. (tt, rw q)) b
 
-  pub folded-not : (i : Instruction) (p : ℕ) (g : (ℕ → ℕ) → Expression) {f : Folded} {x : Instruction} {t′ : List ℕ} → f ≡ Not
+  folded-not : (i : Instruction) (p : ℕ) (g : (ℕ → ℕ) → Expression) {f : Folded} {x : Instruction} {t′ : List ℕ} → f ≡ Not
       → Becomes n types 0 0 1 t x t′ (λ dest z. Stands n p i dest) (λ dest S v. byExpression S p i v (g dest) (expressionIn (v .expressions) (g dest)))
       → Becomes n types 0 1 1 t x t′ (λ dest z. Stands n p i dest) (λ dest S v. byValue S p i v (g dest) (wordOf f))
   unfolding byValueWith wordOf
   folded-not i p g q b = as-becomes (omega arith) (omega arith) (omega arith) (λ dest z l T v y h. (y, rw q)) b
+
+-- ---- a number that is known
+
+-- of a folded word, and of an expression
+pub known-of-word : {n S word v d : ℕ} {t t₁ : List ℕ} {f : Folded} → f ≡ Word v → Interns n S t 0 v d t₁ → Known n S t word f (At d) t₁
+known-of-word {v = v} e w =
+    record {
+      constant = λ u z. let same : v ≡ u = cc in record { number = _; is = refl; interns = rw (← same) w };
+      expression = λ z. let y : _≡_ {A = ℕ} 0 1 = cc in absurd (omega arith);
+    }
+
+pub known-of-expression : {n S word : ℕ} {t : List ℕ} {r : Found} {f : Folded} → f ≡ Not → r ≡ expressionAt n S (memoryOf n S t) (key word 0) → Known n S t word f r t
+known-of-expression e w =
+    record { constant = λ u z. let y : _≡_ {A = ℕ} 0 1 = cc in absurd (omega arith); expression = λ z. (refl, w) }
+
+module _ {n S word : ℕ} {t t₁ : List ℕ} {r : Found} where
+  -- it is in use
+  pub known-low : {f : Folded} (d : ℕ) → Ready n S t → Known n S t word f r t₁ → r ≡ At d → Ready n S t₁ × (d < limit n S (memoryOf n S t₁))
+  known-low {f} d g k q = go f refl
+    where
+      go : (f′ : Folded) → f ≡ f′ → Ready n S t₁ × (d < limit n S (memoryOf n S t₁))
+      go (Word v) e =
+          let w = k .constant v e in
+          let same : w .number ≡ d = cc in
+          (w .interns .kept .ready, rw (← same) (w .interns .low))
+      go Not e =
+          let w = k .expression e in
+          rw (w .0) (g, found-low g _ d (w .1) q)
+
+  -- there is none of an expression alone, and then the memory is as it was
+  pub known-none : {f : Folded} → Known n S t word f r t₁ → r ≡ Nothing → (f ≡ Not) × (t₁ ≡ t) × (r ≡ expressionAt n S (memoryOf n S t) (key word 0))
+  known-none {f} k q = go f refl
+    where
+      go : (f′ : Folded) → f ≡ f′ → (f ≡ Not) × (t₁ ≡ t) × (r ≡ expressionAt n S (memoryOf n S t) (key word 0))
+      go (Word v) e =
+          let w = k .constant v e in
+          let z : _≡_ {A = ℕ} 0 1 = cc in
+          absurd (omega arith)
+      go Not e = let w = k .expression e in (e, w .0, w .1)
+
+module _ {n word : ℕ} {types t t₁ t′ : List ℕ} {r : Found} {f : Folded} (i : Instruction) (p left right : ℕ) {x : Instruction} (lowl : left < limit n (length types) (memoryOf n (length types) t)) (lowr : right < limit n (length types) (memoryOf n (length types) t)) (q : key word 0 ≡ expressionKey (i .op) (i .flags) left right) (k : Known n (length types) t word f r t₁) where
+  -- "becomes Copy from" the slot that holds the value, or stays
+  pub known-found : ((v : ℕ) → f ≡ Word v → fitsImm32 v ≡ false) → (d : ℕ) → r ≡ At d
+      → Becomes n types 0 0 0 t₁ x t′ (λ dest z. Unit {0}) (λ dest S v. storedBy S (copied S i v (valueAt n types t₁ dest d)) v (valueAt n types t₁ dest d))
+      → Valued n types t i p left right f x t′
+  known-found wide d e b = go f refl
+    where
+      go : (f′ : Folded) → f ≡ f′ → Valued n types t i p left right f x t′
+      go (Word v) z =
+          let w = k .constant v z in
+          let same : w .number ≡ d = cc in
+          folded-word i p _ z (word-wide i v (wide v z) (w .interns) (rw same b))
+      go Not z =
+          let w = k .expression z in
+          folded-not i p _ z (expression-found i p left right lowl lowr q d (w .1) e (rw (← w .0) b))
+
+  -- a new expression
+  pub known-new : r ≡ Nothing → i .op < 256 → i .flags < 256
+      → ((op flags left right : ℕ) → op < 256 → flags < 256 → left < limit n (length types) (memoryOf n (length types) t₁) → right < limit n (length types) (memoryOf n (length types) t₁) → key word 0 ≡ expressionKey op flags left right
+      → Becomes n types 0 0 1 t₁ x t′ (λ dest z. Stands n p i dest)
+      (λ dest S v. storedBy S i (learn v (expressionOf op flags (valueAt n types t₁ dest left) (valueAt n types t₁ dest right)) (Definition p (i .a))) (Definition p (i .a))))
+      → Valued n types t i p left right f x t′
+  known-new e a c b =
+      let w = known-none k e in
+      folded-not i p _ (w .0) (expression-none i p left right lowl lowr q (w .2) e a c (rw (← w .1) b))
+
+-- a word outside 32 bits, and no word
+pub wide-word : {f : Folded} {b : Bool} {w : ℕ} → f ≡ Word w → b ≡ fitsImm32 w → b ≡ false → (v : ℕ) → f ≡ Word v → fitsImm32 v ≡ false
+wide-word {w = w} e r l v z = let same : w ≡ v = cc in rw (← same) (sym r ∙ l)
+
+pub no-word : {f : Folded} → f ≡ Not → (v : ℕ) → f ≡ Word v → fitsImm32 v ≡ false
+no-word e v z = let y : _≡_ {A = ℕ} 0 1 = cc in absurd (omega arith)
 
 -- other operands, the same destination
 other-operands : {n p : ℕ} {i : Instruction} {dest : ℕ → ℕ} (b c : ℕ) → Stands n p i dest → Stands n p (setBC i b c) dest

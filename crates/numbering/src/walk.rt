@@ -1,6 +1,6 @@
 // The walk over the function: each instruction rewritten by the values known before it.
 ghost use mathlib.Core.Path.{_≡_};
-ghost use mathlib.Core.Bool.{true};
+ghost use mathlib.Core.Bool.{true, false};
 ghost use mathlib.Core.List.{List, map};
 ghost use Prim.Native.Nat.{ℕ, _+_, _≤_, _<_};
 ghost use lib.ListN.{length};
@@ -8,17 +8,19 @@ ghost use borrow.Rule.Slice.PartMut.{midOf};
 ghost use Rattle.instruction.specs.Instruction.{class, ofWord, toWord};
 ghost use Rattle.effects.specs.Shape.{Cell, Tables};
 ghost use Rattle.effects.specs.laws.Cells.{cellsBy};
-ghost use Rattle.values.specs.Values.{valueOf, expressionIn, learn};
-ghost use Rattle.values.specs.Number.{heldOrStays, copied, folded, constantAtom, stored as storedBy, byExpression, byValue, numberCopy, numberConstant, numberRead, numberJump, numberBy, number, numberCode};
+ghost use Rattle.values.specs.Values.{valueOf, learn};
+ghost use Rattle.values.specs.Fold.{fitsImm32};
+ghost use Rattle.values.specs.Number.{copied, constantAtom, stored as storedBy, numberCopy, numberConstant, numberRead, numberJump, numberBy, number, numberCode};
 ghost use Rattle.values.specs.laws.Folded.{expressionOf};
 ghost use Rattle.values.specs.laws.Memory.{memoryOf, keyAtom, constantKey, expressionKey, limit, expressionAt, atomIn, endAt, Ready};
 ghost use Rattle.values.specs.laws.Entries.{key, bucketOf, headAt};
 ghost use Rattle.values.specs.laws.Promises.{Clears};
-ghost use Rattle.numbering.specs.laws.Walk.{loadOf, wordOf, Stands, Becomes, Room, Coded, Second, secondNumber, foldBy, binaryClass, operatorClass, onZero, atomOf, KindOf, operated, scalarIn, pureBy, undecidedBy, takes, otherBy, sectionsWith, Begins, Enters, Turns, Numberable, limitAt, expressionWith};
+ghost use Rattle.numbering.specs.laws.Walk.{loadOf, wordOf, Stands, Becomes, Room, Coded, Known, Valued, Second, secondNumber, foldBy, binaryClass, operatorClass, onZero, atomOf, KindOf, operated, scalarIn, pureBy, undecidedBy, takes, otherBy, sectionsWith, Begins, Enters, Turns, Numberable, limitAt, expressionWith};
 ghost use Rattle.values.specs.laws.Named.{Named};
 ghost use Rattle.instruction.specs.declared.Class.the-variants.{Return};
-ghost use Rattle.values.specs.declared.Atom.the-variants.{Integer, Definition};
+ghost use Rattle.values.specs.declared.Atom.the-variants.{Definition};
 ghost use Rattle.values.specs.declared.Found.the-variants.{Nothing};
+ghost use Rattle.values.specs.declared.Folded.the-variants.{Word};
 use crate::Loaded;
 use instruction::Class;
 use instruction::Instruction;
@@ -106,8 +108,20 @@ fn define(
     store(t, types, n, i, d)
 }
 
-// "An equal expression (opcode, flags, both values)"
-fn by_expression(
+// The number of a value that is known: that of a folded word, a new one where it has none, or that of an equal expression.
+fn known(t: &mut [u64], n: usize, locals: usize, folded: Folded, first: u64, word: u64) -> Found
+    requires { ⌜ Room n locals (now t) × (first ≡ headAt (memoryOf n locals (now t) .expressionTable) (memoryOf n locals (now t) .epoch) (bucketOf n (key word 0))) ⌝ }
+    ensures { λ r. ⌜ Known n locals (now (t .entry)) word folded r (now (t .exit)) ⌝ }
+{
+    match folded {
+        Folded::Word(v) => Found::At(table::constant(t, n, locals, 0, v)),
+        Folded::Not => table::find_expression(&t[..], n, locals, first, word),
+    }
+}
+
+// "An equal expression (opcode, flags, both values)", and document 02, L2: a folded value outside 32 bits; both become "Copy from the
+// slot of L1", or stay. One call serves both, since the compiler puts a function that is called once in its place.
+fn by_number(
     t: &mut [u64],
     types: &[u8],
     n: usize,
@@ -115,32 +129,22 @@ fn by_expression(
     p: u32,
     left: u64,
     right: u64,
+    folded: Folded,
 ) -> Instruction
-    requires { ⌜ Room n (length (now types)) (now t) × (i .a < length (now types)) × (p < n) × (left < limit n (length (now types)) (memoryOf n (length (now types)) (now t))) × (right < limit n (length (now types)) (memoryOf n (length (now types)) (now t))) ⌝ }
-    ensures { λ r. ⌜ Becomes n (now (types .entry)) 0 0 1 (now (t .entry)) r (now (t .exit)) (λ dest constants. Stands n p i dest) (λ dest S x. byExpression S p i x (expressionWith n (now (types .entry)) (now (t .entry)) dest (i .op) (i .flags) left right) (expressionIn (x .expressions) (expressionWith n (now (types .entry)) (now (t .entry)) dest (i .op) (i .flags) left right))) ⌝ }
+    requires { ⌜ Room n (length (now types)) (now t) × (i .a < length (now types)) × (p < n) × (left < limit n (length (now types)) (memoryOf n (length (now types)) (now t))) × (right < limit n (length (now types)) (memoryOf n (length (now types)) (now t))) × ((v : ℕ) → folded ≡ Word v → fitsImm32 v ≡ false) ⌝ }
+    ensures { λ r. ⌜ Valued n (now (types .entry)) (now (t .entry)) i p left right folded r (now (t .exit)) ⌝ }
 {
+    let locals = types.len();
     let word = expression_word(i.op, i.flags, left, right);
     let b = entries::bucket(n, word, 0);
-    let first = table::first_expression(&t[..], n, types.len(), b);
-    match table::find_expression(&t[..], n, types.len(), first, word) {
+    let first = table::first_expression(&t[..], n, locals, b);
+    match known(t, n, locals, folded, first, word) {
         Found::At(d) => copy_or_stay(t, types, n, i, d),
         Found::Nothing => define(t, types, n, i, p, b, first, word),
     }
 }
 
 // "LoadInt if it fits; else Copy from the slot of L1 that holds the same known integer in the same type; else the instruction stays"
-fn by_word(t: &mut [u64], types: &[u8], n: usize, i: Instruction, v: u64) -> Instruction
-    requires { ⌜ Room n (length (now types)) (now t) × (i .a < length (now types)) ⌝ }
-    ensures { λ r. ⌜ Becomes n (now (types .entry)) 0 1 0 (now (t .entry)) r (now (t .exit)) (λ dest constants. Unit {0}) (λ dest S x. storedBy S (folded S (heldOrStays S) i x v) x (Integer v)) ⌝ }
-{
-    if fold::fits_imm32(v) {
-        return store_constant(t, types, n, load(i, v), 0, v);
-    }
-    let d = table::constant(t, n, types.len(), 0, v);
-    copy_or_stay(t, types, n, i, d)
-}
-
-// Folded, or looked up.
 fn by_value(
     t: &mut [u64],
     types: &[u8],
@@ -152,12 +156,14 @@ fn by_value(
     folded: Folded,
 ) -> Instruction
     requires { ⌜ Room n (length (now types)) (now t) × (i .a < length (now types)) × (p < n) × (left < limit n (length (now types)) (memoryOf n (length (now types)) (now t))) × (right < limit n (length (now types)) (memoryOf n (length (now types)) (now t))) ⌝ }
-    ensures { λ r. ⌜ Becomes n (now (types .entry)) 0 1 1 (now (t .entry)) r (now (t .exit)) (λ dest constants. Stands n p i dest) (λ dest S x. byValue S p i x (expressionWith n (now (types .entry)) (now (t .entry)) dest (i .op) (i .flags) left right) (wordOf folded)) ⌝ }
+    ensures { λ r. ⌜ Valued n (now (types .entry)) (now (t .entry)) i p left right folded r (now (t .exit)) ⌝ }
 {
-    match folded {
-        Folded::Word(v) => by_word(t, types, n, i, v),
-        Folded::Not => by_expression(t, types, n, i, p, left, right),
+    if let Folded::Word(v) = folded {
+        if fold::fits_imm32(v) {
+            return store_constant(t, types, n, load(i, v), 0, v);
+        }
     }
+    by_number(t, types, n, i, p, left, right, folded)
 }
 
 // The number of the second operand's value; a unary opcode has Integer 0 in its place.

@@ -21,13 +21,15 @@ use Rattle.values.specs.Values.{Values, Expression, empty, valueOf, representat
 use Rattle.values.specs.laws.Folded.{expressionOf}
 use Rattle.values.specs.Number.{Numbered, isScalar, cleared, constantAtom, setBC, foldUnary, foldBinary, stored, byValue, numberUnary, numberBinary, numberCopy, numberConstant, numberRead, numberBy, numberByWith, number, numberFrom, numberFromWith, numberCode, numberCodeWith}
 use Rattle.values.specs.laws.Entries.{key}
-use Rattle.values.specs.laws.Memory.{Memory, memoryOf, numberAt, keyAtom, constantKey, expressionKey, limit, Ready, Holds, atomIn}
-use Rattle.values.specs.laws.Promises.{Kept, Same}
+use Rattle.values.specs.laws.Memory.{Memory, memoryOf, numberAt, keyAtom, constantKey, expressionKey, limit, expressionAt, Ready, Holds, atomIn}
+use Rattle.values.specs.laws.Promises.{Kept, Same, Interns}
 use Rattle.values.specs.laws.Named.{Named}
 use Rattle.values.specs.declared.Atom.{Atom}
 use Rattle.values.specs.declared.Atom.the-variants.{Integer}
 use Rattle.numbering.specs.declared.Loaded.{Loaded}
 use Rattle.numbering.specs.declared.Loaded.the-variants.{Value, Unknown}
+use Rattle.values.specs.declared.Found.{Found}
+use Rattle.values.specs.declared.Found.the-variants.{At}
 use Rattle.values.specs.declared.Folded.{Folded}
 use Rattle.values.specs.declared.Folded.the-variants.{Word, Not}
 
@@ -79,6 +81,12 @@ atomAt n types t dest d = atomIn n (length types) dest (memoryOf n (length types
 abbrev pub expressionWith : ℕ → List ℕ → List ℕ → (ℕ → ℕ) → ℕ → ℕ → ℕ → ℕ → Expression
 expressionWith n types t dest op flags left right = expressionOf op flags (atomAt n types t dest left) (atomAt n types t dest right)
 
+-- an operator whose operands have the numbers left and right, which folds to f, as it becomes
+abbrev pub Valued : ℕ → List ℕ → List ℕ → Instruction → ℕ → ℕ → ℕ → Folded → Instruction → List ℕ → Type 0
+Valued n types t i p left right f x t′ =
+    Becomes n types 0 1 1 t x t′ (λ dest constants. Stands n p i dest)
+    (λ dest S v. byValue S p i v (expressionWith n types t dest (i .op) (i .flags) left right) (wordOf f))
+
 -- the classes of two operands, of one or two, and of a jump on 0
 abbrev pub binaryClass : Class → Bool
 binaryClass k = eqb (numberOf k) 6
@@ -114,6 +122,17 @@ pub record Coded (n S : ℕ) (m : Memory) (word : ℕ) : Type 0 where
   pub left-low : left < limit n S m
   pub right-low : right < limit n S m
   pub is : key word 0 ≡ expressionKey op flags left right
+
+-- the number r of a word that an expression folds to
+pub record Interned (n S : ℕ) (t : List ℕ) (v : ℕ) (r : Found) (t′ : List ℕ) : Type 0 where
+  pub number : ℕ
+  pub is : r ≡ At number
+  pub interns : Interns n S t 0 v number t′
+
+-- the number r of a value that is known: of a folded word, or of an equal expression, if there is one
+pub record Known (n S : ℕ) (t : List ℕ) (word : ℕ) (f : Folded) (r : Found) (t′ : List ℕ) : Type 0 where
+  pub constant : (v : ℕ) → f ≡ Word v → Interned n S t v r t′
+  pub expression : f ≡ Not → (t′ ≡ t) × (r ≡ expressionAt n S (memoryOf n S t) (key word 0))
 
 -- the second operand of a binary opcode
 pub record Second (n S : ℕ) (types : List ℕ) (t : List ℕ) (s : ℕ) (binary : Bool) (slot : ℕ) (t′ : List ℕ) : Type 0 where
