@@ -10,7 +10,7 @@ use borrow.Rule.Slice.PartMut.{putMid, midOf}
 use Rattle.words.specs.laws.Regions.{mid-long, get-mid, get-before}
 use Rattle.values.specs.laws.Entries.{Linked}
 use Rattle.values.specs.laws.Adding.{no-entries}
-use Rattle.values.specs.laws.Memory.{boundsAt, constantsAt, expressionsAt, endAt, memoryOf}
+use Rattle.values.specs.laws.Memory.{slotsAt, boundsAt, constantsAt, expressionsAt, endAt, memoryOf}
 use Rattle.numbering.specs.laws.Walk.{Begins}
 use Rattle.values.proofs.Parts.{put-length, part-put}
 use Rattle.values.proofs.Holding.{nothing-ordered, nothing-holds}
@@ -29,7 +29,7 @@ zero-put a e t u k from to q z i l m =
 
 module _ (n S : ℕ) (t u w : List ℕ) (some : 0 < n) (few : n ≤ 65536) (locals : S ≤ 65536) (long : endAt n S ≤ length t) where
   abbrev heads : ℕ
-  heads = 5 + 3 * S + 5 * n
+  heads = constantsAt n S + n
 
   abbrev last : ℕ
   last = expressionsAt n S + n
@@ -92,8 +92,8 @@ module _ (n S : ℕ) (t u w : List ℕ) (some : 0 < n) (few : n ≤ 65536) (loca
         (no-entries (memoryOf n S t₃ .expressionTable) n some few (omega arith)
         (λ b h. get-mid t₃ (expressionsAt n S) (endAt n S - expressionsAt n S) b 0 (omega arith) ∙ high (expressionsAt n S + b) (omega arith) (omega arith)))
 
-    slots : (s : ℕ) → s < S → getD t₃ (3 + s) 0 / 4294967296 < getD t₃ 0 0
-    slots s h = rw (low (3 + s) (omega arith) (omega arith), epoch) (omega arith)
+    slots : (s : ℕ) → s < S → getD t₃ (slotsAt + s) 0 / 4294967296 < getD t₃ 0 0
+    slots s h = rw (low (slotsAt + s) (omega arith) (omega arith), epoch) (omega arith)
 
     bounds : (x : ℕ) → x < 2 * (S + 2 * n + 1) → getD t₃ (boundsAt S + x) 0 / 4294967296 < getD t₃ 0 0
     bounds x h = rw (low (boundsAt S + x) (omega arith) (omega arith), epoch) (omega arith)
@@ -116,9 +116,9 @@ module _ (n S : ℕ) (t u w : List ℕ) (some : 0 < n) (few : n ≤ 65536) (loca
         }
 
   -- what the code of `begin` is proved by
-  pub begins : u ≡ replicate (length (midOf 0 (5 + 3 * S + 5 * n - 0) t)) 0
-      → w ≡ replicate (length (midOf (expressionsAt n S) (expressionsAt n S + n - expressionsAt n S) (putMid 0 (5 + 3 * S + 5 * n - 0) t u))) 0
-      → Begins n S t (set (putMid (expressionsAt n S) (expressionsAt n S + n - expressionsAt n S) (putMid 0 (5 + 3 * S + 5 * n - 0) t u) w) 0 1)
+  pub begins : u ≡ replicate (length (midOf 0 (constantsAt n S + n - 0) t)) 0
+      → w ≡ replicate (length (midOf (expressionsAt n S) (expressionsAt n S + n - expressionsAt n S) (putMid 0 (constantsAt n S + n - 0) t u))) 0
+      → Begins n S t (set (putMid (expressionsAt n S) (expressionsAt n S + n - expressionsAt n S) (putMid 0 (constantsAt n S + n - 0) t u) w) 0 1)
   begins zu zw =
       let ku : length (midOf 0 (heads - 0) t) ≡ heads - 0 = mid-long t 0 (heads - 0) (omega arith) in
       let long-u : length u ≡ heads - 0 = ap length zu ∙ length-replicate (length (midOf 0 (heads - 0) t)) 0 ∙ ku in

@@ -31,6 +31,7 @@ use values::Folded;
 use values::Found;
 use values::entries;
 use values::fold;
+use values::region;
 use values::table;
 
 // LoadInt of a word that fits 32 bits.
@@ -480,11 +481,11 @@ fn begin(t: &mut [u64], n: usize, locals: usize)
     requires { ⌜ (0 < n) × (n ≤ 65536) × (locals ≤ 65536) × (endAt n locals ≤ length (now t)) ⌝ }
     ensures { λ _. ⌜ Begins n locals (now (t .entry)) (now (t .exit)) ⌝ }
 {
-    let heads = 5 + 3 * locals + 5 * n;
+    let heads = region::constants_at(n, locals) + n;
     words::fill::zero_u64(&mut t[0..heads]);
-    let expressions = 5 + 3 * locals + 9 * n;
+    let expressions = region::expressions_at(n, locals);
     words::fill::zero_u64(&mut t[expressions..expressions + n]);
-    t[0] = 1;
+    t[region::EPOCH] = 1;
 }
 
 // All values are forgotten where a block starts.

@@ -14,7 +14,7 @@ use Rattle.words.specs.laws.Regions.{mid-long, mid-set-before, get-before}
 use Rattle.words.specs.laws.Truth.{both}
 use Rattle.values.specs.laws.Entries.{Key, newest, Added}
 use Rattle.values.specs.laws.Search.{newest-le, newest-key}
-use Rattle.values.specs.laws.Memory.{part, boundsAt, constantsAt, expressionsAt, endAt, Memory, memoryOf, keyAtom, constantKey, expressionKey, limit, expressionIf, expressionAt, Ready}
+use Rattle.values.specs.laws.Memory.{part, slotsAt, boundsAt, constantsAt, expressionsAt, endAt, Memory, memoryOf, keyAtom, constantKey, expressionKey, limit, expressionIf, expressionAt, Ready}
 use Rattle.values.specs.laws.Promises.{Interns, Learns}
 use Rattle.values.specs.declared.Found.the-variants.{Nothing}
 use Rattle.values.proofs.Atoms.{atom-zero, atom-constant}
@@ -28,13 +28,13 @@ record Replaced (n S i a e x : ℕ) (t u t′ : List ℕ) : Type 0 where
   long : length t′ ≡ length t
   count : getD t′ i 0 ≡ x
   word : (j : ℕ) → (j ≡ i → ⊥) → j < constantsAt n S → getD t′ j 0 ≡ getD t j 0
-  slots : (s : ℕ) → s < S → getD t′ (3 + s) 0 ≡ getD t (3 + s) 0
+  slots : (s : ℕ) → s < S → getD t′ (slotsAt + s) 0 ≡ getD t (slotsAt + s) 0
   bounds : (x : ℕ) → x < 2 * (S + 2 * n + 1) → getD t′ (boundsAt S + x) 0 ≡ getD t (boundsAt S + x) 0
   table : part a e t′ ≡ u
-  before : (b : ℕ) → 3 ≤ b → b ≤ a → part b a t′ ≡ part b a t
+  before : (b : ℕ) → slotsAt ≤ b → b ≤ a → part b a t′ ≡ part b a t
   after : (f : ℕ) → e ≤ f → f ≤ length t → part e f t′ ≡ part e f t
 
-replaced : (n S i a e x : ℕ) (t u : List ℕ) → i < 3 → constantsAt n S ≤ a → a ≤ e → e ≤ length t → length u ≡ length (part a e t) → Replaced n S i a e x t u (set (putMid a (e - a) t u) i x)
+replaced : (n S i a e x : ℕ) (t u : List ℕ) → i < slotsAt → constantsAt n S ≤ a → a ≤ e → e ≤ length t → length u ≡ length (part a e t) → Replaced n S i a e x t u (set (putMid a (e - a) t u) i x)
 replaced n S i a e x t u low start from to as-long =
     let t₁ : List ℕ = putMid a (e - a) t u in
     let inside : a + (e - a) ≤ length t = omega arith in
@@ -46,7 +46,7 @@ replaced n S i a e x t u low start from to as-long =
       long = length-set t₁ i x ∙ long;
       count = getD-set-same t₁ i x 0 (rw long (omega arith));
       word = word;
-      slots = λ s h. word (3 + s) (λ q. omega arith) (omega arith);
+      slots = λ s h. word (slotsAt + s) (λ q. omega arith) (omega arith);
       bounds = λ x h. word (boundsAt S + x) (λ q. omega arith) (omega arith);
       table = mid-set-before t₁ a (e - a) i x (omega arith) ∙ part-put a e t u from to l;
       before = λ b h k. mid-set-before t₁ b (a - b) i x (omega arith) ∙ part-before a e t u from to l b a k (omega arith);
@@ -108,7 +108,7 @@ module _ {n S : ℕ} {t : List ℕ} (g : Ready n S t) where
     r : Replaced n S 1 (constantsAt n S) (expressionsAt n S) (m .constants + 1) t u t′
     r = replaced n S 1 (constantsAt n S) (expressionsAt n S) (m .constants + 1) t u (omega arith) (omega arith) (omega arith) (let z = g .long in omega arith) (b .long)
 
-    memory : memoryOf n S t′ ≡ grown m (λ s. getD t′ (3 + s) 0) (λ d. getD t′ (boundsAt S + d) 0) u
+    memory : memoryOf n S t′ ≡ grown m (λ s. getD t′ (slotsAt + s) 0) (λ d. getD t′ (boundsAt S + d) 0) u
     memory = rw (r .word 0 (λ q. omega arith) (omega arith), r .count, r .word 2 (λ q. omega arith) (omega arith), r .table, r .after (endAt n S) (omega arith) (g .long))
 
     not-zero : constantKey kind bits ≡ constantKey 0 0 → ⊥
@@ -126,10 +126,10 @@ module _ {n S : ℕ} {t : List ℕ} (g : Ready n S t) where
     interns-new =
         record {
           kept = kept-as g memory refl (r .long)
-              (more-ordered n S (few g) (g .order) (constantKey kind bits) low not-zero none room u b (λ s. getD t′ (3 + s) 0) (λ d. getD t′ (boundsAt S + d) 0) (r .slots) (r .bounds)) (omega arith) (omega arith);
+              (more-ordered n S (few g) (g .order) (constantKey kind bits) low not-zero none room u b (λ s. getD t′ (slotsAt + s) 0) (λ d. getD t′ (boundsAt S + d) 0) (r .slots) (r .bounds)) (omega arith) (omega arith);
           low = rw (ap (λ (y : Memory). y .constants) memory) (omega arith);
-          is = λ dest. rw (ap (λ (y : Memory). y .constantTable) memory) (atom-next n S (few g) (g .order) (constantKey kind bits) low not-zero none room u b (λ s. getD t′ (3 + s) 0) (λ d. getD t′ (boundsAt S + d) 0) (r .slots) (r .bounds) dest);
-          holds = λ types dest v h. rw memory (more-holds n S (few g) (g .order) (constantKey kind bits) low not-zero none room u b (λ s. getD t′ (3 + s) 0) (λ d. getD t′ (boundsAt S + d) 0) (r .slots) (r .bounds) dest types h);
+          is = λ dest. rw (ap (λ (y : Memory). y .constantTable) memory) (atom-next n S (few g) (g .order) (constantKey kind bits) low not-zero none room u b (λ s. getD t′ (slotsAt + s) 0) (λ d. getD t′ (boundsAt S + d) 0) (r .slots) (r .bounds) dest);
+          holds = λ types dest v h. rw memory (more-holds n S (few g) (g .order) (constantKey kind bits) low not-zero none room u b (λ s. getD t′ (slotsAt + s) 0) (λ d. getD t′ (boundsAt S + d) 0) (r .slots) (r .bounds) dest types h);
         }
 
   -- an expression that has no number has no entry
@@ -151,14 +151,14 @@ module _ {n S : ℕ} {t : List ℕ} (g : Ready n S t) where
     q : Replaced n S 2 (expressionsAt n S) (endAt n S) (m .expressions + 1) t u e′
     q = replaced n S 2 (expressionsAt n S) (endAt n S) (m .expressions + 1) t u (omega arith) (omega arith) (omega arith) (g .long) (b .long)
 
-    memory-e : memoryOf n S e′ ≡ taught m (λ s. getD e′ (3 + s) 0) (λ d. getD e′ (boundsAt S + d) 0) u
+    memory-e : memoryOf n S e′ ≡ taught m (λ s. getD e′ (slotsAt + s) 0) (λ d. getD e′ (boundsAt S + d) 0) u
     memory-e = rw (q .word 0 (λ z. omega arith) (omega arith), q .word 1 (λ z. omega arith) (omega arith), q .count, q .before (constantsAt n S) (omega arith) (omega arith), q .table)
 
     pub learns : Learns n S t op flags left right d (set (putMid (expressionsAt n S) (endAt n S - expressionsAt n S) t u) 2 (memoryOf n S t .expressions + 1))
     learns =
         record {
           kept = kept-as g memory-e refl (q .long)
-              (learn-ordered n S (few g) (g .order) op flags left right d fop fflags l r used room u b (λ s. getD e′ (3 + s) 0) (λ d. getD e′ (boundsAt S + d) 0) (q .slots) (q .bounds)) (omega arith) (omega arith);
+              (learn-ordered n S (few g) (g .order) op flags left right d fop fflags l r used room u b (λ s. getD e′ (slotsAt + s) 0) (λ d. getD e′ (boundsAt S + d) 0) (q .slots) (q .bounds)) (omega arith) (omega arith);
           same = same-as g memory-e refl refl refl (q .slots);
-          holds = λ types dest v h. rw memory-e (learn-holds n S (few g) (g .order) op flags left right d fop fflags l r used room u b (λ s. getD e′ (3 + s) 0) (λ d. getD e′ (boundsAt S + d) 0) (q .slots) (q .bounds) types dest h);
+          holds = λ types dest v h. rw memory-e (learn-holds n S (few g) (g .order) op flags left right d fop fflags l r used room u b (λ s. getD e′ (slotsAt + s) 0) (λ d. getD e′ (boundsAt S + d) 0) (q .slots) (q .bounds) types dest h);
         }

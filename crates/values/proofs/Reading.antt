@@ -37,16 +37,16 @@ module _ {n S : ℕ} {t : List ℕ} (g : Ready n S t) where
   unfolding integerAt
   integer-zero d e = let far : S + n ≤ d = omega arith in rw (le-ltb d (S + n) far, eq-eqb d (S + n) e)
 
-  module _ (d : ℕ) (past : S + n ≤ d) (other : d ≡ S + n → ⊥) (used : d < limit n S (memoryOf n S t)) where
+  module _ (d : ℕ) (past : S + n ≤ d) (other : d ≡ S + n → ⊥) (used : d < limit n S (memoryOf n S t)) {a : ℕ} (start : a ≡ constantsAt n S) where
     abbrev at : ℕ
-    at = 5 + 3 * S + 5 * n + 4 * (d - (S + n) - 1)
+    at = a + n + 4 * (d - (S + n) - 1)
 
     abbrev j : ℕ
     j = d - (S + n + 1)
 
     entry-word : (i : ℕ) → i < 4 → getD (m .constantTable) (n + 4 * j + i) 0 ≡ getD t (at + i) 0
     entry-word i h =
-        let a = g .order .few-constants in
+        let c = g .order .few-constants in
         let inside : n + 4 * j + i < expressionsAt n S - constantsAt n S = omega arith in
         let here : constantsAt n S + (n + 4 * j + i) ≡ at + i = omega arith in
         get-mid t (constantsAt n S) (expressionsAt n S - constantsAt n S) (n + 4 * j + i) 0 inside ∙ ap (λ (x : ℕ). getD t x 0) here
@@ -57,13 +57,13 @@ module _ {n S : ℕ} {t : List ℕ} (g : Ready n S t) where
         let f : at + 0 ≡ at = omega arith in
         ap (λ (x : ℕ). getD (m .constantTable) x 0) (sym e) ∙ entry-word 0 (omega arith) ∙ ap (λ (x : ℕ). getD t x 0) f
 
-    pub integer-entry : getD t (5 + 3 * S + 5 * n + 4 * (d - (S + n) - 1) + 1) 0 ≡ 0 → some (getD t (5 + 3 * S + 5 * n + 4 * (d - (S + n) - 1)) 0) ≡ integerAt n S (memoryOf n S t .constantTable) d
+    pub integer-entry : getD t (a + n + 4 * (d - (S + n) - 1) + 1) 0 ≡ 0 → some (getD t (a + n + 4 * (d - (S + n) - 1)) 0) ≡ integerAt n S (memoryOf n S t .constantTable) d
     unfolding integerAt
     integer-entry e = rw (le-ltb d (S + n) past, ne-eqb d (S + n) other, entry-word 1 (omega arith), e, left-word)
 
-    pub float-entry : (getD t (5 + 3 * S + 5 * n + 4 * (d - (S + n) - 1) + 1) 0 ≡ 0 → ⊥) → none ≡ integerAt n S (memoryOf n S t .constantTable) d
+    pub float-entry : (getD t (a + n + 4 * (d - (S + n) - 1) + 1) 0 ≡ 0 → ⊥) → none ≡ integerAt n S (memoryOf n S t .constantTable) d
     unfolding integerAt
-    float-entry e = rw (le-ltb d (S + n) past, ne-eqb d (S + n) other, entry-word 1 (omega arith), ne-eqb (getD t (5 + 3 * S + 5 * n + 4 * (d - (S + n) - 1) + 1) 0) 0 e)
+    float-entry e = rw (le-ltb d (S + n) past, ne-eqb d (S + n) other, entry-word 1 (omega arith), ne-eqb (getD t (a + n + 4 * (d - (S + n) - 1) + 1) 0) 0 e)
 
   -- the number of an expression's value
   module _ (k : Key) where
@@ -74,12 +74,12 @@ module _ {n S : ℕ} {t : List ℕ} (g : Ready n S t) where
     pub found-few : {f : ℕ} → f ≡ newest (memoryOf n S t .expressionTable) n (memoryOf n S t .expressions) k → f ≤ n
     found-few e = let a = g .order .few-expressions in let b = newest-le (m .expressionTable) n k (m .expressions) in omega arith
 
-    pub expression-value : (f : ℕ) → f ≡ newest (memoryOf n S t .expressionTable) n (memoryOf n S t .expressions) k → (f ≡ 0 → ⊥)
-        → At (getD t (5 + 3 * S + 9 * n + n + 4 * (f - 1) + 2) 0) ≡ expressionAt n S (memoryOf n S t) k
+    pub expression-value : {a : ℕ} → a ≡ expressionsAt n S → (f : ℕ) → f ≡ newest (memoryOf n S t .expressionTable) n (memoryOf n S t .expressions) k → (f ≡ 0 → ⊥)
+        → At (getD t (a + n + 4 * (f - 1) + 2) 0) ≡ expressionAt n S (memoryOf n S t) k
     unfolding expressionIf
-    expression-value zero e q = absurd (q refl)
-    expression-value (suc i) e q =
-        let a = found-few e in
+    expression-value start zero e q = absurd (q refl)
+    expression-value {a} start (suc i) e q =
+        let b = found-few e in
         let inside : n + 4 * i + 2 < endAt n S - expressionsAt n S = omega arith in
-        let here : expressionsAt n S + (n + 4 * i + 2) ≡ 5 + 3 * S + 9 * n + n + 4 * (suc i - 1) + 2 = omega arith in
+        let here : expressionsAt n S + (n + 4 * i + 2) ≡ a + n + 4 * (suc i - 1) + 2 = omega arith in
         rw (← e) (ap At (sym (get-mid t (expressionsAt n S) (endAt n S - expressionsAt n S) (n + 4 * i + 2) 0 inside ∙ ap (λ (x : ℕ). getD t x 0) here)))

@@ -17,14 +17,14 @@ use Rattle.values.specs.Values.{Values, sameAtom, valueOf, lowestSlot, o
 use Rattle.values.specs.laws.Lowest.{holdsAs, lowest-is, lowest-none}
 use Rattle.values.specs.laws.Entries.{Linked}
 use Rattle.values.specs.laws.Adding.{next-epoch}
-use Rattle.values.specs.laws.Memory.{boundsAt, constantsAt, expressionsAt, endAt, Memory, memoryOf, numberAt, boundsOf, firstOf, endOf, alike, holder, Lowest, limit, Ordered, Ready, atomIn, Holds}
+use Rattle.values.specs.laws.Memory.{slotsAt, boundsAt, constantsAt, expressionsAt, endAt, Memory, memoryOf, numberAt, boundsOf, firstOf, endOf, alike, holder, Lowest, limit, Ordered, Ready, atomIn, Holds}
 use Rattle.values.specs.laws.Promises.{Kept, Same, puts, Puts, Clears, Represents, Stores, Shares}
 use Rattle.values.proofs.Atoms.{same-number}
 use Rattle.values.proofs.Holding.{turned, number-same, put-ordered, put-holds, raise-ordered, raise-holds, nothing-ordered, nothing-holds}
 
 -- a word of a slot or of bounds stored: the counts and the tables of entries are as they were
-set-memory : (n S : ℕ) (t : List ℕ) (i w : ℕ) → 3 ≤ i → i < constantsAt n S
-    → memoryOf n S (set t i w) ≡ turned (memoryOf n S t) (λ s. getD (set t i w) (3 + s) 0) (λ x. getD (set t i w) (boundsAt S + x) 0)
+set-memory : (n S : ℕ) (t : List ℕ) (i w : ℕ) → slotsAt ≤ i → i < constantsAt n S
+    → memoryOf n S (set t i w) ≡ turned (memoryOf n S t) (λ s. getD (set t i w) (slotsAt + s) 0) (λ x. getD (set t i w) (boundsAt S + x) 0)
 set-memory n S t i w l h =
     rw (
       getD-set-other t i 0 w 0 (λ e. omega arith),
@@ -63,7 +63,7 @@ module _ {n S : ℕ} {t : List ℕ} (g : Ready n S t) where
           expressions = rw (ap (λ (x : Memory). x .expressions) is) few-expressions;
         }
 
-    pub same-as : m′ .constants ≡ memoryOf n S t .constants → m′ .constantTable ≡ memoryOf n S t .constantTable → ((s : ℕ) → s < S → getD t′ (3 + s) 0 ≡ getD t (3 + s) 0) → Same n S t t′
+    pub same-as : m′ .constants ≡ memoryOf n S t .constants → m′ .constantTable ≡ memoryOf n S t .constantTable → ((s : ℕ) → s < S → getD t′ (slotsAt + s) 0 ≡ getD t (slotsAt + s) 0) → Same n S t t′
     same-as constants table slots =
         record {
           numbers = λ s l. number-same m (memoryOf n S t′) s (ap (λ (x : Memory). x .epoch) is ∙ epoch) (slots s l);
@@ -85,7 +85,7 @@ module _ {n S : ℕ} {t : List ℕ} (g : Ready n S t) where
     long : length c₃ ≡ length t
     long = simp length-set
 
-    word : (i : ℕ) → 3 ≤ i → getD c₃ i 0 ≡ getD t i 0
+    word : (i : ℕ) → slotsAt ≤ i → getD c₃ i 0 ≡ getD t i 0
     word i l = getD-set-other c₂ 2 i 0 0 (λ e. omega arith) ∙ getD-set-other c₁ 1 i 0 0 (λ e. omega arith) ∙ getD-set-other t 0 i (getD t 0 0 + 1) 0 (λ e. omega arith)
 
     epoch : getD c₃ 0 0 ≡ getD t 0 0 + 1
@@ -97,7 +97,7 @@ module _ {n S : ℕ} {t : List ℕ} (g : Ready n S t) where
     expressions : getD c₃ 2 0 ≡ 0
     expressions = getD-set-same c₂ 2 0 0 (simp length-set (omega (arith, g .long)))
 
-    region : (a k : ℕ) → 3 ≤ a → midOf a k c₃ ≡ midOf a k t
+    region : (a k : ℕ) → slotsAt ≤ a → midOf a k c₃ ≡ midOf a k t
     region a k l = mid-set-before c₂ a k 2 0 (omega arith) ∙ mid-set-before c₁ a k 1 0 (omega arith) ∙ mid-set-before t a k 0 (getD t 0 0 + 1) (omega arith)
 
     linked : Linked (memoryOf n S c₃ .constantTable) n (memoryOf n S c₃ .epoch) 0
@@ -106,8 +106,8 @@ module _ {n S : ℕ} {t : List ℕ} (g : Ready n S t) where
     terms : Linked (memoryOf n S c₃ .expressionTable) n (memoryOf n S c₃ .epoch) 0
     terms = rw (region (expressionsAt n S) (endAt n S - expressionsAt n S) (omega arith), epoch) (next-epoch (g .order .expressions) (omega arith))
 
-    slots : (s : ℕ) → s < S → getD c₃ (3 + s) 0 / 4294967296 < getD c₃ 0 0
-    slots s l = rw (word (3 + s) (omega arith), epoch) (let f = g .order .slots-past s l in omega arith)
+    slots : (s : ℕ) → s < S → getD c₃ (slotsAt + s) 0 / 4294967296 < getD c₃ 0 0
+    slots s l = rw (word (slotsAt + s) (omega arith), epoch) (let f = g .order .slots-past s l in omega arith)
 
     bounds : (x : ℕ) → x < 2 * (S + 2 * n + 1) → getD c₃ (boundsAt S + x) 0 / 4294967296 < getD c₃ 0 0
     bounds x l = rw (word (boundsAt S + x) (omega arith), epoch) (let f = g .order .bounds-past x l in omega arith)
@@ -192,37 +192,37 @@ module _ {n S : ℕ} {t : List ℕ} (g : Ready n S t) where
       t₁ = set t (boundsAt S + x) W
 
       abbrev t₂ : List ℕ
-      t₂ = set t₁ (3 + s) D
+      t₂ = set t₁ (slotsAt + s) D
 
-      memory₂ : memoryOf n S t₂ ≡ turned m (λ r. getD t₂ (3 + r) 0) (λ y. getD t₂ (boundsAt S + y) 0)
+      memory₂ : memoryOf n S t₂ ≡ turned m (λ r. getD t₂ (slotsAt + r) 0) (λ y. getD t₂ (boundsAt S + y) 0)
       memory₂ =
-          set-memory n S t₁ (3 + s) D (omega arith) (omega arith)
-          ∙ ap (λ (y : Memory). turned y (λ r. getD t₂ (3 + r) 0) (λ y. getD t₂ (boundsAt S + y) 0)) (set-memory n S t (boundsAt S + x) W (omega arith) (bounds-inside d (getD types s 0) used))
+          set-memory n S t₁ (slotsAt + s) D (omega arith) (omega arith)
+          ∙ ap (λ (y : Memory). turned y (λ r. getD t₂ (slotsAt + r) 0) (λ y. getD t₂ (boundsAt S + y) 0)) (set-memory n S t (boundsAt S + x) W (omega arith) (bounds-inside d (getD types s 0) used))
 
       long₂ : length t₂ ≡ length t
       long₂ = simp length-set
 
-      slot-here : getD t₂ (3 + s) 0 ≡ D
-      slot-here = getD-set-same t₁ (3 + s) D 0 (simp length-set (let a = g .long in omega arith))
+      slot-here : getD t₂ (slotsAt + s) 0 ≡ D
+      slot-here = getD-set-same t₁ (slotsAt + s) D 0 (simp length-set (let a = g .long in omega arith))
 
-      slot-there : (r : ℕ) → r < S → (r ≡ s → ⊥) → getD t₂ (3 + r) 0 ≡ getD t (3 + r) 0
-      slot-there r l f = getD-set-other t₁ (3 + s) (3 + r) D 0 (λ q. f (omega arith)) ∙ getD-set-other t (boundsAt S + x) (3 + r) W 0 (λ q. omega arith)
+      slot-there : (r : ℕ) → r < S → (r ≡ s → ⊥) → getD t₂ (slotsAt + r) 0 ≡ getD t (slotsAt + r) 0
+      slot-there r l f = getD-set-other t₁ (slotsAt + s) (slotsAt + r) D 0 (λ q. f (omega arith)) ∙ getD-set-other t (boundsAt S + x) (slotsAt + r) W 0 (λ q. omega arith)
 
       bounds-here : getD t₂ (boundsAt S + x) 0 ≡ W
-      bounds-here = getD-set-other t₁ (3 + s) (boundsAt S + x) D 0 (λ q. omega arith) ∙ getD-set-same t (boundsAt S + x) W 0 (bounds-long d (getD types s 0) used)
+      bounds-here = getD-set-other t₁ (slotsAt + s) (boundsAt S + x) D 0 (λ q. omega arith) ∙ getD-set-same t (boundsAt S + x) W 0 (bounds-long d (getD types s 0) used)
 
       bounds-there : (y : ℕ) → (y ≡ x → ⊥) → getD t₂ (boundsAt S + y) 0 ≡ getD t (boundsAt S + y) 0
-      bounds-there y f = getD-set-other t₁ (3 + s) (boundsAt S + y) D 0 (λ q. omega arith) ∙ getD-set-other t (boundsAt S + x) (boundsAt S + y) W 0 (λ q. f (omega arith))
+      bounds-there y f = getD-set-other t₁ (slotsAt + s) (boundsAt S + y) D 0 (λ q. omega arith) ∙ getD-set-other t (boundsAt S + x) (boundsAt S + y) W 0 (λ q. f (omega arith))
 
       stores-within : ((dest : ℕ → ℕ) (v : Values) → Holds n S types dest v m → (r : ℕ) → r < S → numberAt m r ≡ d → getD types r 0 % 2 ≡ getD types s 0 % 2 → (first ≤ r) × (r ≤ last))
           → Stores n S types t s d t₂
       stores-within cover =
           record {
             kept = kept-as memory₂ refl long₂
-                (put-ordered n S few (g .order) s d (getD types s 0) first last low used first-s s-last last-low (λ r. getD t₂ (3 + r) 0) (λ y. getD t₂ (boundsAt S + y) 0) slot-here slot-there bounds-here bounds-there) (omega arith) (omega arith);
+                (put-ordered n S few (g .order) s d (getD types s 0) first last low used first-s s-last last-low (λ r. getD t₂ (slotsAt + r) 0) (λ y. getD t₂ (boundsAt S + y) 0) slot-here slot-there bounds-here bounds-there) (omega arith) (omega arith);
             holds = λ dest v h.
                 rw memory₂
-                (put-holds n S few (g .order) s d (getD types s 0) first last low used first-s s-last last-low (λ r. getD t₂ (3 + r) 0) (λ y. getD t₂ (boundsAt S + y) 0) slot-here slot-there bounds-here bounds-there types dest refl h (cover dest v h));
+                (put-holds n S few (g .order) s d (getD types s 0) first last low used first-s s-last last-low (λ r. getD t₂ (slotsAt + r) 0) (λ y. getD t₂ (boundsAt S + y) 0) slot-here slot-there bounds-here bounds-there types dest refl h (cover dest v h));
           }
 
     -- the slots of the group that held number d before lie from `first` on and before `end`
@@ -435,11 +435,11 @@ module _ {n S : ℕ} {t : List ℕ} (g : Ready n S t) where
               let y : w / 65536 ≡ 65536 * e + f = omega arith in
               omega arith
 
-      memory : memoryOf n S raised ≡ turned m (λ r. getD raised (3 + r) 0) (λ y. getD raised (boundsAt S + y) 0)
+      memory : memoryOf n S raised ≡ turned m (λ r. getD raised (slotsAt + r) 0) (λ y. getD raised (boundsAt S + y) 0)
       memory = set-memory n S t at (b + 65536 * (near - from)) (omega arith) (bounds-inside d own used-s)
 
-      slots-same : (r : ℕ) → r < S → getD raised (3 + r) 0 ≡ getD t (3 + r) 0
-      slots-same r l = getD-set-other t at (3 + r) (b + 65536 * (near - from)) 0 (λ e. omega arith)
+      slots-same : (r : ℕ) → r < S → getD raised (slotsAt + r) 0 ≡ getD t (slotsAt + r) 0
+      slots-same r l = getD-set-other t at (slotsAt + r) (b + 65536 * (near - from)) 0 (λ e. omega arith)
 
       raised-here : getD raised at 0 ≡ 4294967296 * m .epoch + 65536 * near + b % 65536
       raised-here = getD-set-same t at (b + 65536 * (near - from)) 0 (bounds-long d own used-s) ∙ raised-word
@@ -459,13 +459,13 @@ module _ {n S : ℕ} {t : List ℕ} (g : Ready n S t) where
       raise-kept : Kept n S 0 0 0 t raised
       raise-kept =
           kept-as memory refl (length-set t at (b + 65536 * (near - from)))
-          (raise-ordered n S few (g .order) (boundsOf d own) near (b % 65536) near-fits last-low (λ r. getD raised (3 + r) 0) (λ y. getD raised (boundsAt S + y) 0) slots-same raised-here raised-there) (omega arith) (omega arith)
+          (raise-ordered n S few (g .order) (boundsOf d own) near (b % 65536) near-fits last-low (λ r. getD raised (slotsAt + r) 0) (λ y. getD raised (boundsAt S + y) 0) slots-same raised-here raised-there) (omega arith) (omega arith)
 
       raise-table : (dest : ℕ → ℕ) (v : Values) → Holds n S types dest v m → Holds n S types dest v (memoryOf n S raised)
       unfolding holder alike endOf
       raise-table dest v h =
           rw memory
-          (raise-holds n S few (g .order) (boundsOf d own) near (b % 65536) near-fits last-low (λ r. getD raised (3 + r) 0) (λ y. getD raised (boundsAt S + y) 0) slots-same raised-here raised-there types dest h cover)
+          (raise-holds n S few (g .order) (boundsOf d own) near (b % 65536) near-fits last-low (λ r. getD raised (slotsAt + r) 0) (λ y. getD raised (boundsAt S + y) 0) slots-same raised-here raised-there types dest h cover)
         where
           apart : (a b c e : ℕ) → 2 * a + c % 2 ≡ 2 * b + e % 2 → (a ≡ b) × (c % 2 ≡ e % 2)
           apart a b c e q = (omega arith, omega arith)
@@ -569,7 +569,7 @@ module _ {n S : ℕ} {types t : List ℕ} {s d at first end : ℕ} (w : Bounded 
   end-inside = rw (own-place .end-is) (end-low (w .ready) d (getD types s 0) (w .used))
 
   -- what `put` asks
-  pub put-asks : {e : ℕ} → e ≤ S → (s < 65536) × (d < 4294967296) × (at < length t) × (3 + s < length t) × (e ≤ 65536) × (getD t 0 0 < 4294967296)
+  pub put-asks : {e : ℕ} → e ≤ S → (s < 65536) × (d < 4294967296) × (at < length t) × (slotsAt + s < length t) × (e ≤ 65536) × (getD t 0 0 < 4294967296)
   put-asks l =
       let a = w .ready .order .locals in
       let b = place-asks (w .ready) (w .used) in

@@ -1,6 +1,7 @@
 // The table of values within a block, by value numbers.
 pub mod entries;
 pub mod fold;
+pub mod region;
 pub mod table;
 
 // The value of a slot: a known 64-bit integer, a float constant's bits, or what the instruction at a place gave to a slot.

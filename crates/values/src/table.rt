@@ -1,28 +1,30 @@
 // The table of values: what `Values` of the Rust keeps in `HashMap`s, by value numbers. A number below the number of slots is
 // that of a slot's value at the block's start; then there is one for each place, one for Integer 0, and one for each constant.
 // The memory has the epoch and the numbers of constants and of expressions, a word for each slot (its value's number), two words for
-// each number (the bounds of the slots that hold it, for each of the two groups of types), and two tables of entries.
+// each number (the bounds of the slots that hold it, for each of the two groups of types), and two tables of entries. `region`
+// says where they stand.
 ghost use mathlib.Core.Path.{_≡_};
 ghost use mathlib.Core.Bool.{Bool, true, false};
 ghost use Prim.Native.Nat.{ℕ, _+_, _*_, _-_, _≤_, _<_};
 ghost use lib.ListN.{length, getD, set};
 ghost use Rattle.values.specs.laws.Entries.{key, bucketOf, headAt};
 ghost use Rattle.values.specs.laws.Folded.{integerOf};
-ghost use Rattle.values.specs.laws.Memory.{memoryOf, numberAt, boundsAt, boundsOf, firstOf, endOf, alike, Lowest, expressionAt, expressionKey, integerAt, limit, Ready};
+ghost use Rattle.values.specs.laws.Memory.{slotsAt, memoryOf, numberAt, boundsAt, boundsOf, firstOf, endOf, alike, Lowest, expressionAt, expressionKey, integerAt, limit, Ready};
 ghost use Rattle.values.specs.laws.Promises.{Puts, Clears, Represents, Stores, Shares, Interns, Learns};
 ghost use Rattle.values.specs.declared.Found.the-variants.{Nothing};
 use crate::Atom;
 use crate::Found;
 use crate::entries;
+use crate::region;
 
 // Nothing is known any more: what the words of slots, bounds and heads say is of an earlier epoch.
 pub fn clear(t: &mut [u64], n: usize, locals: usize)
     requires { ⌜ Ready n locals (now t) × (memoryOf n locals (now t) .epoch < 4294967295) ⌝ }
     ensures { λ _. ⌜ Clears n locals (now (t .entry)) (now (t .exit)) ⌝ }
 {
-    t[0] = t[0] + 1;
-    t[1] = 0;
-    t[2] = 0;
+    t[region::EPOCH] = t[region::EPOCH] + 1;
+    t[region::CONSTANT_COUNT] = 0;
+    t[region::EXPRESSION_COUNT] = 0;
 }
 
 // The number of a slot's value.
@@ -30,19 +32,19 @@ pub fn number(t: &[u64], n: usize, locals: usize, s: u16) -> u64
     requires { ⌜ Ready n locals (now t) × (s < locals) ⌝ }
     ensures { λ r. ⌜ (r ≡ numberAt (memoryOf n locals (now (t .entry))) s) × (r < limit n locals (memoryOf n locals (now (t .entry)))) ⌝ }
 {
-    let w = t[3 + (s as usize)];
-    if w / 4294967296 == t[0] {
+    let w = t[region::SLOTS_AT + (s as usize)];
+    if w / 4294967296 == t[region::EPOCH] {
         return w % 4294967296;
     }
     s as u64
 }
 
 // Where the bounds of number d stand, for the group that the type `kind` is of.
-fn bounds_at(locals: usize, d: u64, kind: u8) -> usize
+fn bounds_place(locals: usize, d: u64, kind: u8) -> usize
     requires { ⌜ (locals ≤ 65536) × (d < 16777216) ⌝ }
     ensures { λ r. ⌜ r ≡ boundsAt locals + boundsOf d kind ⌝ }
 {
-    3 + locals + (2 * (d as usize) + ((kind % 2) as usize))
+    region::bounds_at(locals) + (2 * (d as usize) + ((kind % 2) as usize))
 }
 
 // The slots that hold number d lie from `first_of` on and before `end_of`, by the word of their bounds.
@@ -143,9 +145,9 @@ pub fn representative(t: &mut [u64], types: &[u8], n: usize, s: u16, d: u64) -> 
 {
     let slot = s as usize;
     let kind = types[slot];
-    let at = bounds_at(types.len(), d, kind);
+    let at = bounds_place(types.len(), d, kind);
     let word = t[at];
-    let from = least(first_of(t[0], word, s as u64) as usize, slot);
+    let from = least(first_of(t[region::EPOCH], word, s as u64) as usize, slot);
     let near = lowest(&t[..], types, n, d, kind, false, from, slot);
     t[at] = word + 65536 * ((near - from) as u64);
     lowest_typed(&t[..], types, n, d, kind, near, slot) as u16
@@ -153,14 +155,14 @@ pub fn representative(t: &mut [u64], types: &[u8], n: usize, s: u16, d: u64) -> 
 
 // Slot s holds number d, and the bounds at `at` reach from `first` and slot s to slot s and the one before `end`.
 fn put(t: &mut [u64], s: usize, d: u64, at: usize, first: usize, end: usize)
-    requires { ⌜ (s < 65536) × (d < 4294967296) × (at < length (now t)) × (3 + s < length (now t)) × (end ≤ 65536) × (getD (now t) 0 0 < 4294967296) ⌝ }
+    requires { ⌜ (s < 65536) × (d < 4294967296) × (at < length (now t)) × (slotsAt + s < length (now t)) × (end ≤ 65536) × (getD (now t) 0 0 < 4294967296) ⌝ }
     ensures { λ _. ⌜ Puts (now (t .entry)) s d at first end (now (t .exit)) ⌝ }
 {
-    let epoch = t[0];
+    let epoch = t[region::EPOCH];
     let low = least(first, s);
     let high = most(end, s + 1) - 1;
     t[at] = 4294967296 * epoch + 65536 * (low as u64) + (high as u64);
-    t[3 + s] = 4294967296 * epoch + d;
+    t[region::SLOTS_AT + s] = 4294967296 * epoch + d;
 }
 
 // A store: the value with the number d in slot s.
@@ -169,10 +171,10 @@ pub fn store(t: &mut [u64], types: &[u8], n: usize, s: u16, d: u64)
     ensures { λ _. ⌜ Stores n (length (now (types .entry))) (now (types .entry)) (now (t .entry)) s d (now (t .exit)) ⌝ }
 {
     let slot = s as usize;
-    let at = bounds_at(types.len(), d, types[slot]);
+    let at = bounds_place(types.len(), d, types[slot]);
     let word = t[at];
-    let first = first_of(t[0], word, d) as usize;
-    let end = end_of(types.len() as u64, t[0], word, d) as usize;
+    let first = first_of(t[region::EPOCH], word, d) as usize;
+    let end = end_of(types.len() as u64, t[region::EPOCH], word, d) as usize;
     put(t, slot, d, at, first, end);
 }
 
@@ -184,10 +186,10 @@ pub fn share(t: &mut [u64], types: &[u8], n: usize, s: u16, d: u64) -> usize
     let slot = s as usize;
     let locals = types.len();
     let kind = types[slot];
-    let at = bounds_at(locals, d, kind);
+    let at = bounds_place(locals, d, kind);
     let word = t[at];
-    let first = first_of(t[0], word, d) as usize;
-    let end = end_of(locals as u64, t[0], word, d) as usize;
+    let first = first_of(t[region::EPOCH], word, d) as usize;
+    let end = end_of(locals as u64, t[region::EPOCH], word, d) as usize;
     let near = lowest(&t[..], types, n, d, kind, false, first, end);
     if end <= near {
         put(t, slot, d, at, slot, 0);
@@ -215,7 +217,7 @@ pub fn atom(t: &[u64], n: usize, locals: usize, d: u64) -> Atom
     if number == zero {
         return Atom::Integer(0);
     }
-    let at = 5 + 3 * locals + 5 * n + 4 * (number - zero - 1);
+    let at = region::constants_at(n, locals) + n + 4 * (number - zero - 1);
     if t[at + 1] == 0 {
         return Atom::Integer(t[at]);
     }
@@ -231,10 +233,10 @@ pub fn constant(t: &mut [u64], n: usize, locals: usize, kind: u64, bits: u64) ->
     if (kind == 0) & (bits == 0) {
         return zero as u64;
     }
-    let start = 5 + 3 * locals + 4 * n;
-    let end = 5 + 3 * locals + 9 * n;
-    let epoch = t[0];
-    let count = t[1] as usize;
+    let start = region::constants_at(n, locals);
+    let end = region::expressions_at(n, locals);
+    let epoch = t[region::EPOCH];
+    let count = t[region::CONSTANT_COUNT] as usize;
     let b = entries::bucket(n, bits, kind);
     let first = entries::head(&t[start..end], epoch, b);
     let f = entries::find(&t[start..end], n, count, first, bits, kind);
@@ -242,7 +244,7 @@ pub fn constant(t: &mut [u64], n: usize, locals: usize, kind: u64, bits: u64) ->
         return (zero + f) as u64;
     }
     entries::insert(&mut t[start..end], n, epoch, count, b, first, bits, kind, 0);
-    t[1] = (count + 1) as u64;
+    t[region::CONSTANT_COUNT] = (count + 1) as u64;
     (zero + 1 + count) as u64
 }
 
@@ -251,9 +253,9 @@ pub fn first_expression(t: &[u64], n: usize, locals: usize, b: usize) -> u64
     requires { ⌜ Ready n locals (now t) × (b < n) ⌝ }
     ensures { λ r. ⌜ r ≡ headAt (memoryOf n locals (now (t .entry)) .expressionTable) (memoryOf n locals (now (t .entry)) .epoch) b ⌝ }
 {
-    let start = 5 + 3 * locals + 9 * n;
-    let end = 5 + 3 * locals + 14 * n;
-    entries::head(&t[start..end], t[0], b)
+    let start = region::expressions_at(n, locals);
+    let end = region::end_at(n, locals);
+    entries::head(&t[start..end], t[region::EPOCH], b)
 }
 
 // The number of an equal expression's value, by its key and the head of its bucket.
@@ -261,13 +263,15 @@ pub fn find_expression(t: &[u64], n: usize, locals: usize, first: u64, word: u64
     requires { ⌜ Ready n locals (now t) × (first ≡ headAt (memoryOf n locals (now t) .expressionTable) (memoryOf n locals (now t) .epoch) (bucketOf n (key word 0))) ⌝ }
     ensures { λ r. ⌜ r ≡ expressionAt n locals (memoryOf n locals (now (t .entry))) (key word 0) ⌝ }
 {
-    let start = 5 + 3 * locals + 9 * n;
-    let end = 5 + 3 * locals + 14 * n;
-    let f = entries::find(&t[start..end], n, t[2] as usize, first, word, 0);
+    let start = region::expressions_at(n, locals);
+    let end = region::end_at(n, locals);
+    let count = t[region::EXPRESSION_COUNT] as usize;
+    let f = entries::find(&t[start..end], n, count, first, word, 0);
     if f == 0 {
         return Found::Nothing;
     }
-    Found::At(t[start + n + 4 * (f - 1) + 2])
+    let at = start + n + 4 * (f - 1) + 2;
+    Found::At(t[at])
 }
 
 // One expression more, which is not there yet: its value has the number d.
@@ -275,10 +279,10 @@ pub fn learn(t: &mut [u64], n: usize, locals: usize, b: usize, first: u64, word:
     requires { ⌜ Ready n locals (now t) × (memoryOf n locals (now t) .expressions < n) × (b ≡ bucketOf n (key word 0)) × (b < n) × (first ≡ headAt (memoryOf n locals (now t) .expressionTable) (memoryOf n locals (now t) .epoch) b) × (d < limit n locals (memoryOf n locals (now t))) × (expressionAt n locals (memoryOf n locals (now t)) (key word 0) ≡ Nothing) ⌝ }
     ensures { λ _. ⌜ ((op flags left right : ℕ) → op < 256 → flags < 256 → left < limit n locals (memoryOf n locals (now (t .entry))) → right < limit n locals (memoryOf n locals (now (t .entry))) → key word 0 ≡ expressionKey op flags left right → Learns n locals (now (t .entry)) op flags left right d (now (t .exit))) ⌝ }
 {
-    let start = 5 + 3 * locals + 9 * n;
-    let end = 5 + 3 * locals + 14 * n;
-    let epoch = t[0];
-    let count = t[2] as usize;
+    let start = region::expressions_at(n, locals);
+    let end = region::end_at(n, locals);
+    let epoch = t[region::EPOCH];
+    let count = t[region::EXPRESSION_COUNT] as usize;
     entries::insert(&mut t[start..end], n, epoch, count, b, first, word, 0, d);
-    t[2] = (count + 1) as u64;
+    t[region::EXPRESSION_COUNT] = (count + 1) as u64;
 }

@@ -28,7 +28,7 @@ abbrev pub slotsAt : ℕ
 slotsAt = 3
 
 abbrev pub boundsAt : ℕ → ℕ
-boundsAt S = 3 + S
+boundsAt S = slotsAt + S
 
 abbrev pub constantsAt : ℕ → ℕ → ℕ
 constantsAt n S = 5 + 3 * S + 4 * n
@@ -54,7 +54,7 @@ memoryOf n S t =
       epoch = getD t 0 0;
       constants = getD t 1 0;
       expressions = getD t 2 0;
-      slot = λ s. getD t (3 + s) 0;
+      slot = λ s. getD t (slotsAt + s) 0;
       bounds = λ x. getD t (boundsAt S + x) 0;
       constantTable = part (constantsAt n S) (expressionsAt n S) t;
       expressionTable = part (expressionsAt n S) (endAt n S) t;

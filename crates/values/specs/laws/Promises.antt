@@ -5,7 +5,7 @@ use mathlib.Core.List.{List}
 use Prim.Native.Nat.{ℕ, _+_, _*_, _≤_, _<_}
 use lib.ListN.{length, getD, set}
 use Rattle.values.specs.Values.{Values, empty, lowestSlot, orItself, representative, store, learn}
-use Rattle.values.specs.laws.Memory.{memoryOf, numberAt, keyAtom, constantKey, limit, atomIn, Ready, Holds}
+use Rattle.values.specs.laws.Memory.{slotsAt, memoryOf, numberAt, keyAtom, constantKey, limit, atomIn, Ready, Holds}
 
 -- the memory stays in order; at most c constants and e expressions more, at most k epochs later
 pub record Kept (n S k c e : ℕ) (t t′ : List ℕ) : Type 0 where
@@ -23,7 +23,7 @@ pub record Same (n S : ℕ) (t t′ : List ℕ) : Type 0 where
 
 -- slot s holds number d, by its word, and the word at `at` has bounds that reach from `low` to `high`
 abbrev pub puts : List ℕ → ℕ → ℕ → ℕ → ℕ → ℕ → List ℕ
-puts t s d at low high = set (set t at (4294967296 * getD t 0 0 + 65536 * low + high)) (3 + s) (4294967296 * getD t 0 0 + d)
+puts t s d at low high = set (set t at (4294967296 * getD t 0 0 + 65536 * low + high)) (slotsAt + s) (4294967296 * getD t 0 0 + d)
 
 pub record Puts (t : List ℕ) (s d at first end : ℕ) (t′ : List ℕ) : Type 0 where
   pub low : ℕ

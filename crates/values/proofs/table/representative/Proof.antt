@@ -17,7 +17,7 @@ start c = c .before .before .before .before .before .before .before .before .bef
 
 -- the walk to `near`
 walks : (c : tie.After-lowest) → Walks (start c .args .n) (length (start c .args .types .now)) (start c .args .types .now) (start c .args .t .now) (start c .args .s) (start c .args .d)
-    (c .before .before .before .before .before .before .bounds-at .result) (c .before .before .least .result) (c .lowest .result)
+    (c .before .before .before .before .before .before .bounds-place .result) (c .before .before .least .result) (c .lowest .result)
 walks c =
     let least = c .before .before .least .ensures in
     let first = c .before .before .before .first-of .ensures in
@@ -26,35 +26,35 @@ walks c =
       typed = refl;
       slot = start c .pre .1;
       number = start c .pre .2;
-      place = c .before .before .before .before .before .before .bounds-at .ensures;
+      place = c .before .before .before .before .before .before .bounds-place .ensures;
       from-s = least .1;
       from-first = rw (← first) (least .0);
       from-most = λ k l. least .2 k (rw first l);
       group = c .lowest .ensures;
     }
 
-bounds-at-requires : tie.Need-bounds-at-requires
-bounds-at-requires c κs = let s = c .before .before .before in place-asks (s .pre .0) (used s)
+bounds-place-requires : tie.Need-bounds-place-requires
+bounds-place-requires c κs = let s = c .before .before .before in place-asks (s .pre .0) (used s)
 
 mul-word : tie.Need-mul-word
-mul-word c = let s = c .before .before .before .before in let a = place-asks (s .pre .0) (used s) in record { fits = omega (arith, a .0, a .1, c .bounds-at .ensures) }
+mul-word c = let s = c .before .before .before .before in let a = place-asks (s .pre .0) (used s) in record { fits = omega (arith, a .0, a .1, c .bounds-place .ensures) }
 
 slice-read-word : tie.Need-slice-read-word
-slice-read-word c = let s = c .before .before .before .before .before in place-long (s .pre .0) (used s) (omega (arith, c .before .bounds-at .ensures))
+slice-read-word c = let s = c .before .before .before .before .before in place-long (s .pre .0) (used s) (omega (arith, c .before .bounds-place .ensures))
 
 mul-t : tie.Need-mul-t
 mul-t c = record { fits = omega (arith, walk-near (walks c), start c .pre .0 .order .locals, start c .pre .1) }
 
 add-t : tie.Need-add-t
-add-t c = record { fits = walk-fits (walks c) (omega (arith, c .before .before .before .before .before .slice-known2 .given (c .before .before .before .before .before .before .bounds-at .result))) }
+add-t c = record { fits = walk-fits (walks c) (omega (arith, c .before .before .before .before .before .slice-known2 .given (c .before .before .before .before .before .before .bounds-place .result))) }
 
 mul-t-2 : tie.Need-mul-t-2
 mul-t-2 c =
     let a = place-asks (start c .pre .0) (used (start c)) in
-    record { fits = omega (arith, a .0, a .1, c .before .before .before .before .before .before .bounds-at .ensures) }
+    record { fits = omega (arith, a .0, a .1, c .before .before .before .before .before .before .bounds-place .ensures) }
 
 slice-write-t : tie.Need-slice-write-t
-slice-write-t c = let s = c .before .before .before .before .before .before .before .before .before .before in place-long (s .pre .0) (used s) (omega (arith, c .before .before .before .before .before .before .bounds-at .ensures))
+slice-write-t c = let s = c .before .before .before .before .before .before .before .before .before .before in place-long (s .pre .0) (used s) (omega (arith, c .before .before .before .before .before .before .bounds-place .ensures))
 
 lowest-typed-requires : tie.Need-lowest-typed-requires
 lowest-typed-requires c κs =
@@ -74,7 +74,7 @@ representative-spec =
     tie.close
     (tie.spec
     (λ c. search needs)
-    bounds-at-requires
+    bounds-place-requires
     mul-word
     slice-read-word
     (λ c. search needs)

@@ -10,26 +10,26 @@ abbrev start : tie.After-end-of → tie.Start
 start c = c .before .before .before .before .before .before .before .before .before
 
 bounded : (c : tie.After-end-of) → Bounded (start c .args .n) (length (start c .args .types .now)) (start c .args .types .now) (start c .args .t .now) (start c .args .s) (start c .args .d)
-    (c .before .before .before .before .before .bounds-at .result) (c .before .before .first-of .result) (c .end-of .result)
+    (c .before .before .before .before .before .bounds-place .result) (c .before .before .first-of .result) (c .end-of .result)
 bounded c =
     record {
       ready = start c .pre .0;
       typed = refl;
       slot = start c .pre .1;
       used = start c .pre .2;
-      place = c .before .before .before .before .before .bounds-at .ensures;
+      place = c .before .before .before .before .before .bounds-place .ensures;
       first-is = c .before .before .first-of .ensures;
       end-is = c .end-of .ensures;
     }
 
-bounds-at-requires : tie.Need-bounds-at-requires
-bounds-at-requires c κs = let h = c .before .before .before .pre in place-asks (h .0) (h .2)
+bounds-place-requires : tie.Need-bounds-place-requires
+bounds-place-requires c κs = let h = c .before .before .before .pre in place-asks (h .0) (h .2)
 
 mul-word : tie.Need-mul-word
-mul-word c = let h = c .before .before .before .before .pre in let a = place-asks (h .0) (h .2) in record { fits = omega (arith, a .0, a .1, c .bounds-at .ensures) }
+mul-word c = let h = c .before .before .before .before .pre in let a = place-asks (h .0) (h .2) in record { fits = omega (arith, a .0, a .1, c .bounds-place .ensures) }
 
 slice-read-word : tie.Need-slice-read-word
-slice-read-word c = let h = c .before .before .before .before .before .pre in place-long (h .0) (h .2) (omega (arith, c .before .bounds-at .ensures))
+slice-read-word c = let h = c .before .before .before .before .before .pre in place-long (h .0) (h .2) (omega (arith, c .before .bounds-place .ensures))
 
 put-requires : tie.Need-put-requires
 put-requires c κs = put-asks (bounded (c .before)) (end-inside (bounded (c .before)))
@@ -42,7 +42,7 @@ store-spec =
     tie.close
     (tie.spec
     (λ c. search needs)
-    bounds-at-requires
+    bounds-place-requires
     mul-word
     slice-read-word
     (λ c. search needs)
