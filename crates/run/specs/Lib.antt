@@ -1,6 +1,7 @@
 pub mod System
 pub mod Machine
 pub mod Program
+pub mod Visits
 pub mod Returned
 pub mod Contract
 pub mod Given
