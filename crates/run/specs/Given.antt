@@ -34,11 +34,11 @@ use Rattle.answer.specs.Pass.{Outcome, unchanged, refused, rewritten, outputAft
 use Rattle.answer.specs.Answer.{Lent, cellsOf, sectionsOf, roomFor, isSkipped, afterRoom, afterSkipped, afterLayout, laidOut, answerWith, passAnswer}
 use Rattle.answer.specs.Clean.{retainedCell, cellsAfter, placedBy, afterPass, cleanFrom, cleanedFirst, spareFor, cleanAnswer, linesPast, linesFrom, linesFirst, cleanLines}
 use Rattle.run.specs.laws.Machine.{same-runs-refl}
-use Rattle.run.specs.Visits.{notedAt, StandsFor}
+use Rattle.run.specs.Visits.{notedAt, StandsFor, PreservesPlaces}
 use Rattle.run.specs.laws.Visits.{visits-runs, visits-trans, visits-noted, noted-placed}
 use Rattle.run.specs.laws.Opcodes.{stands-trans}
 use Rattle.run.specs.Program.{Function, programOf}
-use Rattle.run.specs.Returned.{givenFunction, resultFunction, outputFunction, PreservesRuns, PreservesPlaces}
+use Rattle.run.specs.Returned.{givenFunction, resultFunction, outputFunction, PreservesRuns}
 use Rattle.run.specs.laws.Valuation.{Below, integer, float}
 use Rattle.run.specs.laws.RelocatedRun.{pick}
 use Rattle.run.specs.laws.Checked.{Well}

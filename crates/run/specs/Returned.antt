@@ -1,18 +1,16 @@
 -- Definitions. The function given and the function returned, and demand 3 as a claim about an answer and the output's bytes after it.
 -- Assumes nothing.
 use mathlib.Core.List.{List}
-use Prim.Native.Nat.{ℕ, _<_}
-use lib.ListN.{length, getD}
+use Prim.Native.Nat.{ℕ}
+use lib.ListN.{length}
 use Rattle.unit.specs.Layout.{headerOf}
 use Rattle.unit.specs.Result.{Retained, readResult}
-use Rattle.lines.specs.Lines.{placesOf}
-use Rattle.effects.specs.Shape.{Sections, cellAt}
+use Rattle.effects.specs.Shape.{Sections}
 use Rattle.answer.specs.Pass.{Outcome, unchanged, refused, rewritten}
 use Rattle.answer.specs.Answer.{cellsOf, sectionsOf}
 use Rattle.answer.specs.Clean.{cellsAfter}
 use Rattle.run.specs.Machine.{SameRuns}
 use Rattle.run.specs.Program.{Function, programOf}
-use Rattle.run.specs.Visits.{notedAt, SameVisits, StandsFor}
 
 -- the function of a unit
 unfoldable pub givenFunction : List ℕ → Function
@@ -32,15 +30,3 @@ unfoldable pub PreservesRuns : List ℕ → Outcome → List ℕ → Type 0
 PreservesRuns u unchanged out = SameRuns (programOf (givenFunction u)) (programOf (givenFunction u))
 PreservesRuns u (refused k p) out = Unit {0}
 PreservesRuns u (rewritten kept) out = SameRuns (programOf (givenFunction u)) (programOf (outputFunction u out))
-
--- The run by places: the places that the run of what is retained visits, as old places, are those that the run of F visits, struck of those
--- not retained, in the same order; and each retained instruction has its origin's opcode, or one that may stand for it.
-pub record SamePlaces (F : Function) (kept : List Retained) : Type 0 where
-  pub visits : SameVisits (programOf F) (programOf (resultFunction (F .sections) kept)) (notedAt (placesOf kept))
-  pub opcodes : (q : ℕ) → q < length kept → StandsFor (cellAt (F .cells) (getD (placesOf kept) q 0) .instruction .op) (cellAt (cellsAfter kept) q .instruction .op)
-
--- That, of a unit, an answer and the output after it. Demand 3 follows from it.
-unfoldable pub PreservesPlaces : List ℕ → Outcome → List ℕ → Type 0
-PreservesPlaces u unchanged out = Unit {0}
-PreservesPlaces u (refused k p) out = Unit {0}
-PreservesPlaces u (rewritten kept) out = SamePlaces (givenFunction u) (readResult out)

@@ -4,15 +4,23 @@ use mathlib.Core.Path.{_≡_}
 use mathlib.Core.Bool.{Bool, true, cond}
 use mathlib.Core.List.{List, [], _∷_, _++_}
 use mathlib.Core.Option.{Option, none, some}
-use Prim.Native.Nat.{ℕ, suc}
+use Prim.Native.Nat.{ℕ, suc, _<_}
 use lib.Dec.{eqb}
+use lib.ListN.{length, getD}
 use Rattle.words.specs.Lists.{isIn}
 use Rattle.instruction.specs.Opcode as op
 use Rattle.instruction.specs.declared.Class.{Class}
 use Rattle.instruction.specs.declared.Class.the-variants.{Unary, Binary, JumpIf, JumpIfNot}
 use Rattle.instruction.specs.Class.{classOf, numberOf}
+use Rattle.unit.specs.Result.{Retained, readResult}
+use Rattle.lines.specs.Lines.{placesOf}
+use Rattle.effects.specs.Shape.{cellAt}
+use Rattle.answer.specs.Pass.{Outcome, unchanged, refused, rewritten}
+use Rattle.answer.specs.Clean.{cellsAfter}
 use Rattle.run.specs.System.{System, Same}
 use Rattle.run.specs.Machine.{Words, Event, Way, World, Program, State, at, over, system, start}
+use Rattle.run.specs.Program.{Function, programOf}
+use Rattle.run.specs.Returned.{givenFunction, resultFunction}
 
 -- a state or a record, and the notes made so far, newest first
 pub record Noted (A : Type 0) : Type 0 where
@@ -61,8 +69,8 @@ unfoldable pub notedAt : List ℕ → (ℕ → List ℕ) → ℕ → List ℕ
 notedAt [] f p = []
 notedAt (q ∷ qs) f p = cond (eqb q p) (f 0) (notedAt qs (λ k. f (suc k)) p)
 
--- Two programs visit the same places, in the same order: whatever f is noted of the second one's places, the first has the same notes where
--- g f is noted of its own, with the same record and the same end, and no earlier.
+-- Two programs visit the same places, in the same order: whatever f is noted of the second one's places, the first has the same notes, with
+-- the same record and the same end, where g f is noted of its own; the second has them after at most as many steps.
 pub record SameVisits (F F′ : World → Program) (g : (ℕ → List ℕ) → ℕ → List ℕ) : Type 0 where
   pub visits : (W : World) (σ : Words) (f : ℕ → List ℕ) → Same (visiting W (F W) (g f)) (begin σ) (visiting W (F′ W) f) (begin σ)
 
@@ -79,3 +87,15 @@ pub data StandsFor (o : ℕ) : ℕ → Type 0 where
   loadInt : isOperator (classOf o) ≡ true → StandsFor o op.LoadInt
   copy : isOperator (classOf o) ≡ true → StandsFor o op.Copy
   jump : isConditional (classOf o) ≡ true → StandsFor o op.Jump
+
+-- The run by places: the places that the run of what is retained visits, as old places, are those that the run of F visits, struck of those
+-- not retained, in the same order; and each retained instruction has its origin's opcode, or one that may stand for it.
+pub record SamePlaces (F : Function) (kept : List Retained) : Type 0 where
+  pub visits : SameVisits (programOf F) (programOf (resultFunction (F .sections) kept)) (notedAt (placesOf kept))
+  pub opcodes : (q : ℕ) → q < length kept → StandsFor (cellAt (F .cells) (getD (placesOf kept) q 0) .instruction .op) (cellAt (cellsAfter kept) q .instruction .op)
+
+-- That, of a unit, an answer and the output after it. Unchanged returns the function given, and of a refusal nothing is claimed.
+unfoldable pub PreservesPlaces : List ℕ → Outcome → List ℕ → Type 0
+PreservesPlaces u unchanged out = Unit {0}
+PreservesPlaces u (refused k p) out = Unit {0}
+PreservesPlaces u (rewritten kept) out = SamePlaces (givenFunction u) (readResult out)

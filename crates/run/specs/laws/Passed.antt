@@ -25,11 +25,11 @@ use Rattle.pc_map.specs.Boundary.{isKept}
 use Rattle.pc_map.specs.Relocate.{relocationCheck, retainFrom}
 use Rattle.answer.specs.Pass.{Outcome, unchanged, rewritten, checked, sameCode, allKept, keptPlaces, removal, afterLoops, afterBranches, afterOperands, optimized, isWorkedOn, pass}
 use Rattle.answer.specs.Clean.{retainedCell}
-use Rattle.run.specs.Visits.{StandsFor}
+use Rattle.run.specs.Visits.{StandsFor, SamePlaces}
 use Rattle.run.specs.laws.Opcodes.{number-op, kept-plain, stands-from}
 use Rattle.run.specs.laws.Visits.{visits-trans}
 use Rattle.run.specs.Program.{Function}
-use Rattle.run.specs.Returned.{resultFunction, SamePlaces}
+use Rattle.run.specs.Returned.{resultFunction}
 use Rattle.words.specs.laws.Truth.{left-true, right-true}
 use Rattle.run.specs.laws.Numbered.{Numberable, numberedFunction, numbered-long, numbered-at, table, numbering}
 use Rattle.run.specs.laws.Kept.{kept-visits}

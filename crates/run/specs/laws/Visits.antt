@@ -9,6 +9,7 @@ use native.Mathlib.Omega.{arith}
 use lib.Dec.{eqb, ltb}
 use lib.ListN.{length, getD}
 use borrow.Author.Tests.{eqb-true, eqb-false, eq-eqb, ne-eqb, ltb-true, ltb-false}
+use Rattle.words.specs.Lists.{isIn}
 use Rattle.effects.specs.Shape.{Cell}
 use Rattle.flow.specs.laws.Flags.{Flags}
 use Rattle.unit.specs.Result.{Retained}
@@ -214,3 +215,14 @@ module _ (before : List ℕ) (rise : Rising before) where
     | inl (i, h, e) ↦ rw (← e) (noted-in before (notedAt xs f) i rise h ∙ found xs inside f i h)
     | inr n ↦ noted-none before (notedAt xs f) p n ∙ sym (lost xs inside f p n)
   ]
+
+-- the returned places noted as old places are the given ones, struck of those not retained
+pub old-places : (xs : List ℕ) (p : ℕ) → notedAt xs (λ q. getD xs q 0 ∷ []) p ≡ cond (isIn p xs) (p ∷ []) []
+unfolding notedAt
+old-places [] p = refl
+old-places (x ∷ xs) p = go (eqb x p) refl (old-places xs p)
+  where
+    go : (t : Bool) → eqb x p ≡ t → notedAt xs (λ q. getD xs q 0 ∷ []) p ≡ cond (isIn p xs) (p ∷ []) []
+        → cond (eqb x p) (x ∷ []) (notedAt xs (λ q. getD xs q 0 ∷ []) p) ≡ cond (cond (eqb p x) true (isIn p xs)) (p ∷ []) []
+    go true e ih = let same : x ≡ p = eqb-true x p e in rw (eq-eqb p x (sym same), e, same)
+    go false e ih = rw (e, ne-eqb p x (λ q. eqb-false x p e (sym q))) ih
