@@ -1,6 +1,6 @@
 -- Equal runs can be false: pairs of small functions of which they are refuted. One table, and one theorem for it.
 -- Assumes nothing.
-use mathlib.Core.Path.{_≡_, refl, sym, _∙_}
+use mathlib.Core.Path.{_≡_, refl, sym, ap, _∙_}
 use mathlib.Core.Bool.{Bool, true, false, _&&_, _||_, not, true≢false, or-true}
 use mathlib.Core.List.{List, [], _∷_, map}
 use mathlib.Core.Option.{Option, none, some}
@@ -17,6 +17,7 @@ use Rattle.effects.specs.Shape.{Cell, tablesOf}
 use Rattle.run.specs.System.{System, after}
 use Rattle.run.specs.Machine.{Words, Event, Way, byReturn, byPanic, byReply, byCode, words, World, State, step, wayOf, logOf, system, start, SameRuns}
 use Rattle.run.specs.Program.{Function, programOf}
+use Rattle.run.specs.Visits.{Noted, noted, visit, visiting, begin, notedAt, SameVisits}
 use Rattle.examples.specs.Computed.{runs}
 use Rattle.examples.specs.Unit.{cell, loadInt, three, return}
 
@@ -254,3 +255,20 @@ endless-differs s =
     let still : wayOf (programOf endless world) (start zeros) ≡ some byReturn = rw (stands (system world (programOf endless world)) (start zeros) loops (r .0)) at (r .1) in
     let z : _≡_ {A = ℕ} 0 1 = cc (goes-on) in
     omega arith
+
+-- ---- the run by places can be false too: a Return that is said to come from the hint before it
+
+abbrev hinted : Function
+hinted = functionOf (hint ∷ return 0 0 ∷ [])
+
+-- After a step the given run has noted the hint's place, with nothing recorded. The returned run has noted nothing before it records.
+pub other-place-differs : SameVisits (programOf hinted) (programOf returning) (notedAt (0 ∷ [])) → ⊥
+unfolding runs noted visit notedAt
+other-place-differs s = let r = s .visits world zeros (λ q. q ∷ []) .logs 1 in go (r .0) (r .1) (r .2)
+  where
+    go : (j : ℕ) → j ≤ 1 → visiting world (programOf returning world) (λ q. q ∷ []) .log (after (visiting world (programOf returning world) (λ q. q ∷ [])) j (begin zeros))
+        ≡ visiting world (programOf hinted world) (notedAt (0 ∷ []) (λ q. q ∷ [])) .log (after (visiting world (programOf hinted world) (notedAt (0 ∷ []) (λ q. q ∷ []))) 1 (begin zeros))
+        → ⊥
+    go zero h e = let n : _≡_ {A = ℕ} 0 1 = ap (λ (x : Noted (List Event)). length (x .notes)) e in omega arith
+    go (suc zero) h e = let n : _≡_ {A = ℕ} 1 0 = ap (λ (x : Noted (List Event)). length (x .content)) e in omega arith
+    go (suc (suc j)) h e = omega arith

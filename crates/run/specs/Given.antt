@@ -7,7 +7,7 @@ use mathlib.Core.Option.{some}
 use Prim.Native.Nat.{ℕ, zero, suc, _+_, _*_, _/_, _^_, _≤_, _<_}
 use native.Mathlib.Omega.{arith}
 use lib.Dec.{eqb, ltb}
-use lib.ListN.{length, drop, length-map, List·getD-map}
+use lib.ListN.{length, getD, drop, length-map, List·getD-map}
 use borrow.Author.Tests.{eqb-true}
 use Rattle.words.specs.Bytes.{Bytes}
 use Rattle.words.specs.laws.Bytes.{bytes-mid, le-fits}
@@ -33,8 +33,10 @@ use Rattle.values.specs.Number.{constantAtom}
 use Rattle.answer.specs.Pass.{Outcome, unchanged, refused, rewritten, outputAfter, isWorkedOn, optimized, pass}
 use Rattle.answer.specs.Answer.{Lent, cellsOf, sectionsOf, roomFor, isSkipped, afterRoom, afterSkipped, afterLayout, laidOut, answerWith, passAnswer}
 use Rattle.answer.specs.Clean.{retainedCell, cellsAfter, placedBy, afterPass, cleanFrom, cleanedFirst, spareFor, cleanAnswer, linesPast, linesFrom, linesFirst, cleanLines}
-use Rattle.run.specs.Machine.{SameRuns}
-use Rattle.run.specs.laws.Machine.{same-runs-refl, same-runs-trans}
+use Rattle.run.specs.laws.Machine.{same-runs-refl}
+use Rattle.run.specs.Visits.{notedAt, StandsFor, PreservesPlaces}
+use Rattle.run.specs.laws.Visits.{visits-runs, visits-trans, visits-noted, noted-placed}
+use Rattle.run.specs.laws.Opcodes.{stands-trans}
 use Rattle.run.specs.Program.{Function, programOf}
 use Rattle.run.specs.Returned.{givenFunction, resultFunction, outputFunction, PreservesRuns}
 use Rattle.run.specs.laws.Valuation.{Below, integer, float}
@@ -43,7 +45,7 @@ use Rattle.run.specs.laws.Checked.{Well}
 use Rattle.run.specs.laws.Passed.{Good, worked-size, optimized-runs, pass-worked, pass-runs}
 use Rattle.run.specs.laws.Reading.{AllFit, noRetained, result-back}
 use Rattle.lines.specs.laws.Below.{Rising}
-use Rattle.run.specs.laws.MovedLines.{placed-rising, lines-placed}
+use Rattle.run.specs.laws.MovedLines.{inside, places-long, placed-places, placed-at, placed-rising, lines-placed}
 use Rattle.run.specs.laws.Fitting.{AllSound, Again, optimized-again, again-fits, placed-long, placed-fits}
 
 -- ---- the function of a unit of bytes is well
@@ -210,23 +212,34 @@ module _ (u : List ℕ) (b : Bytes u) (room : Bool) where
       go false t e = absurd (true≢false e)
 
 -- the function in the output's bytes is the one that was retained
-returned-runs : (u : List ℕ) (cases : ℕ) (kept : List Retained) (lines : List Line) (out : List ℕ) → Returnable (givenFunction u) cases kept
-    → SameRuns (programOf (givenFunction u)) (programOf (outputFunction u (outputAfter (rewritten kept) lines out)))
-unfolding outputFunction outputAfter givenFunction
-returned-runs u cases kept lines out r =
+returned-places : (u : List ℕ) (cases : ℕ) (kept : List Retained) (lines : List Line) (out : List ℕ) → Returnable (givenFunction u) cases kept
+    → PreservesPlaces u (rewritten kept) (outputAfter (rewritten kept) lines out)
+unfolding PreservesPlaces outputFunction outputAfter givenFunction
+returned-places u cases kept lines out r =
     let size = resultSize (length kept) (length lines) in
     let e : readResult (resultBytes kept lines ++ drop size out) ≡ kept = result-back cases kept lines (drop size out) (r .few) (r .fits) in
-    rw e (r .good .runs)
+    rw e (r .good .places)
 
--- Demand 3 for one pass: of the bytes in the output after it, whatever lines they have.
-pub pass-preserves : (u : List ℕ) (l : Lent) (lines : List Line) (out : List ℕ) → Bytes u → PreservesRuns u (passAnswer u l) (outputAfter (passAnswer u l) lines out)
-unfolding passAnswer PreservesRuns
-pass-preserves u l lines out b = go (passAnswer u l) refl
+-- an answer that keeps the places keeps the runs
+places-preserve : (u : List ℕ) (o : Outcome) (out : List ℕ) → PreservesPlaces u o out → PreservesRuns u o out
+unfolding PreservesPlaces PreservesRuns outputFunction givenFunction
+places-preserve u unchanged out s = same-runs-refl (programOf (givenFunction u))
+places-preserve u (refused k p) out s = tt
+places-preserve u (rewritten kept) out s = visits-runs (s .visits)
+
+-- The run by places for one pass: of the bytes in the output after it, whatever lines they have.
+pub pass-places : (u : List ℕ) (l : Lent) (lines : List Line) (out : List ℕ) → Bytes u → PreservesPlaces u (passAnswer u l) (outputAfter (passAnswer u l) lines out)
+unfolding passAnswer PreservesPlaces
+pass-places u l lines out b = go (passAnswer u l) refl
   where
-    go : (o : Outcome) → answerWith (roomFor (headerOf u .counts) l) u ≡ o → PreservesRuns u o (outputAfter o lines out)
-    go unchanged e = same-runs-refl (programOf (givenFunction u))
+    go : (o : Outcome) → answerWith (roomFor (headerOf u .counts) l) u ≡ o → PreservesPlaces u o (outputAfter o lines out)
+    go unchanged e = tt
     go (refused k p) e = tt
-    go (rewritten kept) e = returned-runs u _ kept lines out (answer-returnable u b (roomFor (headerOf u .counts) l) kept e)
+    go (rewritten kept) e = returned-places u _ kept lines out (answer-returnable u b (roomFor (headerOf u .counts) l) kept e)
+
+-- Demand 3 for one pass.
+pub pass-preserves : (u : List ℕ) (l : Lent) (lines : List Line) (out : List ℕ) → Bytes u → PreservesRuns u (passAnswer u l) (outputAfter (passAnswer u l) lines out)
+pass-preserves u l lines out b = places-preserve u (passAnswer u l) _ (pass-places u l lines out b)
 
 -- ---- cleaning
 
@@ -242,11 +255,28 @@ placed-function S before kept = rw (placed-cells before kept, placed-long before
 
 -- what good passes lead to from F
 module _ (F : Function) (cases : ℕ) where
-  placed-good : (before kept : List Retained) → Good F before → Good (resultFunction (F .sections) before) kept → Good F (placedBy before kept)
+  -- the opcodes after a pass more
+  placed-opcodes : (before kept : List Retained) → Again cases (length before) kept → Rising (placesOf before)
+      → ((q : ℕ) → q < length before → StandsFor (cellAt (F .cells) (getD (placesOf before) q 0) .instruction .op) (cellAt (cellsAfter before) q .instruction .op))
+      → ((q : ℕ) → q < length kept → StandsFor (cellAt (cellsAfter before) (getD (placesOf kept) q 0) .instruction .op) (cellAt (cellsAfter kept) q .instruction .op))
+      → (q : ℕ) → q < length (placedBy before kept) → StandsFor (cellAt (F .cells) (getD (placesOf (placedBy before kept)) q 0) .instruction .op) (cellAt (cellsAfter (placedBy before kept)) q .instruction .op)
+  placed-opcodes before kept again rise f g q h =
+      let l : q < length kept = rw (placed-long before kept) at h in
+      let m : q < length (placesOf kept) = rw (places-long kept) l in
+      let i : getD (placesOf kept) q 0 < length before = rw (places-long before) at (inside before kept again rise q m) in
+      rw (placed-cells before kept, placed-at before kept again rise q m) (stands-trans (f (getD (placesOf kept) q 0) i) (g q l))
+
+  placed-good : (before kept : List Retained) → Good F before → Good (resultFunction (F .sections) before) kept → Again cases (length before) kept → Rising (placesOf before)
+      → Good F (placedBy before kept)
   unfolding resultFunction
-  placed-good before kept g h =
+  placed-good before kept g h again rise =
       record {
-        runs = rw (placed-function (F .sections) before kept) (same-runs-trans (g .runs) (h .runs));
+        places = record {
+          visits = rw (placed-function (F .sections) before kept)
+              (visits-noted (notedAt (placesOf (placedBy before kept))) (visits-trans (g .places .visits) (h .places .visits))
+              (λ f p. noted-placed (placesOf before) rise (placesOf kept) (inside before kept again rise) f p ∙ rw (placed-places before kept)));
+          opcodes = placed-opcodes before kept again rise (g .places .opcodes) (h .places .opcodes);
+        };
         well = rw (placed-function (F .sections) before kept) (h .well);
       }
 
@@ -269,7 +299,7 @@ module _ (F : Function) (cases : ℕ) where
       let fewer = again .few in
       let few = r .few in
       record {
-        good = placed-good before kept (r .good) (pass-runs G (r .good .well) kept e);
+        good = placed-good before kept (r .good) (pass-runs G (r .good .well) kept e) again (r .rising);
         few = rw (placed-long before kept) (omega arith);
         shorter = let short = r .shorter in rw (placed-long before kept) (omega arith);
         fits = placed-fits cases before kept (λ p h. r .fits p h .place) again;
@@ -333,21 +363,26 @@ module _ (u : List ℕ) (b : Bytes u) (l : Lent) (first second : ℕ) where
       go (refused k p) f e = let z : _≡_ {A = ℕ} 0 1 = cc in absurd (omega arith)
       go (rewritten one) f e = lines-returnable (givenFunction u) _ 2 1 one kept given (answer-returnable u b room one f) e
 
--- Demand 3 for cleaning: of the bytes in the output after it.
-pub clean-preserves : (u : List ℕ) (l : Lent) (first second : ℕ) (lines : List Line) (out : List ℕ) → Bytes u
-    → PreservesRuns u (cleanAnswer u l first second .outcome) (outputAfter (cleanAnswer u l first second .outcome) lines out)
-unfolding cleanAnswer cleanedFirst PreservesRuns givenFunction
-clean-preserves u l first second lines out b = go (answerWith room u) refl
+-- The run by places for cleaning: of the bytes in the output after it.
+pub clean-places : (u : List ℕ) (l : Lent) (first second : ℕ) (lines : List Line) (out : List ℕ) → Bytes u
+    → PreservesPlaces u (cleanAnswer u l first second .outcome) (outputAfter (cleanAnswer u l first second .outcome) lines out)
+unfolding cleanAnswer cleanedFirst PreservesPlaces givenFunction
+clean-places u l first second lines out b = go (answerWith room u) refl
   where
     room : Bool
     room = roomFor (headerOf u .counts) l && spareFor (headerOf u .counts) first second
 
-    later : (o : Outcome) (kept : List Retained) → Returnable (givenFunction u) (headerOf u .counts .cases) kept → cleanFrom (sectionsOf u) 2 1 kept .outcome ≡ o → PreservesRuns u o (outputAfter o lines out)
-    later unchanged kept r e = same-runs-refl (programOf (givenFunction u))
+    later : (o : Outcome) (kept : List Retained) → Returnable (givenFunction u) (headerOf u .counts .cases) kept → cleanFrom (sectionsOf u) 2 1 kept .outcome ≡ o → PreservesPlaces u o (outputAfter o lines out)
+    later unchanged kept r e = tt
     later (refused k p) kept r e = tt
-    later (rewritten last) kept r e = returned-runs u _ last lines out (clean-returnable (givenFunction u) _ 2 1 kept last r e)
+    later (rewritten last) kept r e = returned-places u _ last lines out (clean-returnable (givenFunction u) _ 2 1 kept last r e)
 
-    go : (o : Outcome) → answerWith room u ≡ o → PreservesRuns u (cleanedFirst (sectionsOf u) o .outcome) (outputAfter (cleanedFirst (sectionsOf u) o .outcome) lines out)
-    go unchanged e = same-runs-refl (programOf (givenFunction u))
+    go : (o : Outcome) → answerWith room u ≡ o → PreservesPlaces u (cleanedFirst (sectionsOf u) o .outcome) (outputAfter (cleanedFirst (sectionsOf u) o .outcome) lines out)
+    go unchanged e = tt
     go (refused k p) e = tt
     go (rewritten kept) e = later (cleanFrom (sectionsOf u) 2 1 kept .outcome) kept (answer-returnable u b room kept e) refl
+
+-- Demand 3 for cleaning.
+pub clean-preserves : (u : List ℕ) (l : Lent) (first second : ℕ) (lines : List Line) (out : List ℕ) → Bytes u
+    → PreservesRuns u (cleanAnswer u l first second .outcome) (outputAfter (cleanAnswer u l first second .outcome) lines out)
+clean-preserves u l first second lines out b = places-preserve u (cleanAnswer u l first second .outcome) _ (clean-places u l first second lines out b)

@@ -1,5 +1,6 @@
 pub mod System
 pub mod Machine
+pub mod Visits
 pub mod Simulation
 pub mod LockStep
 pub mod Removal
@@ -21,6 +22,7 @@ pub mod RowBits
 pub mod Alive
 pub mod Optimized
 pub mod Kept
+pub mod Opcodes
 pub mod Checked
 pub mod Passed
 pub mod Reading

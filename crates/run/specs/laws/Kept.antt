@@ -35,7 +35,8 @@ use Rattle.liveness.specs.laws.Rows.{bit, start-wide}
 use Rattle.liveness.specs.laws.Unread.{pure-inside}
 use Rattle.answer.specs.Jump.{jumpRounds}
 use Rattle.answer.specs.Pass.{usefulPlaces, keptPlaces}
-use Rattle.run.specs.Machine.{SameRuns}
+use Rattle.lines.specs.Lines.{placesOf}
+use Rattle.run.specs.Visits.{notedAt, SameVisits}
 use Rattle.run.specs.Program.{Function, givenRanges, slotsOf, programOf}
 use Rattle.run.specs.Returned.{resultFunction}
 use Rattle.run.specs.laws.Gives.{given-sure, jump-gives}
@@ -264,11 +265,12 @@ module _ (G : Function) (leaders : List ℕ) (N : Removing G leaders) where
     live-removable = removable G leaders N keep keep-flags keep-long Live reads-live (λ p h r e q g s v w. passes-on p h q g s v w) drops-live
 
   -- the places that the pass keeps, relocated, run as all of them do
-  pub kept-runs : SameRuns (programOf G) (programOf (resultFunction S (retainFrom (keptPlaces S leaders marks code) 0 code)))
+  pub kept-visits : let kept = retainFrom (keptPlaces S leaders marks code) 0 code in SameVisits (programOf G) (programOf (resultFunction S kept)) (notedAt (placesOf kept))
   unfolding keptPlaces deadStores withoutDead
-  kept-runs = go (liveRows S leaders useful code) refl
+  kept-visits = go (liveRows S leaders useful code) refl
     where
       go : (o : Option (List Row)) → liveRows S leaders useful code ≡ o
-          → SameRuns (programOf G) (programOf (resultFunction S (retainFrom (jumpRounds 16 (anchors marks code) code (withoutDead S leaders useful code (liveRows S leaders useful code))) 0 code)))
+          → let kept = retainFrom (jumpRounds 16 (anchors marks code) code (withoutDead S leaders useful code (liveRows S leaders useful code))) 0 code in
+          SameVisits (programOf G) (programOf (resultFunction S kept)) (notedAt (placesOf kept))
       go none e = rw e (removed G _ Reach _ (plain-removable G leaders N))
       go (some rows) e = rw e (removed G _ Reach _ (live-removable rows e))

@@ -8,7 +8,8 @@ use Prim.Native.Nat.{ℕ, _<_}
 use lib.Dec.{ltb, ltb→lt}
 use native.Mathlib.Omega.{arith}
 use Rattle.run.specs.System.{Same}
-use Rattle.run.specs.laws.Simulation.{Sim, simulated}
+use Rattle.run.specs.laws.Simulation.{NotedSim, noted-simulated}
+use Rattle.run.specs.Visits.{visit, visiting, begin}
 use Rattle.run.specs.Machine.{Words, Event, Way, World, Program, State, at, over, step, wayOf, logOf, system}
 
 -- a state satisfies an invariant on places and words; an ended one does
@@ -51,13 +52,14 @@ module _ {W : World} {P P′ : Program} {I : ℕ → Words → Type 0} (L : Lock
   twin-step x (held {p = p} {σ = σ} {R = R} i) e = let l = lt-of-way p σ R e in rw (step= p σ R l i) (twin (keeps p σ R l i))
   twin-step x past e = let z : _≡_ {A = ℕ} 0 1 = cc in absurd (omega arith)
 
-  twin-move : (x y : State) → Twin I x y → wayOf P x ≡ none
-      → ((wayOf P′ y ≡ none) × Twin I (step W P x) (step W P′ y)) ⊎ (Twin I (step W P x) y × (0 < 0))
-  twin-move x y (twin h) e = inl (way= x ∙ e, twin-step x h e)
+  module _ (f : ℕ → List ℕ) where
+    twin-move : (x y : State) → Twin I x y → wayOf P x ≡ none
+        → ((wayOf P′ y ≡ none) × (visit f y ≡ visit f x) × Twin I (step W P x) (step W P′ y)) ⊎ ((visit f x ≡ []) × Twin I (step W P x) y × (0 < 0))
+    twin-move x y (twin h) e = inl (way= x ∙ e, refl, twin-step x h e)
 
-  lock-sim : Sim (system W P) (system W P′)
-  lock-sim = record { rel = Twin I; size = λ x. 0; log= = twin-log; end= = twin-end; move = twin-move }
+    lock-sim : NotedSim (system W P) (system W P′) (visit f) (visit f)
+    lock-sim = record { rel = Twin I; size = λ x. 0; log= = twin-log; end= = twin-end; move = twin-move }
 
-  pub lock-step : (σ : Words) → I 0 σ → Same (system W P) (at 0 σ []) (system W P′) (at 0 σ [])
-  unfolding lock-sim
-  lock-step σ i = simulated lock-sim (at 0 σ []) (at 0 σ []) (twin (held i))
+    pub lock-step : (σ : Words) → I 0 σ → Same (visiting W P f) (begin σ) (visiting W P′ f) (begin σ)
+    unfolding lock-sim
+    lock-step σ i = noted-simulated lock-sim (at 0 σ []) (at 0 σ []) (twin (held i))

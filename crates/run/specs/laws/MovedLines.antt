@@ -39,24 +39,23 @@ placed-places before [] = refl
 placed-places before (r ∷ rs) = rw (placed-places before rs)
 
 module _ {cases : ℕ} (before kept : List Retained) (again : Again cases (length before) kept) (rise : Rising (placesOf before)) where
-  inside : (i : ℕ) → i < length (placesOf kept) → getD (placesOf kept) i 0 < length (placesOf before)
+  -- each old place is one of the code before
+  pub inside : (i : ℕ) → i < length (placesOf kept) → getD (placesOf kept) i 0 < length (placesOf before)
   inside i h =
       let l : i < length kept = rw (places-long kept) at h in
       rw (place-of kept i, places-long before) (again .places i l)
 
-  pub placed-rising : Rising (placesOf (placedBy before kept))
-  placed-rising = rw (placed-places before kept) go
-    where
-      at : (i : ℕ) → i < length (placesOf kept) → getD (map (λ (p : ℕ). getD (placesOf before) p 0) (placesOf kept)) i 0 ≡ getD (placesOf before) (getD (placesOf kept) i 0) 0
-      at i h =
-          let f : ℕ → ℕ = λ p. getD (placesOf before) p 0 in
-          let l : i < length (map f (placesOf kept)) = rw (length-map (placesOf kept) f) h in
-          same-default (map f (placesOf kept)) i 0 (f 0) l ∙ List·getD-map f (placesOf kept) i 0
+  -- where an instruction of the later code stood in the first
+  pub placed-at : (i : ℕ) → i < length (placesOf kept) → getD (placesOf (placedBy before kept)) i 0 ≡ getD (placesOf before) (getD (placesOf kept) i 0) 0
+  placed-at i h =
+      let f : ℕ → ℕ = λ p. getD (placesOf before) p 0 in
+      let l : i < length (map f (placesOf kept)) = rw (length-map (placesOf kept) f) h in
+      rw (placed-places before kept) (same-default (map f (placesOf kept)) i 0 (f 0) l ∙ List·getD-map f (placesOf kept) i 0)
 
-      go : Rising (map (λ (p : ℕ). getD (placesOf before) p 0) (placesOf kept))
-      go i j h l =
-          let last : j < length (placesOf kept) = rw (length-map (placesOf kept) (λ (p : ℕ). getD (placesOf before) p 0)) at l in
-          rw (at i (omega arith), at j last) (rise (getD (placesOf kept) i 0) (getD (placesOf kept) j 0) (again .rising i j h last) (inside j last))
+  pub placed-rising : Rising (placesOf (placedBy before kept))
+  placed-rising i j h l =
+      let last : j < length (placesOf kept) = rw (placed-places before kept, length-map (placesOf kept) (λ (p : ℕ). getD (placesOf before) p 0)) at l in
+      rw (placed-at i (omega arith), placed-at j last) (rise (getD (placesOf kept) i 0) (getD (placesOf kept) j 0) (again .rising i j h last) (inside j last))
 
   -- moved by what a pass retained, and then by what the next did
   pub lines-placed : (ls : List Line) → movedLines (placesOf kept) (movedLines (placesOf before) ls) ≡ movedLines (placesOf (placedBy before kept)) ls

@@ -19,7 +19,8 @@ use Rattle.flow.specs.Branch.{falls, branches, target}
 use Rattle.values.specs.declared.Atom.{Atom}
 use Rattle.values.specs.Values.{Values, empty}
 use Rattle.values.specs.Number.{Numbered, constantAtom, number, numberFrom, numberFromWith, numberCode, numberCodeWith}
-use Rattle.run.specs.Machine.{Words, Event, World, Reply, words, finish, at, put, Act, silent, ask, stop, fail, Node, goto, answered, perform, step, SameRuns}
+use Rattle.run.specs.Machine.{Words, Event, World, Reply, words, finish, at, put, Act, silent, ask, stop, fail, Node, goto, answered, perform, step}
+use Rattle.run.specs.Visits.{SameVisits}
 use Rattle.run.specs.laws.LockStep.{Holds, held, past, Lock, lock-step}
 use Rattle.run.specs.laws.Removal.{Goes, silently, asked}
 use Rattle.run.specs.Program.{Function, programOf, nodeBy, classIn, hasMeaning}
@@ -229,5 +230,5 @@ module _ (F : Function) (leaders : List ℕ) (N : Numberable F leaders) where
   numbered-operands p h =
       rw (numbered-at p h) (justified-meant F mute p (λ t. 0) [] (N .locals) (cell p) (meant-at mute p (λ t. 0) [] h) (table p) _ (numbered-justified p h) .1)
 
-  pub numbering : SameRuns (programOf F) (programOf numberedFunction)
-  numbering = record { runs = λ W σ. lock-step (lock W) σ (inv-empty W 0 σ (λ h. table-first)) }
+  pub numbering : SameVisits (programOf F) (programOf numberedFunction) (λ f. f)
+  numbering = record { visits = λ W σ f. lock-step (lock W) f σ (inv-empty W 0 σ (λ h. table-first)) }

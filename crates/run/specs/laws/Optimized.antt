@@ -3,7 +3,7 @@
 use mathlib.Core.Path.{_≡_, refl, sym, ap, _∙_}
 use mathlib.Core.Bool.{Bool, true, false, cond, or-true, true≢false}
 use mathlib.Core.List.{List}
-use Prim.Native.Nat.{ℕ, suc, _+_, _≤_, _<_}
+use Prim.Native.Nat.{ℕ, suc, _≤_, _<_}
 use native.Mathlib.Nat.{zero-add}
 use native.Mathlib.Decide.{decLe}
 use native.Mathlib.Omega.{arith}
@@ -50,7 +50,7 @@ module _ (marks : List ℕ) (cells : List Cell) where
   unfolding usefulPlaces
   useful-long = length-mapFrom _ 0 cells
 
-  useful-at : (p : ℕ) → p < length cells → getD (usefulPlaces marks cells) p 0 ≡ cond (isPlainHint (cellAt cells p .instruction)) 0 (getD marks p 0)
+  pub useful-at : (p : ℕ) → p < length cells → getD (usefulPlaces marks cells) p 0 ≡ cond (isPlainHint (cellAt cells p .instruction)) 0 (getD marks p 0)
   unfolding usefulPlaces
   useful-at p h = getD-mapFrom (λ p x. cond (isPlainHint (x .instruction)) 0 (getD marks p 0)) 0 cells p noCell 0 h ∙ rw zero-add
 

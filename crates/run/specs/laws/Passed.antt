@@ -1,9 +1,11 @@
 -- One pass over cells: what it returns runs as what it was given.
 -- Assumes nothing.
-use mathlib.Core.Path.{_≡_, refl}
-use mathlib.Core.Bool.{Bool, true, false, cond, not, _&&_}
+use mathlib.Core.Path.{_≡_, refl, sym, _∙_}
+use mathlib.Core.Logic.{inl, inr}
+use mathlib.Core.Bool.{Bool, true, false, cond, not, _&&_, false≢true}
 use mathlib.Core.List.{List}
-use Prim.Native.Nat.{ℕ, _≤_, _<_}
+use Prim.Native.Nat.{ℕ, _+_, _≤_, _<_}
+use native.Mathlib.Nat.{zero-add}
 use native.Mathlib.Omega.{arith}
 use lib.Dec.{ltb}
 use lib.ListN.{length, length-map}
@@ -12,27 +14,30 @@ use Rattle.unit.specs.Result.{Retained}
 use Rattle.unit.specs.Size.{maxInstructions}
 use Rattle.effects.specs.declared.Check.{Check}
 use Rattle.effects.specs.declared.Check.the-variants.{Passed, Refused}
-use Rattle.effects.specs.Shape.{Sections, Cell}
+use Rattle.effects.specs.Shape.{Sections, Cell, cellAt}
 use Rattle.effects.specs.Check.{operandCheck}
 use Rattle.flow.specs.Branch.{branchCheck}
 use Rattle.flow.specs.Block.{leaders}
-use Rattle.flow.specs.Loop.{reachedPlaces, loopCheck}
+use Rattle.flow.specs.Loop.{isPlainHint, reachedPlaces, loopCheck}
+use Rattle.instruction.specs.Instruction.{class}
 use Rattle.values.specs.Number.{numberCode}
+use Rattle.pc_map.specs.Boundary.{isKept}
 use Rattle.pc_map.specs.Relocate.{relocationCheck, retainFrom}
 use Rattle.answer.specs.Pass.{Outcome, unchanged, rewritten, checked, sameCode, allKept, keptPlaces, removal, afterLoops, afterBranches, afterOperands, optimized, isWorkedOn, pass}
 use Rattle.answer.specs.Clean.{retainedCell}
-use Rattle.run.specs.Machine.{SameRuns}
-use Rattle.run.specs.laws.Machine.{same-runs-trans}
-use Rattle.run.specs.Program.{Function, programOf}
+use Rattle.run.specs.Visits.{StandsFor, SamePlaces}
+use Rattle.run.specs.laws.Opcodes.{number-op, kept-plain, stands-from}
+use Rattle.run.specs.laws.Visits.{visits-trans}
+use Rattle.run.specs.Program.{Function}
 use Rattle.run.specs.Returned.{resultFunction}
 use Rattle.words.specs.laws.Truth.{left-true, right-true}
-use Rattle.run.specs.laws.Numbered.{numberedFunction, numbering}
-use Rattle.run.specs.laws.Kept.{kept-runs}
+use Rattle.run.specs.laws.Numbered.{Numberable, numberedFunction, numbered-long, numbered-at, table, numbering}
+use Rattle.run.specs.laws.Kept.{kept-visits}
 use Rattle.run.specs.laws.Checked.{Well, numberable, removing, numbered-fields, retained-fields}
 
--- What a pass says that it rewrote runs as it did, and may be given to the next pass.
+-- What a pass says that it rewrote runs as it did, by the same places, and may be given to the next pass.
 pub record Good (F : Function) (kept : List Retained) : Type 0 where
-  pub runs : SameRuns (programOf F) (programOf (resultFunction (F .sections) kept))
+  pub places : SamePlaces F kept
   pub well : Well (resultFunction (F .sections) kept)
 
 -- a check that is followed by a rewriting passed
@@ -71,11 +76,27 @@ module _ (F : Function) (w : Well F) (worked : isWorkedOn (length (F .cells)) �
   retained true kept e = let z : _≡_ {A = ℕ} 0 1 = cc in absurd (omega arith)
   retained false kept e = let f : rewritten (retainFrom keep 0 code) ≡ rewritten kept = passed-check (relocationCheck keep code) (rewritten (retainFrom keep 0 code)) kept e .1 in cc
 
+  -- a kept instruction of the numbered code has its origin's opcode, or one that may stand for it
+  stands : Numberable F (leaders cells) → (k : ℕ) → k < length code → isKept keep (0 + k) ≡ true → StandsFor (cellAt cells (0 + k) .instruction .op) (cellAt code k .instruction .op)
+  unfolding numberedFunction
+  stands N k h e =
+      let first : 0 + k ≡ k = zero-add k in
+      let l : k < length cells = rw (numbered-long F (leaders cells) N) at h in
+      let here = numbered-at F (leaders cells) N k l in
+      let plain : isPlainHint (cellAt code k .instruction) ≡ false = kept-plain S (leaders cells) (reachedPlaces code) code k h (rw first at e) in
+      rw (first, here) (elim (number-op S k (class (cellAt cells k .instruction)) (cellAt cells k .instruction) (table F (leaders cells) N k) refl) [
+        | inl s ↦ s
+        | inr q ↦ absurd (false≢true (sym (rw here at plain) ∙ q))
+      ])
+
   good : operandCheck (S .locals) (S .tables) cells ≡ Passed → branchCheck cells ≡ Passed → Good F (retainFrom keep 0 code)
   unfolding numberedFunction resultFunction
   good o b =
       record {
-        runs = same-runs-trans (numbering F (leaders cells) (numberable F w some-code few o b)) (kept-runs _ (leaders cells) (removing F w some-code few o b));
+        places = record {
+          visits = visits-trans (numbering F (leaders cells) (numberable F w some-code few o b)) (kept-visits _ (leaders cells) (removing F w some-code few o b));
+          opcodes = stands-from keep (λ p. cellAt cells p .instruction .op) code 0 (stands (numberable F w some-code few o b));
+        };
         well = record {
           locals = w .locals;
           described = rw (length-map (retainFrom keep 0 code) retainedCell) (omega arith);

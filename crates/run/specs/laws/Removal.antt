@@ -4,12 +4,13 @@ use mathlib.Core.Logic.{_⊎_, inl, inr}
 use mathlib.Core.Bool.{Bool, true, false, cond, not, _||_}
 use mathlib.Core.List.{List, [], _∷_}
 use mathlib.Core.Option.{none, some}
-use Prim.Native.Nat.{ℕ, _+_, _-_, _≤_, _<_}
+use Prim.Native.Nat.{ℕ, _-_, _≤_, _<_}
 use lib.Arith.{le→nltb}
 use lib.Dec.{ltb, eqb, T, ltb→lt, lt→ltb, nltb→le, eqb-refl}
 use native.Mathlib.Omega.{arith}
 use Rattle.run.specs.System.{Same}
-use Rattle.run.specs.laws.Simulation.{Sim, simulated}
+use Rattle.run.specs.laws.Simulation.{NotedSim, noted-simulated}
+use Rattle.run.specs.Visits.{visit, visiting, begin}
 use Rattle.run.specs.Machine.{Words, Event, Way, byCode, World, Reply, words, finish, Act, silent, ask, stop, fail, Program, State, at, over, put, goto, replied, answered, perform, step, wayOf, logOf, system}
 
 -- the words of two runs agree on a set of slots
@@ -50,11 +51,12 @@ module _ (reach : ℕ → Type 0) (live : ℕ → ℕ → Type 0) (bnd : ℕ →
     pub live+ : (s : ℕ) → live (goto (P .node p) p jumps) s → live p s
     pub unread : (s : ℕ) → live (goto (P .node p) p jumps) s → P .node p .gives s ≡ false
 
-  pub record Removal (P P′ : Program) : Type 0 where
+  -- f is noted of the places of P, and f′ of those of P′
+  pub record Removal (P P′ : Program) (f f′ : ℕ → List ℕ) : Type 0 where
     pub within : (p : ℕ) → reach p → p ≤ P .size
     pub first : bnd 0 ≡ 0
     pub last : bnd (P .size) ≡ P′ .size
-    pub place : (p : ℕ) → p < P .size → reach p → Kept P P′ p ⊎ Gone P p
+    pub place : (p : ℕ) → p < P .size → reach p → ((f′ (bnd p) ≡ f p) × Kept P P′ p) ⊎ ((f p ≡ []) × Gone P p)
 
   data Rel : State → State → Type 0 where
     on : {p : ℕ} {σ σ′ : Words} {R : List Event} → reach p → Agree (live p) σ σ′ → Rel (at p σ R) (at (bnd p) σ′ R)
@@ -116,7 +118,7 @@ left-false : (a b : Bool) → (a || b) ≡ false → a ≡ false
 left-false true b e = e
 left-false false b e = refl
 
-module _ (reach : ℕ → Type 0) (live : ℕ → ℕ → Type 0) (bnd : ℕ → ℕ) (W : World) (P P′ : Program) (G : Removal reach live bnd P P′) where
+module _ (reach : ℕ → Type 0) (live : ℕ → ℕ → Type 0) (bnd : ℕ → ℕ) (W : World) (P P′ : Program) (f f′ : ℕ → List ℕ) (G : Removal reach live bnd P P′ f f′) where
   kept-answer : (p : ℕ) → Kept reach live bnd P P′ p → (σ σ′ : Words) (R : List Event) → Agree (live p) σ σ′ → (e : Event)
       → P .node p .act σ ≡ ask e → (r : Reply) → Rel reach live bnd (answered (P .node p) p σ R r) (answered (P′ .node (bnd p)) (bnd p) σ′ R r)
   unfolding answered replied
@@ -158,20 +160,25 @@ module _ (reach : ℕ → Type 0) (live : ℕ → ℕ → Type 0) (bnd : ℕ →
   unfolding perform left
   gone-less p N σ R h w q = rw q (let o = N .onward in let i = G .within _ (N .reach+) in omega arith)
 
-  move-at : (p : ℕ) (σ σ′ : Words) (R : List Event) → p < P .size → Agree (live p) σ σ′ → Kept reach live bnd P P′ p ⊎ Gone reach live bnd P p
-      → ((wayOf P′ (at (bnd p) σ′ R) ≡ none) × Rel reach live bnd (step W P (at p σ R)) (step W P′ (at (bnd p) σ′ R)))
-      ⊎ (Rel reach live bnd (step W P (at p σ R)) (at (bnd p) σ′ R) × (left (step W P (at p σ R)) < left (at p σ R)))
-  move-at p σ σ′ R h ag (inl K) =
+  abbrev Moves : State → State → Type 0
+  Moves x y =
+      ((wayOf P′ y ≡ none) × (visit f′ y ≡ visit f x) × Rel reach live bnd (step W P x) (step W P′ y))
+      ⊎ ((visit f x ≡ []) × Rel reach live bnd (step W P x) y × (left (step W P x) < left x))
+
+  move-at : (p : ℕ) (σ σ′ : Words) (R : List Event) → p < P .size → Agree (live p) σ σ′ → ((f′ (bnd p) ≡ f p) × Kept reach live bnd P P′ p) ⊎ ((f p ≡ []) × Gone reach live bnd P p)
+      → Moves (at p σ R) (at (bnd p) σ′ R)
+  unfolding visit
+  move-at p σ σ′ R h ag (inl (n, K)) =
       inl (
         way-of-lt P′ (bnd p) σ′ R (K .inside),
+        n,
         rw (step-in P p σ R h, step-in P′ (bnd p) σ′ R (K .inside)) (kept-move p K σ σ′ R ag _ _ refl (K .acts σ σ′ ag)),
       )
-  move-at p σ σ′ R h ag (inr N) =
+  move-at p σ σ′ R h ag (inr (n, N)) =
       let w = N .still σ in
-      inr (rw (step-in P p σ R h) (gone-move p N σ σ′ R ag (w .0) (w .1)), rw (step-in P p σ R h) (gone-less p N σ R h (w .0) (w .1)))
+      inr (n, rw (step-in P p σ R h) (gone-move p N σ σ′ R ag (w .0) (w .1)), rw (step-in P p σ R h) (gone-less p N σ R h (w .0) (w .1)))
 
-  rel-move : (x y : State) → Rel reach live bnd x y → wayOf P x ≡ none
-      → ((wayOf P′ y ≡ none) × Rel reach live bnd (step W P x) (step W P′ y)) ⊎ (Rel reach live bnd (step W P x) y × (left (step W P x) < left x))
+  rel-move : (x y : State) → Rel reach live bnd x y → wayOf P x ≡ none → Moves x y
   unfolding wayOf
   rel-move x y (on {p = p} {σ = σ} {σ′ = σ′} {R = R} r ag) e =
       let h = lt-of-way P p σ R e in move-at p σ σ′ R h ag (G .place p h r)
@@ -192,9 +199,9 @@ module _ (reach : ℕ → Type 0) (live : ℕ → ℕ → Type 0) (bnd : ℕ →
       way-last P′ (bnd p) σ′ R b= ∙ sym (way-last P p σ R p=) ∙ e
   rel-end x y w off e = e
 
-  removal-sim : Sim (system W P) (system W P′)
+  removal-sim : NotedSim (system W P) (system W P′) (visit f) (visit f′)
   removal-sim = record { rel = Rel reach live bnd; size = left; log= = rel-log; end= = rel-end; move = rel-move }
 
-  pub removal : (σ : Words) → reach 0 → Same (system W P) (at 0 σ []) (system W P′) (at 0 σ [])
+  pub removal : (σ : Words) → reach 0 → Same (visiting W P f) (begin σ) (visiting W P′ f′) (begin σ)
   unfolding removal-sim
-  removal σ r = simulated removal-sim (at 0 σ []) (at 0 σ []) (subst (λ (q : ℕ). Rel reach live bnd (at 0 σ []) (at q σ [])) (G .first) (on r (λ s l. refl)))
+  removal σ r = noted-simulated removal-sim (at 0 σ []) (at 0 σ []) (subst (λ (q : ℕ). Rel reach live bnd (at 0 σ []) (at q σ [])) (G .first) (on r (λ s l. refl)))

@@ -4,8 +4,8 @@
 use mathlib.Core.Path.{_≡_, refl, sym, _∙_}
 use mathlib.Core.Logic.{_⊎_, inl, inr}
 use mathlib.Core.Bool.{Bool, true, false, false≢true}
-use mathlib.Core.List.{List}
-use Prim.Native.Nat.{ℕ, suc, _+_, _≤_, _<_}
+use mathlib.Core.List.{List, []}
+use Prim.Native.Nat.{ℕ, suc, _≤_, _<_}
 use native.Mathlib.Omega.{arith}
 use lib.ListN.{length, length-map}
 use borrow.Author.Tests.{lt-ltb, eq-eqb}
@@ -21,7 +21,10 @@ use Rattle.pc_map.specs.Boundary.{isKept, boundary}
 use Rattle.pc_map.specs.laws.Boundaries.{boundary-zero, boundary-kept, boundary-dropped}
 use Rattle.pc_map.specs.Relocate.{relocate, retainFrom}
 use Rattle.answer.specs.Clean.{retainedCell, cellsAfter}
-use Rattle.run.specs.Machine.{Words, World, silent, goto, SameRuns}
+use Rattle.run.specs.Machine.{Words, World, silent, goto}
+use Rattle.run.specs.Visits.{notedAt, SameVisits}
+use Rattle.run.specs.laws.Visits.{noted-kept, noted-dropped}
+use Rattle.lines.specs.Lines.{placesOf}
 use Rattle.run.specs.laws.Removal.{Kept, Gone, Removal, removal}
 use Rattle.run.specs.Program.{Function, hasMeaning, classIn, nodeBy, actBy, givenRanges, perhapsSlots, slotsOf, programOf}
 use Rattle.run.specs.Returned.{resultFunction}
@@ -197,20 +200,22 @@ module _ (F : Function) (keep : List ℕ) (reach : ℕ → Type 0) (live : ℕ �
         unread = λ s m. jump-gives T (cell p) k s;
       }
 
-      sound : Removal reach live (boundary keep) (programOf F W) (programOf F′ W)
-      unfolding programOf resultFunction
-      sound = record {
-        within = A .within;
-        first = boundary-zero keep;
-        last = sym (kept-long keep (A .flags) (F .cells) (A .long));
-        place = λ p h r. which p h r (isKept keep p) refl;
-      }
-        where
-          which : (p : ℕ) → p < length (F .cells) → reach p → (t : Bool) → isKept keep p ≡ t
-              → Kept reach live (boundary keep) (programOf F W) (programOf F′ W) p ⊎ Gone reach live (boundary keep) (programOf F W) p
-          which p h r true e = inl (kept-place p h r e)
-          which p h r false e = inr (gone-place p h r e (A .drops p h r e))
+      module _ (f : ℕ → List ℕ) where
+        sound : Removal reach live (boundary keep) (programOf F W) (programOf F′ W) (notedAt (placesOf (retainFrom keep 0 (F .cells))) f) f
+        unfolding programOf resultFunction
+        sound = record {
+          within = A .within;
+          first = boundary-zero keep;
+          last = sym (kept-long keep (A .flags) (F .cells) (A .long));
+          place = λ p h r. which p h r (isKept keep p) refl;
+        }
+          where
+            which : (p : ℕ) → p < length (F .cells) → reach p → (t : Bool) → isKept keep p ≡ t
+                → ((f (boundary keep p) ≡ notedAt (placesOf (retainFrom keep 0 (F .cells))) f p) × Kept reach live (boundary keep) (programOf F W) (programOf F′ W) p)
+                ⊎ ((notedAt (placesOf (retainFrom keep 0 (F .cells))) f p ≡ []) × Gone reach live (boundary keep) (programOf F W) p)
+            which p h r true e = inl (noted-kept keep (A .flags) f (F .cells) (A .long) p h e, kept-place p h r e)
+            which p h r false e = inr (noted-dropped keep (A .flags) f (F .cells) (A .long) p h e, gone-place p h r e (A .drops p h r e))
 
-    -- What is retained runs as the function did.
-    pub removed : SameRuns (programOf F) (programOf F′)
-    removed = record { runs = λ W σ. removal reach live (boundary keep) W _ _ (sound W) σ (A .first) }
+    -- What is retained runs as the function did, by the same places.
+    pub removed : SameVisits (programOf F) (programOf F′) (notedAt (placesOf (retainFrom keep 0 (F .cells))))
+    removed = record { visits = λ W σ f. removal reach live (boundary keep) W _ _ _ _ (sound W f) σ (A .first) }

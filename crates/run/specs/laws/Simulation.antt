@@ -6,11 +6,13 @@ use mathlib.Core.Option.{Option, none, some}
 use Prim.Native.Nat.{ℕ, zero, suc, _+_, _≤_, _<_, zero-le, suc-le-suc}
 use native.Mathlib.Nat.{le-refl, le-step, not-suc-le-zero, zero-add, suc-add}
 use native.Mathlib.Omega.{arith}
+use mathlib.Core.List.{List, []}
 use Rattle.run.specs.System.{System, after, Same}
+use Rattle.run.specs.Visits.{Noted, noted, noteStep, noting}
 
 module _ {R W : Type 0} where
   -- What a simulation is. `move`: either both step, or the given one steps alone and its size goes down.
-  pub record Sim (S S′ : System R W) : Type 1 where
+  record Sim (S S′ : System R W) : Type 1 where
     pub rel : S .State → S′ .State → Type 0
     pub size : S .State → ℕ
     pub log= : (x : S .State) (y : S′ .State) → rel x y → S′ .log y ≡ S .log x
@@ -105,7 +107,7 @@ module _ {R W : Type 0} where
         (c .0 + d .0, rw (after-add S (c .0) (d .0) x) (d .1))
 
     -- related states have the same runs
-    pub simulated : (x : S .State) (y : S′ .State) → rel x y → Same S x S′ y
+    simulated : (x : S .State) (y : S′ .State) → rel x y → Same S x S′ y
     unfolding after
     simulated x y r = record {
       logs = λ k. let a = forward k x y r in (a .0, a .1, log= _ _ (a .2));
@@ -116,3 +118,43 @@ module _ {R W : Type 0} where
           let c = settle (suc (size (after S (b .0) x))) _ _ w (le-refl _) (b .1) e in
           (b .0 + c .0, rw (after-add S (b .0) (c .0) x) (c .1), rw (after-add S (b .0) (c .0) x) (sym (log= _ _ (c .2))));
     }
+
+module _ {R W : Type 0} where
+  -- The same with notes. `move`: either both step and note the same, or the given one steps alone and notes nothing.
+  pub record NotedSim (S S′ : System R W) (note : S .State → List ℕ) (note′ : S′ .State → List ℕ) : Type 1 where
+    pub rel : S .State → S′ .State → Type 0
+    pub size : S .State → ℕ
+    pub log= : (x : S .State) (y : S′ .State) → rel x y → S′ .log y ≡ S .log x
+    pub end= : (x : S .State) (y : S′ .State) (w : W) → rel x y → S .way x ≡ some w → S′ .way y ≡ some w
+    pub move : (x : S .State) (y : S′ .State) → rel x y → S .way x ≡ none
+        → ((S′ .way y ≡ none) × (note′ y ≡ note x) × rel (S .next x) (S′ .next y)) ⊎ ((note x ≡ []) × rel (S .next x) y × (size (S .next x) < size x))
+
+  module _ {S S′ : System R W} {note : S .State → List ℕ} {note′ : S′ .State → List ℕ} (M : NotedSim S S′ note note′) where
+    abbrev Noting : Noted (S .State) → Noted (S′ .State) → Type 0
+    Noting x y = M .rel (x .content) (y .content) × (y .notes ≡ x .notes)
+
+    noting-log : (x : Noted (S .State)) (y : Noted (S′ .State)) → Noting x y → noting S′ note′ .log y ≡ noting S note .log x
+    noting-log x y r = rw (M .log= (x .content) (y .content) (r .0), r .1)
+
+    noting-move : (x : Noted (S .State)) (y : Noted (S′ .State)) → Noting x y → S .way (x .content) ≡ none
+        → ((S′ .way (y .content) ≡ none) × Noting (noteStep S note x) (noteStep S′ note′ y)) ⊎ (Noting (noteStep S note x) y × (M .size (S .next (x .content)) < M .size (x .content)))
+    unfolding noted
+    noting-move x y r e =
+        elim (M .move (x .content) (y .content) (r .0) e) [
+          | inl m ↦ inl (m .0, (m .2, rw (m .0, e, m .1, r .1)))
+          | inr m ↦ inr ((m .1, rw (e, m .0) (r .1)), m .2)
+        ]
+
+    noting-sim : Sim (noting S note) (noting S′ note′)
+    noting-sim = record {
+      rel = Noting;
+      size = λ x. M .size (x .content);
+      log= = noting-log;
+      end= = λ x y w r e. M .end= (x .content) (y .content) w (r .0) e;
+      move = noting-move;
+    }
+
+    -- related states have the same runs with the same notes
+    pub noted-simulated : (x : S .State) (y : S′ .State) → M .rel x y → Same (noting S note) (record { content = x; notes = [] }) (noting S′ note′) (record { content = y; notes = [] })
+    unfolding noting-sim
+    noted-simulated x y r = simulated noting-sim _ _ (r, refl)
