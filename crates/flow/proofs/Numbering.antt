@@ -14,6 +14,7 @@ use Rattle.words.specs.laws.Lists.{sum-take}
 use borrow.Rule.Slice.PartMut.{midOf, putMid}
 use Rattle.words.specs.laws.Regions.{mid-long, get-mid, mid-set, mid-set-before, mid-set-after, Outside, outside-same, outside-set, outside-front, outside-put}
 use Rattle.words.specs.laws.Tabulate.{tabulated-turn, tabulated-end}
+use Rattle.unit.specs.Region.{startsAt, keepAt}
 use Rattle.flow.specs.Block.{blockOf}
 use Rattle.flow.specs.laws.Blocks.{placesFrom, places-more, Numbered}
 use Rattle.flow.specs.laws.Flags.{Flags, flag, sum-most, sum-first, sum-whole}
@@ -101,35 +102,35 @@ module _ (l : List ℕ) (f : Flags l) where
 pub record Buffered (xs : List ℕ) (n : ℕ) (w : List ℕ) (p count : ℕ) : Type 0 where
   pub long : length w ≡ length xs
   pub outside : Outside n (2 * n + 1) xs w
-  pub numbering : Numbering (midOf 0 n xs) (midOf n n w) (midOf (2 * n) (n + 1) xs) (midOf (2 * n) (n + 1) w) p count
+  pub numbering : Numbering (midOf 0 n xs) (midOf n n w) (midOf (startsAt n) (n + 1) xs) (midOf (startsAt n) (n + 1) w) p count
 
-module _ (xs : List ℕ) (n : ℕ) (f : Flags (midOf 0 n xs)) (room : 3 * n + 1 ≤ length xs) where
+module _ (xs : List ℕ) (n : ℕ) (f : Flags (midOf 0 n xs)) (room : keepAt n ≤ length xs) where
   leaders-long : length (midOf 0 n xs) ≡ n
   leaders-long = mid-long xs 0 n (omega arith)
 
-  starts-room : length (midOf 0 n xs) + 1 ≤ length (midOf (2 * n) (n + 1) xs)
-  starts-room = omega (arith, leaders-long, mid-long xs (2 * n) (n + 1) (omega arith))
+  starts-room : length (midOf 0 n xs) + 1 ≤ length (midOf (startsAt n) (n + 1) xs)
+  starts-room = omega (arith, leaders-long, mid-long xs (startsAt n) (n + 1) (omega arith))
 
   pub buffered-begin : Buffered xs n xs 0 0
   buffered-begin = record {
     long = refl;
     outside = outside-same n (2 * n + 1) xs;
-    numbering = numbering-begin (midOf 0 n xs) f (midOf n n xs) (midOf (2 * n) (n + 1) xs) (mid-long xs n n (omega arith) ∙ sym leaders-long);
+    numbering = numbering-begin (midOf 0 n xs) f (midOf n n xs) (midOf (startsAt n) (n + 1) xs) (mid-long xs n n (omega arith) ∙ sym leaders-long);
   }
 
   module _ (w : List ℕ) (p count : ℕ) (b : Buffered xs n w p count) where
     pub buffered-few : (count ≤ p) × (p ≤ n)
     buffered-few = (few _ f _ _ _ _ _ (b .numbering), rw (← leaders-long) (b .numbering .within))
 
-    started : (v : ℕ) → Outside n (2 * n + 1) xs (set w (2 * n + count) v)
-    started v = outside-set n (2 * n + 1) (b .outside) (2 * n + count) v (omega arith) (omega (arith, buffered-few))
+    started : (v : ℕ) → Outside n (2 * n + 1) xs (set w (startsAt n + count) v)
+    started v = outside-set n (2 * n + 1) (b .outside) (startsAt n + count) v (omega arith) (omega (arith, buffered-few))
 
-    starts-set : (v : ℕ) → midOf (2 * n) (n + 1) (set w (2 * n + count) v) ≡ set (midOf (2 * n) (n + 1) w) count v
-    starts-set v = mid-set w (2 * n) (n + 1) count v (omega (arith, buffered-few))
+    starts-set : (v : ℕ) → midOf (startsAt n) (n + 1) (set w (startsAt n + count) v) ≡ set (midOf (startsAt n) (n + 1) w) count v
+    starts-set v = mid-set w (startsAt n) (n + 1) count v (omega (arith, buffered-few))
 
-    blocks-same : (v : ℕ) → midOf n n (set w (2 * n + count) v) ≡ midOf n n w
+    blocks-same : (v : ℕ) → midOf n n (set w (startsAt n + count) v) ≡ midOf n n w
     blocks-same v =
-        let at : 2 * n + count ≡ n + (n + count) = omega arith in
+        let at : startsAt n + count ≡ n + (n + count) = omega arith in
         rw at (mid-set-after w n n (n + count) v (omega arith))
 
     module _ (h : p < n) where
@@ -137,31 +138,31 @@ module _ (xs : List ℕ) (n : ℕ) (f : Flags (midOf 0 n xs)) (room : 3 * n + 1 
       inside = rw leaders-long h
 
       -- the leaders are still there
-      pub buffered-flag : getD (set w (2 * n + count) p) p 0 ≡ getD (midOf 0 n xs) p 0
+      pub buffered-flag : getD (set w (startsAt n + count) p) p 0 ≡ getD (midOf 0 n xs) p 0
       buffered-flag =
-          rw (zero-add p) at (sym (get-mid (set w (2 * n + count) p) 0 n p 0 h))
+          rw (zero-add p) at (sym (get-mid (set w (startsAt n + count) p) 0 n p 0 h))
           ∙ ap (λ (l : List ℕ). getD l p 0) (outside-front n (2 * n + 1) (started p) n (omega arith))
 
-      pub buffered-some : Marked (midOf 0 n xs) 0 → 1 ≤ count + getD (set w (2 * n + count) p) p 0
+      pub buffered-some : Marked (midOf 0 n xs) 0 → 1 ≤ count + getD (set w (startsAt n + count) p) p 0
       buffered-some one = rw buffered-flag (some _ f _ _ _ _ _ (b .numbering) inside one)
 
-      pub buffered-turn : Buffered xs n (set (set w (2 * n + count) p) (n + p) (count + getD (set w (2 * n + count) p) p 0 - 1)) (p + 1) (count + getD (set w (2 * n + count) p) p 0)
+      pub buffered-turn : Buffered xs n (set (set w (startsAt n + count) p) (n + p) (count + getD (set w (startsAt n + count) p) p 0 - 1)) (p + 1) (count + getD (set w (startsAt n + count) p) p 0)
       buffered-turn =
-          let w₁ = set w (2 * n + count) p in
+          let w₁ = set w (startsAt n + count) p in
           let v = count + getD (midOf 0 n xs) p 0 - 1 in
           let blocks : midOf n n (set w₁ (n + p) v) ≡ set (midOf n n w) p v = mid-set w₁ n n p v h ∙ ap (λ (l : List ℕ). set l p v) (blocks-same p) in
-          let starts : midOf (2 * n) (n + 1) (set w₁ (n + p) v) ≡ set (midOf (2 * n) (n + 1) w) count p = mid-set-before w₁ (2 * n) (n + 1) (n + p) v (omega arith) ∙ starts-set p in
+          let starts : midOf (startsAt n) (n + 1) (set w₁ (n + p) v) ≡ set (midOf (startsAt n) (n + 1) w) count p = mid-set-before w₁ (startsAt n) (n + 1) (n + p) v (omega arith) ∙ starts-set p in
           rw buffered-flag
           (record {
-            long = length-set w₁ (n + p) v ∙ length-set w (2 * n + count) p ∙ b .long;
+            long = length-set w₁ (n + p) v ∙ length-set w (startsAt n + count) p ∙ b .long;
             outside = outside-set n (2 * n + 1) (started p) (n + p) v (omega arith) (omega arith);
             numbering = rw (blocks, starts) (numbering-turn _ f _ _ _ _ _ (b .numbering) inside starts-room);
           })
 
-    pub buffered-end : n ≤ p → Numbered (midOf 0 n xs) (midOf n n (set w (2 * n + count) n)) (midOf (2 * n) (n + 1) xs) (midOf (2 * n) (n + 1) (set w (2 * n + count) n)) count
-        × (set w (2 * n + count) n ≡ putMid n (2 * n + 1) xs (midOf n (2 * n + 1) (set w (2 * n + count) n)))
+    pub buffered-end : n ≤ p → Numbered (midOf 0 n xs) (midOf n n (set w (startsAt n + count) n)) (midOf (startsAt n) (n + 1) xs) (midOf (startsAt n) (n + 1) (set w (startsAt n + count) n)) count
+        × (set w (startsAt n + count) n ≡ putMid n (2 * n + 1) xs (midOf n (2 * n + 1) (set w (startsAt n + count) n)))
     buffered-end h =
         let end : p ≡ length (midOf 0 n xs) = omega (arith, buffered-few, leaders-long) in
-        let done : Numbered (midOf 0 n xs) (midOf n n w) (midOf (2 * n) (n + 1) xs) (set (midOf (2 * n) (n + 1) w) count n) count
+        let done : Numbered (midOf 0 n xs) (midOf n n w) (midOf (startsAt n) (n + 1) xs) (set (midOf (startsAt n) (n + 1) w) count n) count
         = rw leaders-long at (numbering-end _ f _ _ _ _ _ (b .numbering) end starts-room) in
         (rw (blocks-same n, starts-set n) done, outside-put n (2 * n + 1) (started n))

@@ -9,6 +9,7 @@ use lib.ListN.{length, getD, set, length-set}
 use lib.Seq.{getD-set-same}
 use borrow.Rule.Slice.PartMut.{midOf, putMid}
 use Rattle.words.specs.laws.Regions.{mid-long, get-mid, mid-set, mid-set-before, mid-put, put-long, Outside, outside-same, outside-set, outside-part, outside-then, outside-front}
+use Rattle.unit.specs.Region.{stackEnd}
 use Rattle.flow.specs.laws.Stack.{Pushed, push-yes, Standing, marksOf, stackOf, Walked, left, Ran, stand-top, stand-old, stand-free, stand-new, stand-less}
 
 -- The run that began at xs is at place p, which stands on the stack at sp.
@@ -21,12 +22,12 @@ module _ (n : ℕ) (next : ℕ → List ℕ) where
   pub run-begin : (w : List ℕ) (sp p : ℕ) → Standing n next (marksOf n w) (stackOf n w) (sp + 1) → p ≡ getD w (n + sp) 0
       → Running n next w w sp p
   run-begin w sp p s top = record {
-    walked = record { long = refl; outside = outside-same 0 (5 * n + 4) w; standing = s };
+    walked = record { long = refl; outside = outside-same 0 (stackEnd n) w; standing = s };
     top = top;
     most = omega arith;
   }
 
-module _ {n : ℕ} {next : ℕ → List ℕ} (few : (p : ℕ) → length (next p) ≤ 4) {xs w : List ℕ} {sp p : ℕ} (room : 5 * n + 4 ≤ length w) (b : Running n next xs w sp p) where
+module _ {n : ℕ} {next : ℕ → List ℕ} (few : (p : ℕ) → length (next p) ≤ 4) {xs w : List ℕ} {sp p : ℕ} (room : stackEnd n ≤ length w) (b : Running n next xs w sp p) where
   standing : Standing n next (marksOf n w) (stackOf n w) (sp + 1)
   standing = b .walked .standing
 
@@ -67,8 +68,8 @@ module _ {n : ℕ} {next : ℕ → List ℕ} (few : (p : ℕ) → length (next p
     marked-stack : stackOf n (set w p 1) ≡ stackOf n w
     marked-stack = mid-set-before w n (4 * n + 4) p 1 run-place
 
-    marked-outside : Outside 0 (5 * n + 4) xs (set w p 1)
-    marked-outside = outside-set 0 (5 * n + 4) (b .walked .outside) p 1 (omega arith) (omega (arith, run-place))
+    marked-outside : Outside 0 (stackEnd n) xs (set w p 1)
+    marked-outside = outside-set 0 (stackEnd n) (b .walked .outside) p 1 (omega arith) (omega (arith, run-place))
 
     -- nothing but the stack changes with that
     module _ {w′ : List ℕ} {r : ℕ} (long : length w′ ≡ length w) (only : Outside n (4 * n + 4) (set w p 1) w′) (v : Pushed n sp (next p) (stackOf n w) (stackOf n w′) r) where
@@ -83,11 +84,11 @@ module _ {n : ℕ} {next : ℕ → List ℕ} (few : (p : ℕ) → length (next p
 
       turn-new : Walked n next xs w′ r
       turn-new =
-          let both : 0 + (5 * n + 4) ≡ n + (4 * n + 4) = omega arith in
+          let both : 0 + stackEnd n ≡ n + (4 * n + 4) = omega arith in
           let high : length (stackOf n w′) ≡ 4 * n + 4 = mid-long w′ n (4 * n + 4) (omega arith) in
           record {
             long = long ∙ b .walked .long;
-            outside = outside-then 0 (5 * n + 4) marked-outside (record { before = refl; after = rw both (only .after) });
+            outside = outside-then 0 (stackEnd n) marked-outside (record { before = refl; after = rw both (only .after) });
             standing =
                 rw marks
                 (stand-new n next few (marksOf n w) (stackOf n w) sp standing (mark ∙ e) (stackOf n w′) r pushed (high ∙ sym stack-long) (rw stack-long (omega arith)));

@@ -4,6 +4,7 @@ ghost use mathlib.Core.List.{List};
 ghost use Prim.Native.Nat.{ℕ, _+_, _*_, _≤_, _<_};
 ghost use lib.ListN.{length};
 ghost use borrow.Rule.Slice.PartMut.{midOf, putMid};
+ghost use Rattle.unit.specs.Region.{startsAt, keepAt};
 ghost use Rattle.unit.specs.Size.{maxInstructions};
 ghost use Rattle.effects.specs.laws.Cells.{cellsBy};
 ghost use Rattle.flow.specs.Block.{leaders};
@@ -17,6 +18,7 @@ use crate::branch;
 use crate::mark;
 use instruction::Instruction;
 use instruction::opcode;
+use unit::region;
 use words::fill;
 
 // Marks the leaders that the instruction at place p makes: its target, and the place after it. A branch ends its block.
@@ -50,18 +52,19 @@ pub fn mark_leaders(words: &[u64], list: &[u64], marks: &mut [u32])
 // Numbers the blocks by the n leaders: after them, for each place its block, and then for each block its start and, past the last,
 // the number of places.
 pub fn number_blocks(work: &mut [u32], n: usize) -> usize
-    requires { ⌜ Flags (midOf 0 n (now work)) × Marked (midOf 0 n (now work)) 0 × (n ≤ maxInstructions) × (3 * n + 1 ≤ length (now work)) ⌝ }
-    ensures { λ r. ⌜ Numbered (midOf 0 n (now (work .entry))) (midOf n n (now (work .exit))) (midOf (2 * n) (n + 1) (now (work .entry))) (midOf (2 * n) (n + 1) (now (work .exit))) r × (now (work .exit) ≡ putMid n (2 * n + 1) (now (work .entry)) (midOf n (2 * n + 1) (now (work .exit)))) ⌝ }
+    requires { ⌜ Flags (midOf 0 n (now work)) × Marked (midOf 0 n (now work)) 0 × (n ≤ maxInstructions) × (keepAt n ≤ length (now work)) ⌝ }
+    ensures { λ r. ⌜ Numbered (midOf 0 n (now (work .entry))) (midOf n n (now (work .exit))) (midOf (startsAt n) (n + 1) (now (work .entry))) (midOf (startsAt n) (n + 1) (now (work .exit))) r × (now (work .exit) ≡ putMid n (2 * n + 1) (now (work .entry)) (midOf n (2 * n + 1) (now (work .exit)))) ⌝ }
 {
+    let starts = region::starts_at(n);
     let mut count: usize = 0;
     let mut p: usize = 0;
     while p < n {
         // Stored over again, unless p is a leader.
-        work[2 * n + count] = p as u32;
+        work[starts + count] = p as u32;
         count += work[p] as usize;
         work[n + p] = (count - 1) as u32;
         p += 1;
     }
-    work[2 * n + count] = n as u32;
+    work[starts + count] = n as u32;
     count
 }

@@ -5,6 +5,7 @@ ghost use mathlib.Core.List.{[], _∷_};
 ghost use Prim.Native.Nat.{_+_, _*_, _≤_, _<_};
 ghost use lib.ListN.{length, getD};
 ghost use borrow.Rule.Slice.PartMut.{midOf, putMid};
+ghost use Rattle.unit.specs.Region.{stackEnd};
 ghost use Rattle.unit.specs.Size.{maxInstructions, metadataSize};
 ghost use Rattle.effects.specs.laws.Cells.{cellOf, cellsBy};
 ghost use Rattle.flow.specs.Loop.{successors, reachedPlaces};
@@ -16,6 +17,7 @@ use effects::operands::MAX_VALID;
 use instruction::Instruction;
 use instruction::opcode;
 use unit::entry;
+use unit::region;
 use words::fill;
 
 // The number v goes onto the stack, if it is to and is a place. The result is the stack's new height.
@@ -92,11 +94,11 @@ fn goes_on(op: u8) -> bool
 // successors of the last one go onto the stack. Most places only go on, and a run need not wait to load what it has just stored.
 // The result is the stack's new height.
 fn mark_run(words: &[u64], metadata: &[u8], work: &mut [u32], sp: usize, first: usize) -> usize
-    requires { ⌜ (length (now words) ≤ maxInstructions) × (metadataSize * length (now words) ≤ length (now metadata)) × (5 * length (now words) + 4 ≤ length (now work)) × Standing (length (now words)) (following (cellsBy (now words) (now metadata))) (marksOf (length (now words)) (now work)) (stackOf (length (now words)) (now work)) (sp + 1) × (first ≡ getD (now work) (length (now words) + sp) 0) ⌝ }
+    requires { ⌜ (length (now words) ≤ maxInstructions) × (metadataSize * length (now words) ≤ length (now metadata)) × (stackEnd (length (now words)) ≤ length (now work)) × Standing (length (now words)) (following (cellsBy (now words) (now metadata))) (marksOf (length (now words)) (now work)) (stackOf (length (now words)) (now work)) (sp + 1) × (first ≡ getD (now work) (length (now words) + sp) 0) ⌝ }
     ensures { λ r. ⌜ Ran (length (now (words .entry))) (following (cellsBy (now (words .entry)) (now (metadata .entry)))) (now (work .entry)) (now (work .exit)) sp r ⌝ }
 {
     let n = words.len();
-    let end = 5 * n + 4;
+    let end = region::stack_end(n);
     let mut p = first;
     while work[p] == 0 {
         work[p] = 1;
@@ -113,8 +115,8 @@ fn mark_run(words: &[u64], metadata: &[u8], work: &mut [u32], sp: usize, first: 
 // Marks the places that are reached from place 0. Each is visited once, and has at most four successors. The marks stand first, and
 // the stack after them.
 pub fn mark_reached(words: &[u64], metadata: &[u8], work: &mut [u32])
-    requires { ⌜ (1 ≤ length (now words)) × (length (now words) ≤ maxInstructions) × (metadataSize * length (now words) ≤ length (now metadata)) × (5 * length (now words) + 4 ≤ length (now work)) ⌝ }
-    ensures { λ _. ⌜ (midOf 0 (length (now (words .entry))) (now (work .exit)) ≡ reachedPlaces (cellsBy (now (words .entry)) (now (metadata .entry)))) × (now (work .exit) ≡ putMid 0 (5 * length (now (words .entry)) + 4) (now (work .entry)) (midOf 0 (5 * length (now (words .entry)) + 4) (now (work .exit)))) ⌝ }
+    requires { ⌜ (1 ≤ length (now words)) × (length (now words) ≤ maxInstructions) × (metadataSize * length (now words) ≤ length (now metadata)) × (stackEnd (length (now words)) ≤ length (now work)) ⌝ }
+    ensures { λ _. ⌜ (midOf 0 (length (now (words .entry))) (now (work .exit)) ≡ reachedPlaces (cellsBy (now (words .entry)) (now (metadata .entry)))) × (now (work .exit) ≡ putMid 0 (stackEnd (length (now (words .entry)))) (now (work .entry)) (midOf 0 (stackEnd (length (now (words .entry)))) (now (work .exit)))) ⌝ }
 {
     let n = words.len();
     fill::zero_u32(&mut work[0..n]);

@@ -4,17 +4,19 @@ ghost use mathlib.Core.List.{List};
 ghost use Prim.Native.Nat.{ℕ, _+_, _*_, _≤_, _^_, _<_};
 ghost use lib.ListN.{length};
 ghost use borrow.Rule.Slice.PartMut.{midOf, putMid};
+ghost use Rattle.unit.specs.Region.{keepAt};
 ghost use Rattle.unit.specs.Size.{setsRoom};
 ghost use Rattle.effects.specs.Shape.{tablesOf};
 ghost use Rattle.effects.specs.laws.Cells.{cellsBy};
 ghost use Rattle.liveness.specs.Dead.{deadStores};
 ghost use Rattle.liveness.specs.laws.Sweep.{sections};
-ghost use Rattle.liveness.specs.laws.SetMemory.{laidOut, codeWords, leadersOf, flagsAt, flagsOf};
+ghost use Rattle.liveness.specs.laws.SetMemory.{laidOut, codeWords, leadersOf, flagsOf};
 ghost use Rattle.liveness.specs.laws.Workable.{Known, Workable};
 use crate::SetLayout;
 use crate::block;
 use crate::round;
 use crate::sweep;
+use unit::region;
 use unit::size;
 use words::fill;
 
@@ -52,11 +54,11 @@ fn drop_stores(
     cases: &[u8],
 )
     requires { ⌜ Workable sets (tablesOf (now functions) (now externs) (now cases)) (now memory) (now metadata) (now types) (now table) ⌝ }
-    ensures { λ _. ⌜ ((constants : List ℕ) → now (table .exit) ≡ putMid (flagsAt (sets .code)) (sets .code) (now (table .entry)) (deadStores (sections (length (now (types .entry))) (now (types .entry)) constants (tablesOf (now (functions .entry)) (now (externs .entry)) (now (cases .entry)))) (leadersOf (sets .code) (now (table .entry))) (flagsOf (sets .code) (now (table .entry))) (cellsBy (codeWords sets (now (memory .entry))) (now (metadata .entry))))) × (codeWords sets (now (memory .exit)) ≡ codeWords sets (now (memory .entry))) ⌝ }
+    ensures { λ _. ⌜ ((constants : List ℕ) → now (table .exit) ≡ putMid (keepAt (sets .code)) (sets .code) (now (table .entry)) (deadStores (sections (length (now (types .entry))) (now (types .entry)) constants (tablesOf (now (functions .entry)) (now (externs .entry)) (now (cases .entry)))) (leadersOf (sets .code) (now (table .entry))) (flagsOf (sets .code) (now (table .entry))) (cellsBy (codeWords sets (now (memory .entry))) (now (metadata .entry))))) × (codeWords sets (now (memory .exit)) ≡ codeWords sets (now (memory .entry))) ⌝ }
 {
     let n = sets.code;
-    let starts = 2 * n;
-    let flags = 3 * n + 1;
+    let starts = region::starts_at(n);
+    let flags = region::keep_at(n);
     let live = sets.live;
     let size = sets.width * sets.count;
     fill::zero_u64(&mut memory[live..live + size]);
@@ -91,8 +93,8 @@ fn drop_stores(
     );
 }
 
-// Memory holds the code's n words and has room for the sets behind them. The table holds, for n places, leaders, blocks (at n), where
-// the blocks start (at 2 * n, one more) and the flags of kept places (at 3 * n + 1). What the memory holds behind the code is free.
+// Memory holds the code's n words and has room for the sets behind them. The table is the 32-bit work up to the end of the kept
+// places: leaders, blocks, where the blocks start, flags. What the memory holds behind the code is free.
 pub fn drop_dead_stores(
     memory: &mut [u64],
     table: &mut [u32],
@@ -104,8 +106,8 @@ pub fn drop_dead_stores(
     n: usize,
     count: usize,
 )
-    requires { ⌜ Known (tablesOf (now functions) (now externs) (now cases)) n count (now memory) (now metadata) (now types) (now table) × (setsRoom n (length (now types)) ≤ length (now memory)) × (4 * n + 1 ≤ length (now table)) ⌝ }
-    ensures { λ _. ⌜ ((constants : List ℕ) → now (table .exit) ≡ putMid (3 * n + 1) n (now (table .entry)) (deadStores (sections (length (now (types .entry))) (now (types .entry)) constants (tablesOf (now (functions .entry)) (now (externs .entry)) (now (cases .entry)))) (midOf 0 n (now (table .entry))) (midOf (3 * n + 1) n (now (table .entry))) (cellsBy (midOf 0 n (now (memory .entry))) (now (metadata .entry))))) × (midOf 0 n (now (memory .exit)) ≡ midOf 0 n (now (memory .entry))) ⌝ }
+    requires { ⌜ Known (tablesOf (now functions) (now externs) (now cases)) n count (now memory) (now metadata) (now types) (now table) × (setsRoom n (length (now types)) ≤ length (now memory)) × (keepAt n + n ≤ length (now table)) ⌝ }
+    ensures { λ _. ⌜ ((constants : List ℕ) → now (table .exit) ≡ putMid (keepAt n) n (now (table .entry)) (deadStores (sections (length (now (types .entry))) (now (types .entry)) constants (tablesOf (now (functions .entry)) (now (externs .entry)) (now (cases .entry)))) (midOf 0 n (now (table .entry))) (midOf (keepAt n) n (now (table .entry))) (cellsBy (midOf 0 n (now (memory .entry))) (now (metadata .entry))))) × (midOf 0 n (now (memory .exit)) ≡ midOf 0 n (now (memory .entry))) ⌝ }
 {
     let w = size::set_words(types.len());
     if w == 0 {

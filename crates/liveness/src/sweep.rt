@@ -15,7 +15,7 @@ ghost use Rattle.use_def.specs.laws.Touched.{Fits};
 ghost use Rattle.use_def.specs.laws.Free.{Spans, deadBy};
 ghost use Rattle.liveness.specs.Live.{Row, isLast};
 ghost use Rattle.liveness.specs.Dead.{sweepFrom};
-ghost use Rattle.liveness.specs.laws.SetMemory.{LayoutFits, Coded, Sweepable, codeWords, rowOf, liveOf, leadersOf, blocksOf, flagsAt, flagsOf};
+ghost use Rattle.liveness.specs.laws.SetMemory.{LayoutFits, Coded, Sweepable, codeWords, rowOf, liveOf, leadersOf, blocksOf, flagsOf};
 ghost use Rattle.words.specs.laws.Only.{At, Only};
 ghost use Rattle.liveness.specs.laws.Sweeping.{Entered, Swept};
 ghost use Rattle.liveness.specs.laws.Sweep.{Sweeps};
@@ -25,6 +25,7 @@ use effects::branching;
 use effects::single;
 use instruction::Instruction;
 use instruction::opcode;
+use unit::region;
 use use_def::dead;
 use use_def::touch;
 
@@ -98,8 +99,8 @@ fn sweep_place(
     );
 }
 
-// Drops the dead stores, given what is live at the start of each block. The table holds, for n places, leaders, blocks (at n) and
-// the flags of kept places (at 3 * n + 1). What the memory holds beside the code is free.
+// Drops the dead stores, given what is live at the start of each block. The table is the 32-bit work, with leaders, blocks and the
+// flags of kept places. What the memory holds beside the code is free.
 pub fn sweep(
     memory: &mut [u64],
     table: &mut [u32],
@@ -114,7 +115,7 @@ pub fn sweep(
     ensures { λ _. ⌜ Sweeps sets (now (memory .entry)) (now (metadata .entry)) (now (types .entry)) (tablesOf (now (functions .entry)) (now (externs .entry)) (now (cases .entry))) (now (table .entry)) (now (memory .exit)) (now (table .exit)) ⌝ }
 {
     let n = sets.code;
-    let flags = 3 * n + 1;
+    let flags = region::keep_at(n);
     let mut p = n;
     while p > 0 {
         p -= 1;

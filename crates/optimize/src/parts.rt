@@ -5,6 +5,7 @@ ghost use mathlib.Core.List.{List};
 ghost use Prim.Native.Nat.{ℕ, _+_, _*_, _≤_, _<_};
 ghost use lib.ListN.{length, drop};
 ghost use borrow.Rule.Slice.PartMut.{midOf};
+ghost use Rattle.unit.specs.Region.{keepAt};
 ghost use Rattle.unit.specs.Size.{instructionSize, metadataSize, resultSize, work32Room, maxInstructions};
 ghost use Rattle.effects.specs.Shape.{Tables};
 ghost use Rattle.effects.specs.laws.Cells.{cellsBy};
@@ -12,7 +13,7 @@ ghost use Rattle.flow.specs.laws.BranchLaws.{BranchesInside};
 ghost use Rattle.flow.specs.laws.Control.{Controls};
 ghost use Rattle.pc_map.specs.laws.Listed.{Listed};
 ghost use Rattle.answer.specs.Pass.{removal};
-ghost use Rattle.removal.specs.laws.KeptWork.{sectionsIn, keepAt};
+ghost use Rattle.removal.specs.laws.KeptWork.{sectionsIn};
 ghost use Rattle.optimize.specs.laws.Parts.{Given, Room, cellsIn, parts, answerOfParts, answerAfterOperands, answerAfterBranches, answerAfterLoops};
 ghost use Rattle.optimize.specs.PassAnswer.{Answers};
 ghost use Rattle.numbering.specs.laws.Walk.{sectionsWith};
@@ -31,6 +32,7 @@ use pc_map::boundary;
 use pc_map::relocation;
 use pc_map::retained;
 use removal::retain;
+use unit::region;
 use unit::size;
 
 // "unchanged: same code, all kept", refusal 10, or rewritten.
@@ -75,9 +77,9 @@ fn finish(
     requires { ⌜ Finished n (now code) (now metadata) (length (now out)) (now work32) (now work64) × (at + count ≤ length (now work64)) × Controls (midOf 0 n (now work64)) (midOf at count (now work64)) n ⌝ }
     ensures { λ r. ⌜ Answers (removal (cellsIn n (now (code .entry)) (now (metadata .entry))) (cellsBy (midOf 0 n (now (work64 .entry))) (now (metadata .entry))) (midOf (keepAt n) n (now (work32 .entry)))) r (now (out .entry)) (now (out .exit)) ⌝ }
 {
-    let keep = 3 * n + 1;
+    let keep = region::keep_at(n);
     let end = keep + n;
-    let list = 6 * n + 2;
+    let list = region::list_at(n);
     let retained = work32[end + n] as usize;
     conclude(
         code,
@@ -122,8 +124,8 @@ fn after_loops(
         at,
         count,
     );
-    let keep = 3 * n + 1;
-    boundary::list_kept(&mut work32[keep..], n, keep);
+    let keep = region::keep_at(n);
+    boundary::list_kept(&mut work32[keep..], n, region::list_in(n));
     finish(code, metadata, out, &work32[..], &work64[..], n, at, count)
 }
 
@@ -132,7 +134,7 @@ fn reach(metadata: &[u8], work32: &mut [u32], words: &[u64], list: &[u64], n: us
     requires { ⌜ (1 < n) × (length (now words) ≡ n) × (n ≤ maxInstructions) × (length (now metadata) ≡ metadataSize * n) × (work32Room n ≤ length (now work32)) × Controls (now words) (now list) (length (now words)) ⌝ }
     ensures { λ r. ⌜ Reached n (now (metadata .entry)) (now (words .entry)) (now (work32 .entry)) (now (work32 .exit)) r ⌝ }
 {
-    let at = 3 * n + 1;
+    let at = region::keep_at(n);
     reach::mark_reached(words, metadata, &mut work32[at..]);
     hint::check_loops(words, list, metadata, &work32[at..at + n])
 }

@@ -1,12 +1,13 @@
-// Jumps to the next retained instruction are dropped, in rounds. The work has the kept places at [0, n), in the end their
-// boundaries at [n, 2n + 1), and the loop ends at [2n + 1, 3n + 1).
+// Jumps to the next retained instruction are dropped, in rounds. The work is that from the kept places on: these, in the end their
+// boundaries, and the loop ends.
 ghost use mathlib.Core.Path.{_≡_};
 ghost use mathlib.Core.Bool.{false};
 ghost use mathlib.Core.List.{List, _++_};
-ghost use Prim.Native.Nat.{ℕ, _+_, _*_, _≤_, _<_};
+ghost use Prim.Native.Nat.{ℕ, _+_, _≤_, _<_};
 ghost use lib.ListN.{length, getD};
 ghost use borrow.Rule.Slice.PartMut.{putMid, midOf};
 ghost use Rattle.instruction.specs.Instruction.{ofWord};
+ghost use Rattle.unit.specs.Region.{loopEndsIn};
 ghost use Rattle.effects.specs.laws.Cells.{cellsBy};
 ghost use Rattle.flow.specs.laws.Control.{Controls};
 ghost use Rattle.flow.specs.laws.Flags.{Flags};
@@ -17,6 +18,7 @@ use flow::branch;
 use instruction::Instruction;
 use instruction::opcode;
 use pc_map::boundary;
+use unit::region;
 
 // "up to 16 rounds"
 const ROUNDS: usize = 16;
@@ -53,7 +55,7 @@ fn is_idle(words: &[u64], work: &[u32], p: usize, kept: bool, next: usize) -> bo
     if t > next {
         return false;
     }
-    (p < t) & (work[2 * words.len() + 1 + p] != 1)
+    (p < t) & (work[region::loop_ends_in(words.len()) + p] != 1)
 }
 
 // One round "by the map of the round's start", by the list of the control places from the back. At each of them `next` is "the
@@ -102,7 +104,7 @@ fn drop_rounds(words: &[u64], list: &[u64], work: &mut [u32])
 // The rounds, and the map of the places that are kept then.
 pub fn drop_jumps(words: &[u64], list: &[u64], work: &mut [u32])
     requires { ⌜ Rounds (now words) (length (now work)) × Controls (now words) (now list) (length (now words)) × Flags (midOf 0 (length (now words)) (now work)) ⌝ }
-    ensures { λ _. ⌜ ((metadata keep : List ℕ) → keep ≡ jumpRounds 16 (endsIn (length (now (words .entry))) (now (work .entry))) (cellsBy (now (words .entry)) metadata) (midOf 0 (length (now (words .entry))) (now (work .entry))) → now (work .exit) ≡ putMid 0 (2 * length (now (words .entry)) + 1) (now (work .entry)) (keep ++ mapOf keep)) ⌝ }
+    ensures { λ _. ⌜ ((metadata keep : List ℕ) → keep ≡ jumpRounds 16 (endsIn (length (now (words .entry))) (now (work .entry))) (cellsBy (now (words .entry)) metadata) (midOf 0 (length (now (words .entry))) (now (work .entry))) → now (work .exit) ≡ putMid 0 (loopEndsIn (length (now (words .entry)))) (now (work .entry)) (keep ++ mapOf keep)) ⌝ }
 {
     drop_rounds(words, list, work);
     boundary::boundaries(work, words.len());

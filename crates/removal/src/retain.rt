@@ -1,29 +1,30 @@
-// The places that a pass retains. The 32-bit work has the leaders at [0, n), the blocks of places at [n, 2n), the starts of
-// blocks at [2n, 3n + 1), the kept places at [3n + 1, 4n + 1), their boundaries at [4n + 1, 5n + 2) and the loop ends at
-// [5n + 2, 6n + 2), and [6n + 2, 7n + 2) is for their list; the 64-bit work has the code at [0, n) and, behind what liveness takes, the
+// The places that a pass retains. The regions of the 32-bit work stand where `unit::region` says: leaders, blocks of places, starts
+// of blocks, kept places, their boundaries, loop ends; the 64-bit work has the code at [0, n) and, behind what liveness takes, the
 // list of the control places: `count` of them from `at` on.
 ghost use mathlib.Core.Path.{_≡_};
 ghost use mathlib.Core.List.{List};
 ghost use Prim.Native.Nat.{ℕ, _+_, _*_, _≤_};
 ghost use lib.ListN.{length, drop};
 ghost use borrow.Rule.Slice.PartMut.{midOf};
+ghost use Rattle.unit.specs.Region.{keepAt, listIn};
 ghost use Rattle.unit.specs.Size.{metadataSize, maxInstructions};
 ghost use Rattle.effects.specs.Shape.{tablesOf};
 ghost use Rattle.flow.specs.laws.Control.{Controls};
-ghost use Rattle.removal.specs.laws.KeptWork.{Retainable, Retains, Useful, Stored, keepAt};
+ghost use Rattle.removal.specs.laws.KeptWork.{Retainable, Retains, Useful, Stored};
 use crate::jump;
 use crate::plain;
 use flow::block;
 use flow::hint;
 use liveness::stores;
+use unit::region;
 
 // The loop ends, of the reached places; then plain hints are not kept. The work is that from the kept places on.
 fn drop_hints(words: &[u64], list: &[u64], metadata: &[u8], work: &mut [u32])
-    requires { ⌜ (length (now words) ≤ maxInstructions) × (metadataSize * length (now words) ≤ length (now metadata)) × (3 * length (now words) + 1 ≤ length (now work)) × Controls (now words) (now list) (length (now words)) ⌝ }
+    requires { ⌜ (length (now words) ≤ maxInstructions) × (metadataSize * length (now words) ≤ length (now metadata)) × (listIn (length (now words)) ≤ length (now work)) × Controls (now words) (now list) (length (now words)) ⌝ }
     ensures { λ _. ⌜ Useful (now (words .entry)) (now (metadata .entry)) (now (work .entry)) (now (work .exit)) ⌝ }
 {
     let n = words.len();
-    hint::mark_anchors(words, list, metadata, work, 2 * n + 1);
+    hint::mark_anchors(words, list, metadata, work, region::loop_ends_in(n));
     plain::drop_hints(words, list, &mut work[0..n]);
 }
 
@@ -41,7 +42,7 @@ fn drop_stores(
     requires { ⌜ Retainable (tablesOf (now functions) (now externs) (now cases)) n (midOf 0 n (now work64)) (now metadata) (now types) (midOf 0 n (now work32)) (midOf (keepAt n) n (now work32)) (length (now work32)) (length (now work64)) ⌝ }
     ensures { λ _. ⌜ ((constants : List ℕ) → Stored n (now (metadata .entry)) (now (types .entry)) constants (now (functions .entry)) (now (externs .entry)) (now (cases .entry)) (now (work32 .entry)) (now (work64 .entry)) (now (work32 .exit)) (now (work64 .exit))) ⌝ }
 {
-    let at = 3 * n + 1;
+    let at = region::keep_at(n);
     let count = block::number_blocks(&mut work32[0..at], n);
     stores::drop_dead_stores(
         work64,
@@ -72,7 +73,7 @@ pub fn retain(
     requires { ⌜ Retainable (tablesOf (now functions) (now externs) (now cases)) n (midOf 0 n (now work64)) (now metadata) (now types) (midOf 0 n (now work32)) (midOf (keepAt n) n (now work32)) (length (now work32)) at × (at + count ≤ length (now work64)) × Controls (midOf 0 n (now work64)) (midOf at count (now work64)) n ⌝ }
     ensures { λ _. ⌜ ((constants : List ℕ) → Retains n (now (metadata .entry)) (now (types .entry)) constants (now (functions .entry)) (now (externs .entry)) (now (cases .entry)) (now (work32 .entry)) (now (work64 .entry)) (now (work32 .exit)) (now (work64 .exit))) × (drop at (now (work64 .exit)) ≡ drop at (now (work64 .entry))) ⌝ }
 {
-    let keep = 3 * n + 1;
+    let keep = region::keep_at(n);
     drop_hints(
         &work64[0..n],
         &work64[at..at + count],

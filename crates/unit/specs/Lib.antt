@@ -1,5 +1,6 @@
 pub mod Refusal
 pub mod Size
+pub mod Region
 pub mod Entry
 pub mod Layout
 pub mod Result

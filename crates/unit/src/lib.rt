@@ -2,6 +2,7 @@
 pub mod entry;
 pub mod field;
 pub mod refusal;
+pub mod region;
 pub mod result;
 pub mod section;
 pub mod size;

@@ -12,6 +12,7 @@ use borrow.Author.Tests.{lt-ltb, le-ltb}
 use borrow.Rule.Slice.PartMut.{midOf}
 use Rattle.words.specs.Lists.{sum}
 use Rattle.words.specs.laws.Regions.{Outside}
+use Rattle.unit.specs.Region.{stackEnd}
 use Rattle.flow.specs.Reach.{reached}
 use Rattle.flow.specs.laws.Marks.{bit, grew-set, sum-set, sum-grew}
 use Rattle.flow.specs.laws.Walking.{pushAll, push-append, Walking, walk-begin, walk-old, walk-new, walk-end}
@@ -57,7 +58,7 @@ stackOf n w = midOf n (4 * n + 4) w
 -- the walk came from the buffer xs to w; what lies behind is as it was
 pub record Walked (n : ℕ) (next : ℕ → List ℕ) (xs w : List ℕ) (sp : ℕ) : Type 0 where
   pub long : length w ≡ length xs
-  pub outside : Outside 0 (5 * n + 4) xs w
+  pub outside : Outside 0 (stackEnd n) xs w
   pub standing : Standing n next (marksOf n w) (stackOf n w) sp
 
 -- what is left to do: each turn makes it less

@@ -12,6 +12,7 @@ use Rattle.words.specs.laws.Bits.{member}
 use Rattle.words.specs.laws.Regions.{mid-long, get-mid}
 use Rattle.instruction.specs.declared.Instruction.{Instruction}
 use Rattle.instruction.specs.Instruction.{ofWord, class}
+use Rattle.unit.specs.Region.{keepAt}
 use Rattle.unit.specs.Size.{maxInstructions, metadataSize}
 use Rattle.effects.specs.Shape.{Tables, Cell, cellAt}
 use Rattle.effects.specs.laws.Cells.{cellOf, cellsBy, cell-at, cells-long}
@@ -234,24 +235,21 @@ leadersOf n t = midOf 0 n t
 abbrev pub blocksOf : ℕ → List ℕ → List ℕ
 blocksOf n t = midOf n n t
 
-abbrev pub flagsAt : ℕ → ℕ
-flagsAt n = 3 * n + 1
-
 abbrev pub flagsOf : ℕ → List ℕ → List ℕ
-flagsOf n t = midOf (flagsAt n) n t
+flagsOf n t = midOf (keepAt n) n t
 
 -- the flags written, leaders and blocks stay
-module _ (n : ℕ) (t t′ : List ℕ) (h : flagsAt n + n ≤ length t) (o : Only (At (flagsAt n) n) t t′) where
+module _ (n : ℕ) (t t′ : List ℕ) (h : keepAt n + n ≤ length t) (o : Only (At (keepAt n) n) t t′) where
   pub same-leaders : leadersOf n t′ ≡ leadersOf n t
-  same-leaders = same-mid (At (flagsAt n) n) t t′ o 0 n (omega arith) (λ j i k. omega (arith, i .1, k .0))
+  same-leaders = same-mid (At (keepAt n) n) t t′ o 0 n (omega arith) (λ j i k. omega (arith, i .1, k .0))
 
   pub same-blocks : blocksOf n t′ ≡ blocksOf n t
-  same-blocks = same-mid (At (flagsAt n) n) t t′ o n n (omega arith) (λ j i k. omega (arith, i .1, k .0))
+  same-blocks = same-mid (At (keepAt n) n) t t′ o n n (omega arith) (λ j i k. omega (arith, i .1, k .0))
 
 -- what the sweep starts from
 pub record Sweepable (s : SetLayout) (T : Tables) (memory metadata types table : List ℕ) : Type 0 where
   pub coded : Coded s memory (blocksOf (s .code) table)
-  pub long-table : flagsAt (s .code) + s .code ≤ length table
+  pub long-table : keepAt (s .code) + s .code ≤ length table
   pub entries : metadataSize * s .code ≤ length metadata
   pub few : s .width ≤ 1024
   pub typed : (p : ℕ) → p < s .code → rangeWithin (length types) (getD (writesByClass (class (ofWord (getD memory p 0))) (ofWord (getD memory p 0))) 0 emptyRange) ≡ true

@@ -13,6 +13,7 @@ use lib.Seq.{drop-cons, drop-length, take-length, take-suc, append-snoc, set-at,
 use borrow.Author.Tests.{eqb-true, eqb-false, eq-eqb}
 use borrow.Rule.Slice.PartMut.{putMid}
 use Rattle.words.specs.Lists.{tabulate}
+use Rattle.unit.specs.Region.{keepAt}
 use Rattle.effects.specs.Shape.{Tables, Sections, Cell, cellAt, noCell}
 use Rattle.instruction.specs.Instruction.{ofWord}
 use Rattle.effects.specs.laws.Cells.{cellOf, cellsBy, cells-long, cell-at}
@@ -33,7 +34,7 @@ use Rattle.liveness.specs.laws.Round.{not-touched}
 use Rattle.liveness.specs.laws.Out.{out-holds}
 use Rattle.liveness.specs.laws.Unread.{dead-by}
 use Rattle.liveness.specs.laws.Sweeping.{Entered, Swept}
-use Rattle.liveness.specs.laws.SetMemory.{codeWords, liveOf, leadersOf, blocksOf, flagsAt, flagsOf}
+use Rattle.liveness.specs.laws.SetMemory.{codeWords, liveOf, leadersOf, blocksOf, flagsOf}
 use Rattle.liveness.specs.declared.SetLayout.{SetLayout}
 
 -- a row before an instruction, of one after it that a set holds
@@ -249,5 +250,5 @@ Sweeps sets memory metadata types T table memory′ table′ =
     → Grounds (sections locals types constants T) (leadersOf (sets .code) table) (flagsOf (sets .code) table) (cellsBy (codeWords sets memory) metadata) rows (sets .width) (blocksOf (sets .code) table) (liveOf sets memory)
     → flagsOf (sets .code) table′
     ≡ sweepFrom (sections locals types constants T) (length (cellsBy (codeWords sets memory) metadata)) (leadersOf (sets .code) table) (flagsOf (sets .code) table) rows 0 (cellsBy (codeWords sets memory) metadata) .keep)
-    × (table′ ≡ putMid (flagsAt (sets .code)) (sets .code) table (flagsOf (sets .code) table′))
+    × (table′ ≡ putMid (keepAt (sets .code)) (sets .code) table (flagsOf (sets .code) table′))
     × (codeWords sets memory′ ≡ codeWords sets memory)

@@ -10,6 +10,7 @@ use lib.ListN.{length, getD, take, replicate, length-replicate}
 use lib.Seq.{take-take}
 use borrow.Rule.Slice.PartMut.{midOf, putMid, put-same, take-put}
 use Rattle.words.specs.laws.Regions.{mid-long, get-mid, mid-put, put-long}
+use Rattle.unit.specs.Region.{startsAt, keepAt}
 use Rattle.unit.specs.Size.{setWords, maxSetWords, setsRoom, metadataSize}
 use Rattle.effects.specs.Shape.{Tables, Sections, Cell}
 use Rattle.effects.specs.laws.Cells.{cellOf, cellsBy}
@@ -18,7 +19,7 @@ use Rattle.liveness.specs.declared.SetLayout.{SetLayout}
 use Rattle.liveness.specs.Live.{Row, noRow, maxLivenessWork}
 use Rattle.liveness.specs.Dead.{sweepFrom, deadStores}
 use Rattle.liveness.specs.laws.Visit.{Rising, Summed}
-use Rattle.liveness.specs.laws.SetMemory.{LayoutFits, laidOut, laid-out, codeWords, usesOf, preservedOf, liveOf, leadersOf, blocksOf, flagsAt, flagsOf, Coded, Ready, Sweepable}
+use Rattle.liveness.specs.laws.SetMemory.{LayoutFits, laidOut, laid-out, codeWords, usesOf, preservedOf, liveOf, leadersOf, blocksOf, flagsOf, Coded, Ready, Sweepable}
 use Rattle.liveness.specs.laws.Rounding.{Around}
 use Rattle.liveness.specs.laws.Solving.{Solved}
 use Rattle.liveness.specs.laws.Sweep.{Grounds, sections}
@@ -26,7 +27,7 @@ use Rattle.liveness.specs.laws.Droppable.{Droppable, few-words, room-wor
 use Rattle.liveness.specs.laws.Stores.{around-start, dropped}
 
 abbrev pub startsOf : ℕ → List ℕ → List ℕ
-startsOf n t = midOf (2 * n) (n + 1) t
+startsOf n t = midOf (startsAt n) (n + 1) t
 
 -- what is known of code, table and other sections
 abbrev pub Known : Tables → ℕ → ℕ → List ℕ → List ℕ → List ℕ → List ℕ → Type 0
@@ -39,10 +40,10 @@ pub record Workable (s : SetLayout) (T : Tables) (memory metadata types table : 
   pub some : 0 < s .width
   pub few : s .width * s .count ≤ maxSetWords
   pub laid : LayoutFits s (length memory)
-  pub long-table : flagsAt (s .code) + s .code ≤ length table
+  pub long-table : keepAt (s .code) + s .code ≤ length table
 
 pub workable : {T : Tables} {n count : ℕ} {memory metadata types table : List ℕ} (d : Known T n count memory metadata types table) {w : ℕ} (ew : w ≡ setWords (length types))
-    (s : SetLayout) → s ≡ laidOut n w count → 0 < w → w * count ≤ maxSetWords → setsRoom n (length types) ≤ length memory → 4 * n + 1 ≤ length table → Workable s T memory metadata types table
+    (s : SetLayout) → s ≡ laidOut n w count → 0 < w → w * count ≤ maxSetWords → setsRoom n (length types) ≤ length memory → keepAt n + n ≤ length table → Workable s T memory metadata types table
 workable {n = n} {count = count} {memory = memory} d {w} ew s e some few room long =
     rw e
     (record {
@@ -84,14 +85,14 @@ module _ {s : SetLayout} {T : Tables} {memory metadata types table : List ℕ} (
   cells = cellsBy code metadata
 
   -- the parts of the table that the walks are given
-  pub part-blocks : midOf n (2 * n - n) table ≡ blocks
-  part-blocks = let e : 2 * n - n ≡ n = omega arith in rw e
+  pub part-blocks : (a : ℕ) → a ≡ startsAt n → midOf n (a - n) table ≡ blocks
+  part-blocks a same = let e : a - n ≡ n = omega arith in rw e
 
-  pub part-starts : midOf (2 * n) (3 * n + 1 - 2 * n) table ≡ starts
-  part-starts = let e : 3 * n + 1 - 2 * n ≡ n + 1 = omega arith in rw e
+  pub part-starts : (a b : ℕ) → a ≡ startsAt n → b ≡ keepAt n → midOf a (b - a) table ≡ starts
+  part-starts a b same same′ = let e : b - a ≡ n + 1 = omega arith in rw (e, same)
 
-  pub part-flags : midOf (3 * n + 1) (3 * n + 1 + n - (3 * n + 1)) table ≡ keep
-  part-flags = let e : 3 * n + 1 + n - (3 * n + 1) ≡ n = omega arith in rw e
+  pub part-flags : (b : ℕ) → b ≡ keepAt n → midOf b (b + n - b) table ≡ keep
+  part-flags b same = let e : b + n - b ≡ n = omega arith in rw (e, same)
 
   -- there is a word
   pub some-size : 0 < size
@@ -206,15 +207,15 @@ module _ {s : SetLayout} {T : Tables} {memory metadata types table : List ℕ} (
         (rw (b .same, eb, es) at rounds) (all constants) leaders keep metadata _ (around-start (g .known) (g .width) constants (usesOf s m) (preservedOf s m) (liveOf s m) (b .empty) uses (b .summed))
 
     -- no rows were found
-    pub stores-left : r ≡ false → table ≡ putMid (flagsAt n) n table (stores constants)
+    pub stores-left : r ≡ false → table ≡ putMid (keepAt n) n table (stores constants)
     stores-left e =
         let kept : keep ≡ stores constants = dropped (g .known) (g .width) constants (g .some) (g .few) r (liveOf s m′) keep solved (λ f. refl) (λ f. absurd (false≢true (sym e ∙ f))) in
-        put-itself (flagsAt n) n table (stores constants) kept
+        put-itself (keepAt n) n table (stores constants) kept
 
     -- the dead stores by those that were found
-    pub stores-swept : r ≡ true → (table′ : List ℕ) → codeWords s m′ ≡ codeWords s m → Sweeps m′ table′ → table′ ≡ putMid (flagsAt n) n table (flagsOf n table′) → table′ ≡ putMid (flagsAt n) n table (stores constants)
+    pub stores-swept : r ≡ true → (table′ : List ℕ) → codeWords s m′ ≡ codeWords s m → Sweeps m′ table′ → table′ ≡ putMid (keepAt n) n table (flagsOf n table′) → table′ ≡ putMid (keepAt n) n table (stores constants)
     stores-swept e table′ code sweeps put =
         let same : codeWords s m′ ≡ codeWords s memory = code ∙ b .same in
         let kept : flagsOf n table′ ≡ stores constants =
         dropped (g .known) (g .width) constants (g .some) (g .few) r (liveOf s m′) (flagsOf n table′) solved (λ f. absurd (false≢true (sym f ∙ e))) (λ f rows. (rw same at sweeps) (length types) constants rows) in
-        put ∙ ap (putMid (flagsAt n) n table) kept
+        put ∙ ap (putMid (keepAt n) n table) kept

@@ -11,6 +11,7 @@ use borrow.Rule.Slice.PartMut.{midOf, postOf}
 use Rattle.words.specs.laws.Regions.{mid-long, put-long}
 use Rattle.instruction.specs.Instruction.{class, ofWord}
 use Rattle.unit.specs.Entry.{metadataAt, goodMetadata}
+use Rattle.unit.specs.Region.{keepAt, listAt}
 use Rattle.unit.specs.Size.{metadataSize, caseSize, setsRoom, work64Room, maxInstructions, maxLocalSlots}
 use Rattle.unit.specs.laws.Size.{sets-fit}
 use Rattle.effects.specs.declared.Check.{Check}
@@ -30,7 +31,7 @@ use Rattle.answer.specs.Pass.{Outcome, refused, checked, removal}
 use Rattle.values.specs.laws.Named.{Named}
 use Rattle.run.specs.laws.Slots.{named-of}
 use Rattle.optimize.specs.laws.Parts.{Given, Room, Checked, wordsIn, words-long, wordsOf, cellsIn, numberedCode, reachedMarks, retainedPlaces, fromLoops, loops-removal}
-use Rattle.removal.specs.laws.KeptWork.{sectionsIn, keepAt, listAt, Retainable, Retains}
+use Rattle.removal.specs.laws.KeptWork.{sectionsIn, Retainable, Retains}
 use Rattle.optimize.specs.laws.NumberedWords.{given-long, numbered-size, cells-back, numbered-operands, numbered-none, numbered-inside}
 use Rattle.optimize.specs.laws.Steps.{ListedControls, list-kept, Renumbered, Marks, Reached, Numberable, Finished}
 
@@ -145,7 +146,7 @@ module _ (n : ℕ) (code metadata : List ℕ) (S : Sections) (g : Given n code m
         pub kept-places : midOf (keepAt n) n work32′ ≡ retainedPlaces S cells
         kept-places = d .keep ∙ rw (← same, m .numbered .leads, m .marks, memory-cells work32 work64 (m .numbered))
 
-        pub kept-finished : midOf (keepAt n + listAt n) (boundary (midOf (keepAt n) n work32′) n) work32′ ≡ keptList (midOf (keepAt n) n work32′) → Finished n code metadata out work32′ work64′
+        pub kept-finished : midOf (listAt n) (boundary (midOf (keepAt n) n work32′) n) work32′ ≡ keptList (midOf (keepAt n) n work32′) → Finished n code metadata out work32′ work64′
         kept-finished list = record {
           few = g .few;
           mapped = record { flags = d .flags; small = rw keep-long (g .few); numbers = d .bounds };

@@ -8,13 +8,14 @@ use native.Mathlib.Omega.{arith}
 use lib.ListN.{length}
 use borrow.Rule.Slice.PartMut.{midOf, putMid}
 use Rattle.words.specs.laws.Regions.{mid-long, put-long, Outside, outside-front}
+use Rattle.unit.specs.Region.{keepAt, listIn, listAt}
 use Rattle.unit.specs.Size.{work32Room, maxInstructions}
 use Rattle.flow.specs.laws.Flags.{Flags, sum-most}
 use Rattle.words.specs.laws.Only.{mid-mid, back-within}
 use Rattle.pc_map.specs.Boundary.{boundary}
 use Rattle.pc_map.specs.laws.Listed.{keptList}
 use Rattle.removal.specs.laws.Jumping.{mapOf}
-use Rattle.removal.specs.laws.KeptWork.{keepAt, listAt, Retains}
+use Rattle.removal.specs.laws.KeptWork.{Retains}
 
 module _ {n : ℕ} {metadata types constants functions externs cases work32 work64 work32′ work64′ : List ℕ} (d : Retains n metadata types constants functions externs cases work32 work64 work32′ work64′)
     (few : n ≤ maxInstructions) (room : work32Room n ≤ length work32′) where
@@ -33,13 +34,13 @@ module _ {n : ℕ} {metadata types constants functions externs cases work32 work
 
   pub list-asks : Flags (midOf 0 n (midOf (keepAt n) (length work32′ - keepAt n) work32′))
       × (n ≤ maxInstructions)
-      × (n ≤ listAt n)
-      × (listAt n + n ≤ length (midOf (keepAt n) (length work32′ - keepAt n) work32′))
+      × (n ≤ listIn n)
+      × (listIn n + n ≤ length (midOf (keepAt n) (length work32′ - keepAt n) work32′))
   list-asks = (rw part-keep (d .flags), few, omega arith, omega (arith, part-long))
 
   module _ (part : List ℕ) (size : length part ≡ length (midOf (keepAt n) (length work32′ - keepAt n) work32′))
-      (list : midOf (listAt n) (boundary (midOf 0 n (midOf (keepAt n) (length work32′ - keepAt n) work32′)) n) part ≡ keptList (midOf 0 n (midOf (keepAt n) (length work32′ - keepAt n) work32′)))
-      (o : Outside (listAt n) n (midOf (keepAt n) (length work32′ - keepAt n) work32′) part) where
+      (list : midOf (listIn n) (boundary (midOf 0 n (midOf (keepAt n) (length work32′ - keepAt n) work32′)) n) part ≡ keptList (midOf 0 n (midOf (keepAt n) (length work32′ - keepAt n) work32′)))
+      (o : Outside (listIn n) n (midOf (keepAt n) (length work32′ - keepAt n) work32′) part) where
     long : length part ≡ rest
     long = size ∙ part-long
 
@@ -47,17 +48,17 @@ module _ {n : ℕ} {metadata types constants functions externs cases work32 work
     final = putMid (keepAt n) rest work32′ part
 
     -- what stands before the list
-    before : (i j : ℕ) → i + j ≤ listAt n → midOf (keepAt n + i) j final ≡ midOf (keepAt n + i) j work32′
+    before : (i j : ℕ) → i + j ≤ listIn n → midOf (keepAt n + i) j final ≡ midOf (keepAt n + i) j work32′
     before i j h =
-        let same : midOf 0 (listAt n) part ≡ midOf 0 (listAt n) (midOf (keepAt n) rest work32′) = outside-front (listAt n) n o (listAt n) (omega arith) in
+        let same : midOf 0 (listIn n) part ≡ midOf 0 (listIn n) (midOf (keepAt n) rest work32′) = outside-front (listIn n) n o (listIn n) (omega arith) in
         back-within work32′ (keepAt n) rest part fits long i j (omega arith)
         ∙ within part (omega (arith, long))
         ∙ ap (λ (l : List ℕ). midOf i j l) same
         ∙ sym (within (midOf (keepAt n) rest work32′) (omega (arith, part-long)))
         ∙ mid-mid work32′ (keepAt n) rest i j fits (omega arith)
       where
-        within : (l : List ℕ) → listAt n ≤ length l → midOf i j l ≡ midOf i j (midOf 0 (listAt n) l)
-        within l g = ap (λ (m : ℕ). midOf m j l) (sym (zero-add i)) ∙ sym (mid-mid l 0 (listAt n) i j (rw (zero-add (listAt n)) g) h)
+        within : (l : List ℕ) → listIn n ≤ length l → midOf i j l ≡ midOf i j (midOf 0 (listIn n) l)
+        within l g = ap (λ (m : ℕ). midOf m j l) (sym (zero-add i)) ∙ sym (mid-mid l 0 (listIn n) i j (rw (zero-add (listIn n)) g) h)
 
     keep : midOf (keepAt n) n final ≡ midOf (keepAt n) n work32′
     keep = rw (add-zero (keepAt n)) at (before 0 n (omega arith))
@@ -70,13 +71,13 @@ module _ {n : ℕ} {metadata types constants functions externs cases work32 work
       code = d .code;
     }
 
-    there : midOf (keepAt n + listAt n) (boundary (midOf (keepAt n) n final) n) final ≡ keptList (midOf (keepAt n) n final)
+    there : midOf (listAt n) (boundary (midOf (keepAt n) n final) n) final ≡ keptList (midOf (keepAt n) n final)
     there =
         let most = sum-most (midOf (keepAt n) n work32′) (d .flags) n in
-        rw keep (back-within work32′ (keepAt n) rest part fits long (listAt n) (boundary (midOf (keepAt n) n work32′) n) (omega arith) ∙ (rw part-keep at list))
+        rw keep (back-within work32′ (keepAt n) rest part fits long (listIn n) (boundary (midOf (keepAt n) n work32′) n) (omega arith) ∙ (rw part-keep at list))
 
     pub list-retains : let w = putMid (keepAt n) (length work32′ - keepAt n) work32′ part in
         (length w ≡ length work32′)
         × Retains n metadata types constants functions externs cases work32 work64 w work64′
-        × (midOf (keepAt n + listAt n) (boundary (midOf (keepAt n) n w) n) w ≡ keptList (midOf (keepAt n) n w))
+        × (midOf (listAt n) (boundary (midOf (keepAt n) n w) n) w ≡ keptList (midOf (keepAt n) n w))
     list-retains = (put-long work32′ (keepAt n) rest part long fits, retains, there)

@@ -1,6 +1,6 @@
--- What the steps of a pass leave in the lent work: the 32-bit work has the leaders at [0, n) and the kept places at
--- [3n + 1, 4n + 1) with their map behind them and their list at [6n + 2, 7n + 2), the 64-bit work has the code at [0, n) and the list
--- of the control places behind what numbering and liveness take.
+-- What the steps of a pass leave in the lent work: the 32-bit work has the leaders at [0, n), the kept places at `keepAt n` with their
+-- map behind them, and their list at `listAt n`; the 64-bit work has the code at [0, n) and the list of the control places behind what
+-- numbering and liveness take.
 -- Assumes nothing.
 use mathlib.Core.Path.{_≡_, sym, ap, _∙_}
 use mathlib.Core.Bool.{false}
@@ -14,6 +14,7 @@ use borrow.Rule.Slice.PartMut.{midOf, putMid, postOf}
 use Rattle.words.specs.laws.Only.{mid-mid, back-within, back-before}
 use Rattle.words.specs.laws.Regions.{mid-long, get-mid, Outside, outside-front}
 use Rattle.instruction.specs.Instruction.{class, ofWord}
+use Rattle.unit.specs.Region.{keepAt, listAt}
 use Rattle.unit.specs.Size.{instructionSize, metadataSize, resultSize, work32Room, work64Room, setsRoom, maxInstructions, maxLocalSlots}
 use Rattle.unit.specs.laws.Size.{sets-fit}
 use Rattle.effects.specs.declared.Check.{Check}
@@ -35,7 +36,6 @@ use Rattle.pc_map.specs.laws.Listed.{keptList, Listed}
 use Rattle.optimize.specs.laws.Parts.{Parts, sectionsFor, cellsFor, Given, Room, Checked, wordsIn, numberedCode, reachedMarks, wordsOf}
 use Rattle.answer.specs.Pass.{removal}
 use Rattle.optimize.specs.laws.Parts.{cellsIn}
-use Rattle.removal.specs.laws.KeptWork.{keepAt, listAt}
 
 -- the list of the control places stands in the 64-bit work, behind what numbering and liveness take: `count` of them from `at` on
 pub record ListedControls (n s at count : ℕ) (work64 : List ℕ) : Type 0 where
@@ -94,7 +94,7 @@ pub record Numberable (n s room32 : ℕ) (work64 : List ℕ) : Type 0 where
 pub record Finished (n : ℕ) (code metadata : List ℕ) (out : ℕ) (work32 work64 : List ℕ) : Type 0 where
   pub few : n ≤ maxInstructions
   pub mapped : Mapped (midOf (keepAt n) n work32) (midOf (keepAt n + n) (n + 1) work32)
-  pub list : midOf (keepAt n + listAt n) (boundary (midOf (keepAt n) n work32) n) work32 ≡ keptList (midOf (keepAt n) n work32)
+  pub list : midOf (listAt n) (boundary (midOf (keepAt n) n work32) n) work32 ≡ keptList (midOf (keepAt n) n work32)
   pub code-long : instructionSize * n ≤ length code
   pub metadata-long : metadataSize * n ≤ length metadata
   pub inside : BranchesInside (midOf 0 n work64)
@@ -146,7 +146,7 @@ module _ {n : ℕ} {code metadata : List ℕ} {out : ℕ} {work32 work64 : List 
   finish-few = omega (arith, last, boundary-most (midOf (keepAt n) n work32) (d .mapped .flags) n)
 
   module _ (k j : ℕ) (e : k ≡ n) (f : j ≡ n) where
-    pub finish-asks : (l b m : ℕ) → l ≡ n + 1 → b ≡ keepAt n + listAt n → m ≡ getD work32 (keepAt n + n + n) 0
+    pub finish-asks : (l b m : ℕ) → l ≡ n + 1 → b ≡ listAt n → m ≡ getD work32 (keepAt n + n + n) 0
         → (at count q : ℕ) → q ≡ count → Controls (midOf 0 n work64) (midOf at count work64) n
         → Listed (midOf (keepAt n) j work32) (midOf (keepAt n + n) l work32) (midOf b m work32) (length (midOf 0 k work64))
         × (instructionSize * length (midOf 0 k work64) ≤ length code)

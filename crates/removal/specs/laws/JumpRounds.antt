@@ -19,6 +19,7 @@ use Rattle.instruction.specs.declared.Instruction.{Instruction}
 use Rattle.instruction.specs.Instruction.{class, ofWord}
 use Rattle.instruction.specs.laws.ReadBack.{jump-class}
 use Rattle.instruction.specs.Opcode as op
+use Rattle.unit.specs.Region.{loopEndsIn}
 use Rattle.effects.specs.Shape.{Cell}
 use Rattle.effects.specs.laws.Cells.{cellOf, cellsBy, cells-long}
 use Rattle.flow.specs.Branch.{branches, target, branchInside}
@@ -69,8 +70,8 @@ module _ (words work : List ℕ) (r : Rounds words (length work)) where
     unfolding isIdle
     idle-at metadata p h =
         let i = ofWord (getD words p 0) in
-        rw (← keep-at p h, get-mid work (2 * length words + 1) (length words) p 0 h)
-        (same-near (isKept (keepIn words work) p) (not (eqb (getD work (2 * length words + 1 + p) 0) 1)) _ _ _
+        rw (← keep-at p h, get-mid work (loopEndsIn (length words)) (length words) p 0 h)
+        (same-near (isKept (keepIn words work) p) (not (eqb (getD work (loopEndsIn (length words) + p) 0) 1)) _ _ _
         (λ kept jump.
         let inside = jump-inside words (r .inside) p h i refl (eqb-true _ _ jump) (target p i) refl in
         near-next (keepIn words work) f p (target p i) (rw keep-size h) kept (omega (arith, keep-size, inside))))
@@ -172,7 +173,7 @@ module _ {words list work₀ : List ℕ} (r : Rounds words (length work₀)) (c 
         was = ap (λ (v : ℕ). eqb v 1) (walk-flags p walk-below)
 
         test : idleIn (length words) work kept next′ p (ofWord (getD words p 0)) ≡ idleAt words work₀ p
-        test = rw (is, before .rest p (λ a b. omega arith), before .rest (2 * length words + 1 + p) (λ a b. omega arith)) refl
+        test = rw (is, before .rest p (λ a b. omega arith), before .rest (loopEndsIn (length words) + p) (λ a b. omega arith)) refl
 
         -- it is done
         pub walk-on : (idle : Bool) (work′ : List ℕ) (dropped′ : Bool) (next″ : ℕ) → idle ≡ idleIn (length words) work kept next′ p (ofWord (getD words p 0))
@@ -229,7 +230,7 @@ module _ (words work₀ work : List ℕ) (k : ℕ) (r : Rounds words (length wor
   fits = omega (arith, rounding-asks .long)
 
   same-ends : endsIn (length words) work ≡ endsIn (length words) work₀
-  same-ends = same-mid (At 0 (length words)) work₀ work (d .only) (2 * length words + 1) (length words) (omega (arith, r .long)) (λ j a b. omega (arith, a .0, b .1))
+  same-ends = same-mid (At 0 (length words)) work₀ work (d .only) (loopEndsIn (length words)) (length words) (omega (arith, r .long)) (λ j a b. omega (arith, a .0, b .1))
 
   long : (metadata : List ℕ) → length (next metadata) ≡ length words
   long metadata = round-long (endsIn (length words) work) (cellsBy words metadata) (keepIn words work) ∙ cells-long words metadata
@@ -291,10 +292,10 @@ module _ (words work work′ : List ℕ) (r : Rounds words (length work)) (f : F
       (rw (left-kept []) (rounds-flags (endsIn (length words) work) (cellsBy words []) 16 (keepIn words work) f), omega (arith, long, r .long))
 
   pub map-made : (metadata keep work″ : List ℕ) → keep ≡ left metadata → work″ ≡ putMid (length words) (length words + 1) work′ (tabulate (length words + 1) (boundary (keepIn words work′)))
-      → work″ ≡ putMid 0 (2 * length words + 1) work (keep ++ mapOf keep)
+      → work″ ≡ putMid 0 (loopEndsIn (length words)) work (keep ++ mapOf keep)
   map-made metadata keep work″ g s =
       let map : tabulate (length words + 1) (boundary (keepIn words work′)) ≡ mapOf (left metadata) = rw (left-kept metadata, left-long metadata) refl in
-      let both : length words + (length words + 1) ≡ 2 * length words + 1 = omega arith in
+      let both : length words + (length words + 1) ≡ loopEndsIn (length words) = omega arith in
       s
       ∙ rw (map, e metadata) refl
       ∙ ap (λ (a : ℕ). putMid a (length words + 1) (putMid 0 (length words) work (left metadata)) (mapOf (left metadata))) (sym (zero-add (length words)))

@@ -7,6 +7,7 @@ use Prim.Native.Nat.{ℕ, _+_, _*_, _/_, _≤_, _<_}
 use lib.ListN.{length, getD}
 use borrow.Rule.Slice.PartMut.{midOf}
 use Rattle.unit.specs.Entry.{metadataAt, goodMetadata}
+use Rattle.unit.specs.Region.{keepAt, loopEndsIn}
 use Rattle.unit.specs.Size.{metadataSize, caseSize, work32Room, setsRoom, maxInstructions, maxLocalSlots}
 use Rattle.effects.specs.Check.{operandRefusal}
 use Rattle.effects.specs.Shape.{Sections, Tables, tablesOf}
@@ -22,17 +23,6 @@ use Rattle.removal.specs.laws.Jumping.{mapOf, endsIn}
 -- the sections that stay; "number of types is not s" was refused
 abbrev pub sectionsIn : List ℕ → List ℕ → List ℕ → List ℕ → List ℕ → Sections
 sectionsIn types constants functions externs cases = record { locals = length types; types = types; constants = constants; tables = tablesOf functions externs cases }
-
--- where the kept places stand in the 32-bit work, and the loop ends counted from there
-abbrev pub keepAt : ℕ → ℕ
-keepAt n = 3 * n + 1
-
-abbrev pub endsAt : ℕ → ℕ
-endsAt n = 2 * n + 1
-
--- where their list stands, also counted from there
-abbrev pub listAt : ℕ → ℕ
-listAt n = 3 * n + 1
 
 -- what `retain` is given: checked code, its leaders, and the reached places
 pub record Retainable (T : Tables) (n : ℕ) (words metadata types leads marks : List ℕ) (room32 room64 : ℕ) : Type 0 where
@@ -58,7 +48,7 @@ pub record Useful (words metadata work work′ : List ℕ) : Type 0 where
 pub record Stored (n : ℕ) (metadata types constants functions externs cases work32 work64 work32′ work64′ : List ℕ) : Type 0 where
   pub keep : midOf (keepAt n) n work32′
       ≡ deadStores (sectionsIn types constants functions externs cases) (midOf 0 n work32) (midOf (keepAt n) n work32) (cellsBy (midOf 0 n work64) metadata)
-  pub ends : midOf (keepAt n + endsAt n) n work32′ ≡ midOf (keepAt n + endsAt n) n work32
+  pub ends : midOf (keepAt n + loopEndsIn n) n work32′ ≡ midOf (keepAt n + loopEndsIn n) n work32
   pub code : midOf 0 n work64′ ≡ midOf 0 n work64
 
 -- what it leaves: the retained places and their map; the code as it was

@@ -9,6 +9,7 @@ use lib.ListN.{length, set, replicate, length-set, length-replicate}
 use borrow.Rule.Slice.PartMut.{midOf, putMid, postOf}
 use Rattle.words.specs.laws.Only.{mid-mid, back-within, back-before, back-after}
 use Rattle.words.specs.laws.Regions.{mid-long, put-long, mid-put}
+use Rattle.unit.specs.Region.{startsAt, keepAt, loopEndsIn, listIn}
 use Rattle.unit.specs.Size.{setsRoom, maxInstructions}
 use Rattle.effects.specs.Shape.{Tables, Cell, tablesOf}
 use Rattle.effects.specs.laws.Cells.{cellsBy, cells-long}
@@ -22,7 +23,7 @@ use Rattle.liveness.specs.laws.Droppable.{Droppable}
 use Rattle.liveness.specs.laws.Sweep.{dead-long}
 use Rattle.run.specs.laws.Optimized.{useful-long}
 use Rattle.answer.specs.Pass.{usefulPlaces}
-use Rattle.removal.specs.laws.KeptWork.{sectionsIn, keepAt, endsAt, Useful, Stored, Retainable}
+use Rattle.removal.specs.laws.KeptWork.{sectionsIn, Useful, Stored, Retainable}
 
 mark-long : (l qs : List ℕ) → length (markAll l qs) ≡ length l
 unfolding markAll
@@ -34,23 +35,23 @@ unfolding anchors
 anchors-long marks cells = mark-long (replicate (length cells) 0) (loopEnds 0 marks cells) ∙ length-replicate (length cells) 0
 
 -- ---- plain hints
-pub hints-useful : (words metadata work work₁ keep : List ℕ) (k : ℕ) → k ≡ length words → 3 * length words + 1 ≤ length work
-    → work₁ ≡ putMid (endsAt (length words)) (length words) work (anchors (midOf 0 (length words) work) (cellsBy words metadata))
+pub hints-useful : (words metadata work work₁ keep : List ℕ) (k : ℕ) → k ≡ length words → listIn (length words) ≤ length work
+    → work₁ ≡ putMid (loopEndsIn (length words)) (length words) work (anchors (midOf 0 (length words) work) (cellsBy words metadata))
     → keep ≡ usefulPlaces (midOf 0 k work₁) (cellsBy words metadata)
     → Useful words metadata work (keep ++ postOf 0 k work₁)
 hints-useful words metadata work work₁ keep k e room a u =
     let n = length words in
     let cells = cellsBy words metadata in
     let long : length (anchors (midOf 0 n work) cells) ≡ n = anchors-long (midOf 0 n work) cells ∙ cells-long words metadata in
-    let fits : endsAt n + n ≤ length work = omega arith in
-    let whole : length work₁ ≡ length work = ap length a ∙ put-long work (endsAt n) n (anchors (midOf 0 n work) cells) long fits in
-    let marks : midOf 0 n work₁ ≡ midOf 0 n work = ap (λ (l : List ℕ). midOf 0 n l) a ∙ back-before work (endsAt n) n (anchors (midOf 0 n work) cells) fits long 0 n (omega arith) in
+    let fits : loopEndsIn n + n ≤ length work = omega arith in
+    let whole : length work₁ ≡ length work = ap length a ∙ put-long work (loopEndsIn n) n (anchors (midOf 0 n work) cells) long fits in
+    let marks : midOf 0 n work₁ ≡ midOf 0 n work = ap (λ (l : List ℕ). midOf 0 n l) a ∙ back-before work (loopEndsIn n) n (anchors (midOf 0 n work) cells) fits long 0 n (omega arith) in
     let kept : keep ≡ usefulPlaces (midOf 0 n work) cells = u ∙ rw (e, marks) in
     let size : length keep ≡ k = ap length kept ∙ useful-long (midOf 0 n work) cells ∙ cells-long words metadata ∙ sym e in
     let room₁ : 0 + k ≤ length work₁ = omega (arith, whole) in
     record {
       keep = ap (λ (j : ℕ). midOf 0 j (putMid 0 k work₁ keep)) (sym e) ∙ mid-put work₁ 0 k keep size room₁ ∙ kept;
-      ends = back-after work₁ 0 k keep room₁ size (endsAt n) n (omega arith) (omega (arith, whole)) ∙ ap (λ (l : List ℕ). midOf (endsAt n) n l) a ∙ mid-put work (endsAt n) n (anchors (midOf 0 n work) cells) long fits;
+      ends = back-after work₁ 0 k keep room₁ size (loopEndsIn n) n (omega arith) (omega (arith, whole)) ∙ ap (λ (l : List ℕ). midOf (loopEndsIn n) n l) a ∙ mid-put work (loopEndsIn n) n (anchors (midOf 0 n work) cells) long fits;
     }
 
 -- ---- dead stores
@@ -65,12 +66,12 @@ module _ (T : Tables) (n : ℕ) (words metadata types work32 : List ℕ) (room64
   front-part : (b i : ℕ) → b + i ≤ keepAt n → midOf b i (midOf 0 (keepAt n) work32) ≡ midOf b i work32
   front-part b i h = mid-mid work32 0 (keepAt n) b i (omega (arith, room)) h ∙ ap (λ (m : ℕ). midOf m i work32) (zero-add b)
 
-  pub blocks-asks : (k : ℕ) → k ≡ keepAt n → Flags (midOf 0 n (midOf 0 k work32)) × Marked (midOf 0 n (midOf 0 k work32)) 0 × (n ≤ maxInstructions) × (3 * n + 1 ≤ length (midOf 0 k work32))
+  pub blocks-asks : (k : ℕ) → k ≡ keepAt n → Flags (midOf 0 n (midOf 0 k work32)) × Marked (midOf 0 n (midOf 0 k work32)) 0 × (n ≤ maxInstructions) × (keepAt n ≤ length (midOf 0 k work32))
   blocks-asks k e = rw (e, front-part 0 n (omega arith), front-long) (d .flags, d .one, d .few, omega arith)
 
   -- what the numbering of blocks left
   module _ (count : ℕ) (blocked : List ℕ) (size : length blocked ≡ keepAt n)
-      (b : Numbered (midOf 0 n (midOf 0 (keepAt n) work32)) (midOf n n blocked) (midOf (2 * n) (n + 1) (midOf 0 (keepAt n) work32)) (midOf (2 * n) (n + 1) blocked) count)
+      (b : Numbered (midOf 0 n (midOf 0 (keepAt n) work32)) (midOf n n blocked) (midOf (startsAt n) (n + 1) (midOf 0 (keepAt n) work32)) (midOf (startsAt n) (n + 1) blocked) count)
       (o : blocked ≡ putMid n (2 * n + 1) (midOf 0 (keepAt n) work32) (midOf n (2 * n + 1) blocked)) where
     abbrev now : List ℕ
     now = putMid 0 (keepAt n) work32 blocked
@@ -91,19 +92,19 @@ module _ (T : Tables) (n : ℕ) (words metadata types work32 : List ℕ) (room64
     leads-now = part-now 0 n (omega arith) ∙ ap (λ (l : List ℕ). midOf 0 n l) o
         ∙ back-before (midOf 0 (keepAt n) work32) n (2 * n + 1) (midOf n (2 * n + 1) blocked) (omega (arith, front-long)) region 0 n (omega arith) ∙ front-part 0 n (omega arith)
 
-    keep-now : midOf (3 * n + 1) n (midOf 0 (keepAt n + n) now) ≡ midOf (keepAt n) n work32
+    keep-now : midOf (keepAt n) n (midOf 0 (keepAt n + n) now) ≡ midOf (keepAt n) n work32
     keep-now = mid-mid now 0 (keepAt n + n) (keepAt n) n (omega (arith, same, room)) (omega arith) ∙ ap (λ (m : ℕ). midOf m n now) (zero-add (keepAt n))
         ∙ back-after work32 0 (keepAt n) blocked fits size (keepAt n) n (omega arith) room
 
-    numbers : Numbered (midOf 0 n work32) (midOf n n blocked) (midOf (2 * n) (n + 1) (midOf 0 (keepAt n) work32)) (midOf (2 * n) (n + 1) blocked) count
+    numbers : Numbered (midOf 0 n work32) (midOf n n blocked) (midOf (startsAt n) (n + 1) (midOf 0 (keepAt n) work32)) (midOf (startsAt n) (n + 1) blocked) count
     numbers = rw (front-part 0 n (omega arith)) at b
 
     leads-long : length (midOf 0 n work32) ≡ n
     leads-long = mid-long work32 0 n (omega (arith, room))
 
     pub stores-known : Droppable T n count words metadata types (midOf 0 n (midOf 0 (keepAt n + n) now)) (midOf n n (midOf 0 (keepAt n + n) now))
-        (midOf (2 * n) (n + 1) (midOf 0 (keepAt n + n) now)) (midOf (3 * n + 1) n (midOf 0 (keepAt n + n) now))
-    stores-known = rw (leads-now, part-now n n (omega arith), part-now (2 * n) (n + 1) (omega arith), keep-now) (record {
+        (midOf (startsAt n) (n + 1) (midOf 0 (keepAt n + n) now)) (midOf (keepAt n) n (midOf 0 (keepAt n + n) now))
+    stores-known = rw (leads-now, part-now n n (omega arith), part-now (startsAt n) (n + 1) (omega arith), keep-now) (record {
       some = omega (arith, d .some);
       most = d .few;
       few = d .slots;
@@ -111,25 +112,25 @@ module _ (T : Tables) (n : ℕ) (words metadata types work32 : List ℕ) (room64
       long-words = long;
       long-leaders = leads-long;
       long-blocks = mid-long blocked n n (omega (arith, size));
-      long-starts = mid-long blocked (2 * n) (n + 1) (omega (arith, size));
+      long-starts = mid-long blocked (startsAt n) (n + 1) (omega (arith, size));
       long-keep = mid-long work32 (keepAt n) n room;
       flags = d .flags;
       one = d .one;
       keep-flags = d .marked;
       total = numbers .counted;
       numbers = rw leads-long at (numbers .numbers);
-      places = λ b h. numbered-start (midOf 0 n work32) (midOf n n blocked) _ (midOf (2 * n) (n + 1) blocked) count (d .flags) numbers b (rw (← numbers .counted) h);
+      places = λ b h. numbered-start (midOf 0 n work32) (midOf n n blocked) _ (midOf (startsAt n) (n + 1) blocked) count (d .flags) numbers b (rw (← numbers .counted) h);
       good = d .good;
       operands = d .operands;
       inside = rw long at (d .inside);
     })
 
-    pub stores-room : 4 * n + 1 ≤ length (midOf 0 (keepAt n + n) (putMid 0 (keepAt n) work32 blocked))
+    pub stores-room : keepAt n + n ≤ length (midOf 0 (keepAt n + n) (putMid 0 (keepAt n) work32 blocked))
     stores-room = rw (mid-long now 0 (keepAt n + n) (omega (arith, same, room))) (omega arith)
 
     -- and what dead stores leave then
     module _ (work64 work64′ stored : List ℕ) (constants functions externs cases : List ℕ) (code : words ≡ midOf 0 n work64) (tables : T ≡ tablesOf functions externs cases)
-        (kept : stored ≡ putMid (3 * n + 1) n (midOf 0 (keepAt n + n) now) (deadStores (sectionsIn types constants functions externs cases) (midOf 0 n (midOf 0 (keepAt n + n) now)) (midOf (3 * n + 1) n (midOf 0 (keepAt n + n) now)) (cellsBy words metadata)))
+        (kept : stored ≡ putMid (keepAt n) n (midOf 0 (keepAt n + n) now) (deadStores (sectionsIn types constants functions externs cases) (midOf 0 n (midOf 0 (keepAt n + n) now)) (midOf (keepAt n) n (midOf 0 (keepAt n + n) now)) (cellsBy words metadata)))
         (still : midOf 0 n work64′ ≡ midOf 0 n work64) where
       abbrev dead : List ℕ
       dead = deadStores (sectionsIn types constants functions externs cases) (midOf 0 n work32) (midOf (keepAt n) n work32) (cellsBy words metadata)
@@ -151,8 +152,8 @@ module _ (T : Tables) (n : ℕ) (words metadata types work32 : List ℕ) (room64
                 ∙ mid-put (midOf 0 (keepAt n + n) now) (keepAt n) n dead size-dead inner
                 ∙ ap (λ (l : List ℕ). deadStores (sectionsIn types constants functions externs cases) (midOf 0 n work32) (midOf (keepAt n) n work32) (cellsBy l metadata)) code;
             ends =
-                back-after now 0 (keepAt n + n) stored outer size-stored (keepAt n + endsAt n) n (omega arith) (omega (arith, same, d .long32))
-                ∙ back-after work32 0 (keepAt n) blocked fits size (keepAt n + endsAt n) n (omega arith) (omega (arith, d .long32));
+                back-after now 0 (keepAt n + n) stored outer size-stored (keepAt n + loopEndsIn n) n (omega arith) (omega (arith, same, d .long32))
+                ∙ back-after work32 0 (keepAt n) blocked fits size (keepAt n + loopEndsIn n) n (omega arith) (omega (arith, d .long32));
             code = still;
           }
 
@@ -160,27 +161,27 @@ module _ (T : Tables) (n : ℕ) (words metadata types work32 : List ℕ) (room64
 module _ (T : Tables) (n k j : ℕ) (words metadata types work32 : List ℕ) (room64 : ℕ) (e : k ≡ keepAt n) (f : j ≡ keepAt n + n)
     (d : Retainable T n words metadata types (midOf 0 n work32) (midOf (keepAt n) n work32) (length work32) room64) (long : length words ≡ n)
     (count : ℕ) (blocked : List ℕ) (size : length blocked ≡ length (midOf 0 k work32))
-    (b : Numbered (midOf 0 n (midOf 0 k work32)) (midOf n n blocked) (midOf (2 * n) (n + 1) (midOf 0 k work32)) (midOf (2 * n) (n + 1) blocked) count)
+    (b : Numbered (midOf 0 n (midOf 0 k work32)) (midOf n n blocked) (midOf (startsAt n) (n + 1) (midOf 0 k work32)) (midOf (startsAt n) (n + 1) blocked) count)
     (o : blocked ≡ putMid n (2 * n + 1) (midOf 0 k work32) (midOf n (2 * n + 1) blocked)) where
   size′ : length blocked ≡ keepAt n
   size′ = rw e at size ∙ front-long T n words metadata types work32 room64 d long
 
-  b′ : Numbered (midOf 0 n (midOf 0 (keepAt n) work32)) (midOf n n blocked) (midOf (2 * n) (n + 1) (midOf 0 (keepAt n) work32)) (midOf (2 * n) (n + 1) blocked) count
+  b′ : Numbered (midOf 0 n (midOf 0 (keepAt n) work32)) (midOf n n blocked) (midOf (startsAt n) (n + 1) (midOf 0 (keepAt n) work32)) (midOf (startsAt n) (n + 1) blocked) count
   b′ = rw e at b
 
   o′ : blocked ≡ putMid n (2 * n + 1) (midOf 0 (keepAt n) work32) (midOf n (2 * n + 1) blocked)
   o′ = rw e at o
 
   pub stores-asks : Droppable T n count words metadata types (midOf 0 n (midOf 0 j (putMid 0 k work32 blocked))) (midOf n n (midOf 0 j (putMid 0 k work32 blocked)))
-      (midOf (2 * n) (n + 1) (midOf 0 j (putMid 0 k work32 blocked))) (midOf (3 * n + 1) n (midOf 0 j (putMid 0 k work32 blocked)))
+      (midOf (startsAt n) (n + 1) (midOf 0 j (putMid 0 k work32 blocked))) (midOf (keepAt n) n (midOf 0 j (putMid 0 k work32 blocked)))
       × (setsRoom n (length types) ≤ room64)
-      × (4 * n + 1 ≤ length (midOf 0 j (putMid 0 k work32 blocked)))
+      × (keepAt n + n ≤ length (midOf 0 j (putMid 0 k work32 blocked)))
   stores-asks = rw (e, f) (stores-known T n words metadata types work32 room64 d long count blocked size′ b′ o′, d .long64, stores-room T n words metadata types work32 room64 d long count blocked size′ b′ o′)
 
   pub stores-leave : (work64 work64′ stored constants functions externs cases : List ℕ) → words ≡ midOf 0 n work64 → T ≡ tablesOf functions externs cases
       → stored
-      ≡ putMid (3 * n + 1) n (midOf 0 j (putMid 0 k work32 blocked))
-      (deadStores (sectionsIn types constants functions externs cases) (midOf 0 n (midOf 0 j (putMid 0 k work32 blocked))) (midOf (3 * n + 1) n (midOf 0 j (putMid 0 k work32 blocked))) (cellsBy words metadata))
+      ≡ putMid (keepAt n) n (midOf 0 j (putMid 0 k work32 blocked))
+      (deadStores (sectionsIn types constants functions externs cases) (midOf 0 n (midOf 0 j (putMid 0 k work32 blocked))) (midOf (keepAt n) n (midOf 0 j (putMid 0 k work32 blocked))) (cellsBy words metadata))
       → midOf 0 n work64′ ≡ midOf 0 n work64 → Stored n metadata types constants functions externs cases work32 work64 (putMid 0 j (putMid 0 k work32 blocked) stored) work64′
   stores-leave work64 work64′ stored constants functions externs cases w t kept still =
       rw (e, f) (stores-stored T n words metadata types work32 room64 d long count blocked size′ b′ o′ work64 work64′ stored constants functions externs cases w t (rw (e, f) at kept) still)

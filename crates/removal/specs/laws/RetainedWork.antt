@@ -12,6 +12,7 @@ use borrow.Rule.Slice.PartMut.{midOf, putMid}
 use Rattle.words.specs.laws.Lists.{length-tabulate}
 use Rattle.words.specs.laws.Only.{mid-mid, back-within, back-before}
 use Rattle.words.specs.laws.Regions.{mid-long, put-long, drop-behind}
+use Rattle.unit.specs.Region.{keepAt, loopEndsIn, listIn}
 use Rattle.unit.specs.Size.{metadataSize, maxInstructions}
 use Rattle.effects.specs.Shape.{Tables, Sections, Cell, tablesOf}
 use Rattle.effects.specs.laws.Cells.{cellsBy, cells-long}
@@ -26,14 +27,14 @@ use Rattle.run.specs.laws.Optimized.{useful-flags, useful-long}
 use Rattle.answer.specs.Jump.{jumpRounds}
 use Rattle.answer.specs.Pass.{keptPlaces, usefulPlaces}
 use Rattle.removal.specs.laws.Jumping.{Rounds, endsIn, mapOf}
-use Rattle.removal.specs.laws.KeptWork.{sectionsIn, keepAt, endsAt, Useful, Stored, Retainable, Retains}
+use Rattle.removal.specs.laws.KeptWork.{sectionsIn, Useful, Stored, Retainable, Retains}
 
 -- what dropping hints asks, with the parts' lengths as the code has them
 pub hints-asks : {T : Tables} {types leads marks : List ℕ} (n k at count m : ℕ) (metadata work32 work64 : List ℕ) → k ≡ n → m ≡ count
     → Retainable T n (midOf 0 n work64) metadata types leads marks (length work32) at → at + count ≤ length work64 → Controls (midOf 0 n work64) (midOf at count work64) n
     → (length (midOf 0 k work64) ≤ maxInstructions)
     × (metadataSize * length (midOf 0 k work64) ≤ length metadata)
-    × (3 * length (midOf 0 k work64) + 1 ≤ length (midOf (keepAt n) (length work32 - keepAt n) work32))
+    × (listIn (length (midOf 0 k work64)) ≤ length (midOf (keepAt n) (length work32 - keepAt n) work32))
     × Controls (midOf 0 k work64) (midOf at m work64) (length (midOf 0 k work64))
 hints-asks n k at count m metadata work32 work64 e f d room c =
     let size : length (midOf 0 n work64) ≡ n = mid-long work64 0 n (omega (arith, d .long64)) in
@@ -99,9 +100,9 @@ module _ (n k : ℕ) (metadata types functions externs cases work32 work64 hinte
       ∙ back-within work32 (keepAt n) rest hinted fits hinted-long 0 n (omega (arith, d .long32))
       ∙ (rw code-long at (useful .keep)) ∙ ap (λ (l : List ℕ). usefulPlaces l cells) part-marks
 
-  ends₁ : midOf (keepAt n + endsAt n) n now₁ ≡ anchors marks cells
+  ends₁ : midOf (keepAt n + loopEndsIn n) n now₁ ≡ anchors marks cells
   ends₁ =
-      back-within work32 (keepAt n) rest hinted fits hinted-long (endsAt n) n (omega (arith, d .long32))
+      back-within work32 (keepAt n) rest hinted fits hinted-long (loopEndsIn n) n (omega (arith, d .long32))
       ∙ (rw code-long at (useful .ends)) ∙ ap (λ (l : List ℕ). anchors l cells) part-marks
 
   pub hints-retainable : Retainable (tablesOf functions externs cases) n (midOf 0 n (midOf 0 l work64)) metadata types (midOf 0 n (putMid (keepAt n) (length work32 - keepAt n) work32 hinted))
@@ -143,7 +144,7 @@ module _ (n k : ℕ) (metadata types functions externs cases work32 work64 hinte
       dead-ok : Flags dead
       dead-ok = dead-flags S (midOf 0 n work32) (usefulPlaces marks cells) cells (useful-flags marks cells (d .marked))
 
-    ends₂ : midOf (keepAt n + endsAt n) n work32′ ≡ anchors marks cells
+    ends₂ : midOf (keepAt n + loopEndsIn n) n work32′ ≡ anchors marks cells
     ends₂ = st [] .ends ∙ ends₁
 
     code₂ : midOf 0 n work64′ ≡ midOf 0 n work64
@@ -167,7 +168,7 @@ module _ (n k : ℕ) (metadata types functions externs cases work32 work64 hinte
     rest-long : length (midOf (keepAt n) rest₂ work32′) ≡ rest₂
     rest-long = mid-long work32′ (keepAt n) rest₂ fits₂
 
-    many : 3 * n + 1 ≤ rest₂
+    many : listIn n ≤ rest₂
     many = omega (arith, stores-long, d .long32)
 
     code-size : length (midOf 0 k work64′) ≡ n
@@ -180,7 +181,7 @@ module _ (n k : ℕ) (metadata types functions externs cases work32 work64 hinte
     part-keep = mid-mid work32′ (keepAt n) rest₂ 0 n fits₂ (omega (arith, many)) ∙ ap (λ (m : ℕ). midOf m n work32′) (add-zero (keepAt n))
 
     part-ends : endsIn n (midOf (keepAt n) rest₂ work32′) ≡ anchors marks cells
-    part-ends = mid-mid work32′ (keepAt n) rest₂ (endsAt n) n fits₂ (omega (arith, many)) ∙ ends₂
+    part-ends = mid-mid work32′ (keepAt n) rest₂ (loopEndsIn n) n fits₂ (omega (arith, many)) ∙ ends₂
 
     pub jumps-asks : (count m : ℕ) → m ≡ count → Controls (midOf 0 n work64) (midOf at count work64) n
         → Rounds (midOf 0 k (putMid 0 l work64 front)) (length (midOf (keepAt n) (length work32′ - keepAt n) work32′))
@@ -197,30 +198,30 @@ module _ (n k : ℕ) (metadata types functions externs cases work32 work64 hinte
         → keep
         ≡ jumpRounds 16 (endsIn (length (midOf 0 k (putMid 0 l work64 front))) (midOf (keepAt n) (length work32′ - keepAt n) work32′)) (cellsBy (midOf 0 k (putMid 0 l work64 front)) metadata)
         (midOf 0 (length (midOf 0 k (putMid 0 l work64 front))) (midOf (keepAt n) (length work32′ - keepAt n) work32′))
-        → jumped ≡ putMid 0 (2 * length (midOf 0 k (putMid 0 l work64 front)) + 1) (midOf (keepAt n) (length work32′ - keepAt n) work32′) (keep ++ mapOf keep)) where
+        → jumped ≡ putMid 0 (loopEndsIn (length (midOf 0 k (putMid 0 l work64 front)))) (midOf (keepAt n) (length work32′ - keepAt n) work32′) (keep ++ mapOf keep)) where
       pub jumps-retained : (constants : List ℕ) → Retains n metadata types constants functions externs cases work32 work64 (putMid (keepAt n) (length work32′ - keepAt n) work32′ jumped) (putMid 0 l work64 front)
       unfolding keptPlaces
       jumps-retained constants =
           let keep : List ℕ = jumpRounds 16 (anchors marks cells) cells (dead constants) in
           let keep-size : length keep ≡ n = rounds-long (anchors marks cells) cells 16 (dead constants) (dead-size constants ∙ sym cells-size) ∙ cells-size in
-          let is : jumped ≡ putMid 0 (2 * n + 1) (midOf (keepAt n) rest₂ work32′) (keep ++ mapOf keep) =
-          j metadata keep (rw (code-size, part-ends, same-code, part-keep, keep₂ constants)) ∙ ap (λ (m : ℕ). putMid 0 (2 * m + 1) (midOf (keepAt n) rest₂ work32′) (keep ++ mapOf keep)) code-size in
+          let is : jumped ≡ putMid 0 (loopEndsIn n) (midOf (keepAt n) rest₂ work32′) (keep ++ mapOf keep) =
+          j metadata keep (rw (code-size, part-ends, same-code, part-keep, keep₂ constants)) ∙ ap (λ (m : ℕ). putMid 0 (loopEndsIn m) (midOf (keepAt n) rest₂ work32′) (keep ++ mapOf keep)) code-size in
           let map-size : length (mapOf keep) ≡ n + 1 = length-tabulate (length keep + 1) (boundary keep) ∙ ap (λ (m : ℕ). m + 1) keep-size in
-          let both : length (keep ++ mapOf keep) ≡ 2 * n + 1 = length-append keep (mapOf keep) ∙ omega (arith, keep-size, map-size) in
-          let inner : 0 + (2 * n + 1) ≤ length (midOf (keepAt n) rest₂ work32′) = omega (arith, rest-long, many) in
+          let both : length (keep ++ mapOf keep) ≡ loopEndsIn n = length-append keep (mapOf keep) ∙ omega (arith, keep-size, map-size) in
+          let inner : 0 + loopEndsIn n ≤ length (midOf (keepAt n) rest₂ work32′) = omega (arith, rest-long, many) in
           let jumped-long : length jumped ≡ rest₂ = jumped-size ∙ rest-long in
           let final : List ℕ = putMid (keepAt n) rest₂ work32′ jumped in
           let at : midOf (keepAt n) n final ≡ keep =
           ap (λ (m : ℕ). midOf m n final) (sym (add-zero (keepAt n)))
           ∙ back-within work32′ (keepAt n) rest₂ jumped fits₂ jumped-long 0 n (omega (arith, many))
           ∙ ap (λ (l : List ℕ). midOf 0 n l) is
-          ∙ back-within (midOf (keepAt n) rest₂ work32′) 0 (2 * n + 1) (keep ++ mapOf keep) inner both 0 n (omega arith)
+          ∙ back-within (midOf (keepAt n) rest₂ work32′) 0 (loopEndsIn n) (keep ++ mapOf keep) inner both 0 n (omega arith)
           ∙ take-at keep (mapOf keep) n keep-size in
           let bounds : midOf (keepAt n + n) (n + 1) final ≡ mapOf keep =
           back-within work32′ (keepAt n) rest₂ jumped fits₂ jumped-long n (n + 1) (omega (arith, many))
           ∙ ap (λ (l : List ℕ). midOf n (n + 1) l) is
-          ∙ ap (λ (m : ℕ). midOf m (n + 1) (putMid 0 (2 * n + 1) (midOf (keepAt n) rest₂ work32′) (keep ++ mapOf keep))) (sym (zero-add n))
-          ∙ back-within (midOf (keepAt n) rest₂ work32′) 0 (2 * n + 1) (keep ++ mapOf keep) inner both n (n + 1) (omega arith)
+          ∙ ap (λ (m : ℕ). midOf m (n + 1) (putMid 0 (loopEndsIn n) (midOf (keepAt n) rest₂ work32′) (keep ++ mapOf keep))) (sym (zero-add n))
+          ∙ back-within (midOf (keepAt n) rest₂ work32′) 0 (loopEndsIn n) (keep ++ mapOf keep) inner both n (n + 1) (omega arith)
           ∙ ap (take (n + 1)) (drop-at keep (mapOf keep) n keep-size)
           ∙ ap (λ (m : ℕ). take m (mapOf keep)) (sym map-size) ∙ take-length (mapOf keep) in
           record {

@@ -4,6 +4,7 @@ use Prim.Native.Nat.{ℕ, _+_, _*_, _-_, _≤_}
 use native.Mathlib.Omega.{arith}
 use lib.ListN.{length}
 use borrow.Rule.Slice.PartMut.{same-len-mid}
+use Rattle.unit.specs.Region.{stackEnd}
 use Rattle.effects.specs.laws.Cells.{cellsBy, cells-long}
 use Rattle.flow.specs.Loop.{reachedPlaces}
 use Rattle.flow.specs.Reach.{reached}
@@ -39,7 +40,7 @@ all n = omega arith
 long : (h : Head) → length (h .loop .work) ≡ length (start h .args .work .now)
 long h = h .loop .inv .long ∙ first-long (size h) (next h) (start h .args .work .now) _ (start h .pre .3) _ (all (size h)) (h .before .before .before .zero-u32 .ensures)
 
-room : (h : Head) → 5 * size h + 4 ≤ length (h .loop .work)
+room : (h : Head) → stackEnd (size h) ≤ length (h .loop .work)
 room h = rw (long h) (start h .pre .3)
 
 high : (h : Head) → h .loop .sp ≤ 4 * size h + 4

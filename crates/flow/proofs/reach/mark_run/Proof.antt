@@ -9,6 +9,7 @@ use borrow.Rule.Slice.PartMut.{midOf}
 use Rattle.words.specs.laws.Regions.{mid-long}
 use Rattle.words.specs.laws.Truth.{both}
 use Rattle.instruction.specs.Instruction.{ofWord}
+use Rattle.unit.specs.Region.{stackEnd}
 use Rattle.effects.specs.laws.Cells.{cellOf, cellsBy}
 use Rattle.flow.specs.laws.Stack.{marksOf, left}
 use Rattle.flow.specs.laws.Successors.{following, successors-few, following-at, goes-on}
@@ -27,7 +28,7 @@ abbrev Head : Type 0
 Head = tie.At-loop Inv-loop μ-loop
 
 abbrev start : Head → tie.Start Inv-loop μ-loop
-start h = h .before .before .before .before
+start h = h .before .before .before .before .before
 
 abbrev size : Head → ℕ
 size h = length (start h .args .words .now)
@@ -38,7 +39,7 @@ next h = following (cellsBy (start h .args .words .now) (start h .args .metadata
 few : (h : Head) (p : ℕ) → length (next h p) ≤ 4
 few h p = successors-few _ p _
 
-room : (h : Head) → 5 * size h + 4 ≤ length (h .loop .work)
+room : (h : Head) → stackEnd (size h) ≤ length (h .loop .work)
 room h = rw (h .loop .inv .walked .long) (start h .pre .2)
 
 below : (h : Head) → h .loop .p < size h
@@ -69,7 +70,7 @@ module _ (c : tie.Then2 Inv-loop μ-loop) where
       rw (add-one p) (following-at words metadata p (below head) ∙ goes-on (length words) p (cellOf metadata p (getD words p 0)) goes)
 
 loop-holds : tie.Need-loop-holds Inv-loop μ-loop
-loop-holds c = let s = c .before .before .before in run-begin _ _ _ _ _ (s .pre .3) (s .pre .4)
+loop-holds c = let s = c .before .before .before .before in run-begin _ _ _ _ _ (s .pre .3) (s .pre .4)
 
 mul-if1 : tie.Need-mul-if1 Inv-loop μ-loop
 mul-if1 c = omega (arith, below c)
@@ -113,11 +114,15 @@ loop-less c = let h = head c in run-less (few h) (room h) (h .loop .inv) (c .bef
 loop-again : tie.Need-loop-again Inv-loop μ-loop
 loop-again c = let h = head c in run-next (few h) (room h) (h .loop .inv) (c .before .before .before .if1 .taken) (one c) (more c)
 
-stack-part : (n : ℕ) → 5 * n + 4 - n ≡ 4 * n + 4
-stack-part n = omega arith
+-- the stack's end as the code has it
+abbrev end : Head → ℕ
+end h = h .before .stack-end .result
+
+stack-part : (h : Head) → end h - size h ≡ 4 * size h + 4
+stack-part h = omega (arith, h .before .stack-end .ensures)
 
 part-push-successors-end : tie.Need-part-push-successors-end Inv-loop μ-loop
-part-push-successors-end c = let h = turn (c .before .before .before) in omega (arith, room h, length-set (h .loop .work) (h .loop .p) 1)
+part-push-successors-end c = let h = turn (c .before .before .before) in omega (arith, room h, h .before .stack-end .ensures, length-set (h .loop .work) (h .loop .p) 1)
 
 push-successors-requires : tie.Need-push-successors-requires Inv-loop μ-loop
 push-successors-requires c κs =
@@ -125,8 +130,8 @@ push-successors-requires c κs =
     let h = turn t in
     let free = run-free (few h) (room h) (h .loop .inv) (t .if1 .taken) in
     let marked = set (h .loop .work) (h .loop .p) 1 in
-    let part : length (midOf (size h) (5 * size h + 4 - size h) marked) ≡ 4 * size h + 4
-    = mid-long marked (size h) (5 * size h + 4 - size h) (omega (arith, room h, length-set (h .loop .work) (h .loop .p) 1)) ∙ stack-part (size h) in
+    let part : length (midOf (size h) (end h - size h) marked) ≡ 4 * size h + 4
+    = mid-long marked (size h) (end h - size h) (omega (arith, room h, stack-part h, length-set (h .loop .work) (h .loop .p) 1)) ∙ stack-part h in
     (omega arith, below h, omega arith, omega arith)
 
 returns : tie.Need-returns Inv-loop μ-loop
@@ -134,7 +139,7 @@ returns c =
     let v = c .before .before in
     let t = v .before .before .before .before .before in
     let h = turn t in
-    run-push (few h) (room h) (h .loop .inv) (t .if1 .taken) _ (stack-part (size h)) (v .push-successors .last .1 .1 .0) (v .push-successors .result) (v .push-successors .kept .1 .1 .0)
+    run-push (few h) (room h) (h .loop .inv) (t .if1 .taken) _ (stack-part h) (v .push-successors .last .1 .1 .0) (v .push-successors .result) (v .push-successors .kept .1 .1 .0)
     (rw (following-at (start h .args .words .now) (start h .args .metadata .now) (h .loop .p) (below h)) (v .push-successors .ensures))
 
 same-length : tie.Need-same-length Inv-loop μ-loop
@@ -152,8 +157,7 @@ mark-run-spec =
     (tie.spec
     Inv-loop
     μ-loop
-    (λ c. search needs)
-    (λ c. search needs)
+    (λ c κs. search needs)
     loop-holds
     mul-if1
     slice-read-if1

@@ -1,7 +1,8 @@
 use mathlib.Core.Path.{refl}
-use Prim.Native.Nat.{_+_, _*_, _≤_}
+use Prim.Native.Nat.{_*_, _≤_}
 use native.Mathlib.Nat.{mul-le-mul}
 use native.Mathlib.Omega.{arith}
+use Rattle.unit.specs.Region.{keepAt}
 use Rattle.liveness.specs.laws.Droppable.{few-words, few-blocks}
 use Rattle.liveness.specs.laws.Stores.{no-words, too-many}
 use Rattle.liveness.specs.laws.Workable.{workable, put-itself}
@@ -12,7 +13,7 @@ use Rattle.liveness.proofs.stores.drop_dead_stores.Tie as tie
 returns : tie.Need-returns
 returns c =
     let a = c .before .before .before .before .before .before .before .before .before in
-    (λ constants. put-itself (3 * a .args .n + 1) (a .args .n) (a .args .table .now) _ (no-words (a .pre .0) (c .before .set-words .ensures) constants (c .if1 .taken)), refl)
+    (λ constants. put-itself (keepAt (a .args .n)) (a .args .n) (a .args .table .now) _ (no-words (a .pre .0) (c .before .set-words .ensures) constants (c .if1 .taken)), refl)
 
 mul-if2 : tie.Need-mul-if2
 mul-if2 c =
@@ -25,7 +26,7 @@ mul-if2 c =
 returns-2 : tie.Need-returns-2
 returns-2 c =
     let a = c .before .before .before .before .before .before .before .before .before .before in
-    (λ constants. put-itself (3 * a .args .n + 1) (a .args .n) (a .args .table .now) _ (too-many (a .pre .0) (c .before .before .set-words .ensures) constants (c .if2 .taken)), refl)
+    (λ constants. put-itself (keepAt (a .args .n)) (a .args .n) (a .args .table .now) _ (too-many (a .pre .0) (c .before .before .set-words .ensures) constants (c .if2 .taken)), refl)
 
 drop-stores-requires : tie.Need-drop-stores-requires
 drop-stores-requires c κs =

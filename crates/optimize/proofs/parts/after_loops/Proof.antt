@@ -35,42 +35,47 @@ room r = omega (arith, long r, start r .pre .room .room32)
 
 list-kept-requires : tie.Need-list-kept-requires
 list-kept-requires c κs =
-    let r = c .before .before .before .before .before in
+    let k = c .before .before in
+    let r = k .before .before .before .before .before in
     let s = start r in
-    list-asks (r .retain .ensures .0 (s .args .constants .now)) (s .pre .given .few) (room r)
+    rw (k .keep-at .ensures, c .list-in .ensures) (list-asks (r .retain .ensures .0 (s .args .constants .now)) (s .pre .given .few) (room r))
 
 finish-requires : tie.Need-finish-requires
 finish-requires c κs =
     let l = c .before .before .before .before .before in
-    let r = l .before .before .before .before .before .before in
+    let there = l .before .before .before .keep-at .ensures in
+    let list = l .before .list-in .ensures in
+    let r = l .before .before .before .before .before .before .before .before in
     let s = start r in
     let a = s .args in
-    let w = list-retains (r .retain .ensures .0 (a .constants .now)) (s .pre .given .few) (room r) (l .list-kept .last .0) (l .list-kept .kept .0) (l .list-kept .ensures .0) (l .list-kept .ensures .1) in
+    let w = list-retains (r .retain .ensures .0 (a .constants .now)) (s .pre .given .few) (room r) (l .list-kept .last .0) (rw there at (l .list-kept .kept .0)) (rw (there, list) at (l .list-kept .ensures .0)) (rw (there, list) at (l .list-kept .ensures .1)) in
     let l = list-still (s .pre .listed) (r .retain .kept .1 .1 .1 .1 .1 .1 .0) (r .retain .ensures .1) (r .retain .ensures .0 (a .constants .now) .code) in
-    (kept-finished (a .n) (a .code .now) (a .metadata .now) (sectionsIn (a .types .now) (a .constants .now) (a .functions .now) (a .externs .now) (a .cases .now)) (s .pre .given) (s .pre .checked) (length (a .out .now)) (a .work32 .now) (a .work64 .now) (s .pre .room) (s .pre .marks) refl (w .0 ∙ long r) (r .retain .kept .1 .1 .1 .1 .1 .1 .0) refl (w .1) (w .2), l .within, l .controls)
+    rw there (kept-finished (a .n) (a .code .now) (a .metadata .now) (sectionsIn (a .types .now) (a .constants .now) (a .functions .now) (a .externs .now) (a .cases .now)) (s .pre .given) (s .pre .checked) (length (a .out .now)) (a .work32 .now) (a .work64 .now) (s .pre .room) (s .pre .marks) refl (w .0 ∙ long r) (r .retain .kept .1 .1 .1 .1 .1 .1 .0) refl (w .1) (w .2), l .within, l .controls)
 
 returns : tie.Need-returns
 returns c =
     let l = c .before .before .before .before .before .before .before .before in
-    let r = l .before .before .before .before .before .before in
+    let there = l .before .before .before .keep-at .ensures in
+    let list = l .before .list-in .ensures in
+    let r = l .before .before .before .before .before .before .before .before in
     let s = start r in
     let a = s .args in
-    let w = list-retains (r .retain .ensures .0 (a .constants .now)) (s .pre .given .few) (room r) (l .list-kept .last .0) (l .list-kept .kept .0) (l .list-kept .ensures .0) (l .list-kept .ensures .1) in
+    let w = list-retains (r .retain .ensures .0 (a .constants .now)) (s .pre .given .few) (room r) (l .list-kept .last .0) (rw there at (l .list-kept .kept .0)) (rw (there, list) at (l .list-kept .ensures .0)) (rw (there, list) at (l .list-kept .ensures .1)) in
     answers-same _ _ _ _ _
     (kept-answer (a .n) (a .code .now) (a .metadata .now) (sectionsIn (a .types .now) (a .constants .now) (a .functions .now) (a .externs .now) (a .cases .now)) (s .pre .given) (s .pre .checked) (length (a .out .now)) (a .work32 .now) (a .work64 .now) (s .pre .room) (s .pre .marks) refl (w .0 ∙ long r) (r .retain .kept .1 .1 .1 .1 .1 .1 .0) refl (w .1))
-    (c .before .before .finish .ensures)
+    (rw there at (c .before .before .finish .ensures))
 
 pub after-loops-spec : {M : Type 1} → statement M
 after-loops-spec =
     tie.close
     (tie.spec
     retain-requires
+    (λ c κs. search needs)
     (λ c. search needs)
     (λ c. search needs)
     (λ c. search needs)
     (λ c. search needs)
-    (λ c. search needs)
-    (λ c. search needs)
+    (λ c κs. search needs)
     list-kept-requires
     finish-requires
     (λ c. search needs)

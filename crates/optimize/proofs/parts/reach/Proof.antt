@@ -3,11 +3,8 @@ use borrow.Author.Needs.{needs}
 use Rattle.optimize.proofs.parts.reach.Statement.{statement}
 use Rattle.optimize.proofs.parts.reach.Tie as tie
 
-mul-at : tie.Need-mul-at
-mul-at c = search needs
-
-add-at : tie.Need-add-at
-add-at c = search needs
+keep-at-requires : tie.Need-keep-at-requires
+keep-at-requires c κs = search needs
 
 mul-mark-reached : tie.Need-mul-mark-reached
 mul-mark-reached c = search needs
@@ -46,14 +43,18 @@ same-length : tie.Need-same-length
 same-length c = search needs
 
 returns : tie.Need-returns
-returns c = let s = c .before .before .before .before .before .before .before .before .before .before .before in reach-marks (s .args .n) (s .args .metadata .now) (s .args .words .now) (s .args .work32 .now) (c .before .before .before .before .before .mark-reached .last .1 .1 .0) _ (s .pre .4) (s .pre .1) (c .before .before .before .before .before .mark-reached .kept .1 .1 .0) (c .before .before .before .before .before .mark-reached .ensures .0) (c .check-loops .ensures)
+returns c =
+    let m = c .before .before .before .before .before in
+    let k = m .before .before in
+    let s = k .before .before .before .before .before in
+    rw (k .keep-at .ensures)
+    (reach-marks (s .args .n) (s .args .metadata .now) (s .args .words .now) (s .args .work32 .now) (m .mark-reached .last .1 .1 .0) _ (s .pre .4) (s .pre .1) (rw (k .keep-at .ensures) at (m .mark-reached .kept .1 .1 .0)) (m .mark-reached .ensures .0) (rw (k .keep-at .ensures) at (c .check-loops .ensures)))
 
 pub reach-spec : {M : Type 1} → statement M
 reach-spec =
     tie.close
     (tie.spec
-    mul-at
-    add-at
+    keep-at-requires
     mul-mark-reached
     sub-mark-reached
     part-mark-reached-start

@@ -26,9 +26,10 @@ returns-3 c = let t = c .before in
     too-far _ (a .work .now) (a .kept) (a .next) (a .p) _ _ (read t .from-word .ensures) _ (t .target .ensures) (c .if3 .taken)
 
 returns-4 : tie.Need-returns-4
-returns-4 c = let t = c .before .before in
+returns-4 c = let t = c .before .before .before in
     let a = start (read t) .args in
-    near-enough _ (a .work .now) (a .kept) (a .next) (a .p) _ _ (read t .from-word .ensures) _ (t .target .ensures) (not-false _ (read t .before .before .if1 .left)) (t .before .if2 .left) (c .before .if3 .left)
+    rw (c .before .loop-ends-in .ensures)
+    (near-enough _ (a .work .now) (a .kept) (a .next) (a .p) _ _ (read t .from-word .ensures) _ (t .target .ensures) (not-false _ (read t .before .before .if1 .left)) (t .before .if2 .left) (c .before .before .if3 .left))
 
 pub is-idle-spec : {M : Type 1} → statement M
 is-idle-spec =
@@ -41,8 +42,7 @@ is-idle-spec =
     returns-2
     (λ c κs. search needs)
     returns-3
-    (λ c. search needs)
-    (λ c. search needs)
+    (λ c κs. search needs)
     (λ c. search needs)
     (λ c. search needs)
     (λ c. search needs)

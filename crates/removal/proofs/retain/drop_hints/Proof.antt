@@ -6,11 +6,8 @@ use borrow.Author.Needs.{needs}
 use Rattle.removal.proofs.retain.drop_hints.Statement.{statement}
 use Rattle.removal.proofs.retain.drop_hints.Tie as tie
 
-mul-mark-anchors : tie.Need-mul-mark-anchors
-mul-mark-anchors c = search needs
-
-add-mark-anchors : tie.Need-add-mark-anchors
-add-mark-anchors c = search needs
+loop-ends-in-requires : tie.Need-loop-ends-in-requires
+loop-ends-in-requires c κs = search needs
 
 mark-anchors-requires : tie.Need-mark-anchors-requires
 mark-anchors-requires c κs = search needs
@@ -32,17 +29,17 @@ same-length c = search needs
 
 returns : tie.Need-returns
 returns c =
-    let s = c .before .before .before .before .before .before .before .before .before .before .before .before in
+    let m = c .before .before .before .before .before .before in
+    let s = m .before .before .before .before .before .before .before in
     let a = s .args in
-    hints-useful (a .words .now) (a .metadata .now) (a .work .now) (c .before .before .before .before .before .before .mark-anchors .last .1 .1 .1 .0) (c .before .before .drop-hints .last .1 .1 .0) (length (a .words .now) - 0) (omega arith) (s .pre .2)
-    (c .before .before .before .before .before .before .mark-anchors .ensures) (c .before .before .drop-hints .ensures (a .metadata .now))
+    hints-useful (a .words .now) (a .metadata .now) (a .work .now) (m .mark-anchors .last .1 .1 .1 .0) (c .before .before .drop-hints .last .1 .1 .0) (length (a .words .now) - 0) (omega arith) (s .pre .2)
+    (rw (m .before .loop-ends-in .ensures) at (m .mark-anchors .ensures)) (c .before .before .drop-hints .ensures (a .metadata .now))
 
 pub drop-hints-spec : {M : Type 1} → statement M
 drop-hints-spec =
     tie.close
     (tie.spec
-    mul-mark-anchors
-    add-mark-anchors
+    loop-ends-in-requires
     mark-anchors-requires
     sub-drop-hints
     part-drop-hints-start
