@@ -14,7 +14,7 @@ use Rattle.words.specs.laws.Lists.{sum-take}
 use borrow.Rule.Slice.PartMut.{midOf, putMid}
 use Rattle.words.specs.laws.Regions.{mid-long, get-mid, mid-set, mid-set-before, mid-set-after, Outside, outside-same, outside-set, outside-front, outside-put}
 use Rattle.words.specs.laws.Tabulate.{tabulated-turn, tabulated-end}
-use Rattle.unit.specs.Region.{startsAt, keepAt}
+use Rattle.unit.specs.laws.Region.{startsAt, keepAt}
 use Rattle.flow.specs.Block.{blockOf}
 use Rattle.flow.specs.laws.Blocks.{placesFrom, places-more, Numbered}
 use Rattle.flow.specs.laws.Flags.{Flags, flag, sum-most, sum-first, sum-whole}

@@ -9,7 +9,7 @@ use lib.ListN.{length, getD, set, length-set}
 use lib.Seq.{getD-set-same}
 use borrow.Rule.Slice.PartMut.{midOf, putMid}
 use Rattle.words.specs.laws.Regions.{mid-long, get-mid, mid-set, mid-set-before, mid-put, put-long, Outside, outside-same, outside-set, outside-part, outside-then, outside-front}
-use Rattle.unit.specs.Region.{stackEnd}
+use Rattle.unit.specs.laws.Region.{stackEnd}
 use Rattle.flow.specs.laws.Stack.{Pushed, push-yes, Standing, marksOf, stackOf, Walked, left, Ran, stand-top, stand-old, stand-free, stand-new, stand-less}
 
 -- The run that began at xs is at place p, which stands on the stack at sp.

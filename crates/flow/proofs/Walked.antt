@@ -8,7 +8,7 @@ use native.Mathlib.Omega.{arith}
 use lib.ListN.{length, set, replicate, length-replicate, length-set}
 use borrow.Rule.Slice.PartMut.{midOf, putMid}
 use Rattle.words.specs.laws.Regions.{mid-long, mid-set, mid-set-after, mid-put, put-long, Outside, outside-same, outside-set, outside-part, outside-then, outside-put}
-use Rattle.unit.specs.Region.{stackEnd}
+use Rattle.unit.specs.laws.Region.{stackEnd}
 use Rattle.flow.specs.Reach.{reached}
 use Rattle.flow.specs.laws.Stack.{marksOf, stackOf, Walked, stand-begin, stand-end}
 

@@ -5,7 +5,7 @@ ghost use mathlib.Core.List.{[], _∷_};
 ghost use Prim.Native.Nat.{_+_, _*_, _≤_, _<_};
 ghost use lib.ListN.{length, getD};
 ghost use borrow.Rule.Slice.PartMut.{midOf, putMid};
-ghost use Rattle.unit.specs.Region.{stackEnd};
+ghost use Rattle.unit.specs.laws.Region.{stackEnd};
 ghost use Rattle.unit.specs.Size.{maxInstructions, metadataSize};
 ghost use Rattle.effects.specs.laws.Cells.{cellOf, cellsBy};
 ghost use Rattle.flow.specs.Loop.{successors, reachedPlaces};

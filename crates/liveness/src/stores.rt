@@ -4,7 +4,7 @@ ghost use mathlib.Core.List.{List};
 ghost use Prim.Native.Nat.{ℕ, _+_, _*_, _≤_, _^_, _<_};
 ghost use lib.ListN.{length};
 ghost use borrow.Rule.Slice.PartMut.{midOf, putMid};
-ghost use Rattle.unit.specs.Region.{keepAt};
+ghost use Rattle.unit.specs.laws.Region.{keepAt};
 ghost use Rattle.unit.specs.Size.{setsRoom};
 ghost use Rattle.effects.specs.Shape.{tablesOf};
 ghost use Rattle.effects.specs.laws.Cells.{cellsBy};

@@ -5,7 +5,7 @@ ghost use mathlib.Core.List.{List};
 ghost use Prim.Native.Nat.{ℕ, _+_, _*_, _≤_, _<_};
 ghost use lib.ListN.{length, drop};
 ghost use borrow.Rule.Slice.PartMut.{midOf};
-ghost use Rattle.unit.specs.Region.{keepAt};
+ghost use Rattle.unit.specs.laws.Region.{keepAt};
 ghost use Rattle.unit.specs.Size.{instructionSize, metadataSize, resultSize, work32Room, maxInstructions};
 ghost use Rattle.effects.specs.Shape.{Tables};
 ghost use Rattle.effects.specs.laws.Cells.{cellsBy};

@@ -7,7 +7,7 @@ ghost use Prim.Native.Nat.{ℕ, _+_, _≤_, _<_};
 ghost use lib.ListN.{length, getD};
 ghost use borrow.Rule.Slice.PartMut.{putMid, midOf};
 ghost use Rattle.instruction.specs.Instruction.{ofWord};
-ghost use Rattle.unit.specs.Region.{loopEndsIn};
+ghost use Rattle.unit.specs.laws.Region.{loopEndsIn};
 ghost use Rattle.effects.specs.laws.Cells.{cellsBy};
 ghost use Rattle.flow.specs.laws.Control.{Controls};
 ghost use Rattle.flow.specs.laws.Flags.{Flags};

@@ -6,7 +6,7 @@ ghost use mathlib.Core.List.{List};
 ghost use Prim.Native.Nat.{ℕ, _+_, _*_, _≤_};
 ghost use lib.ListN.{length, drop};
 ghost use borrow.Rule.Slice.PartMut.{midOf};
-ghost use Rattle.unit.specs.Region.{keepAt, listIn};
+ghost use Rattle.unit.specs.laws.Region.{keepAt, listIn};
 ghost use Rattle.unit.specs.Size.{metadataSize, maxInstructions};
 ghost use Rattle.effects.specs.Shape.{tablesOf};
 ghost use Rattle.flow.specs.laws.Control.{Controls};

@@ -1,6 +1,5 @@
 pub mod Refusal
 pub mod Size
-pub mod Region
 pub mod Entry
 pub mod Layout
 pub mod Result

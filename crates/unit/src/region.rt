@@ -2,7 +2,7 @@
 // in `_in`, and the end of the stack, is counted from there.
 ghost use mathlib.Core.Path.{_≡_};
 ghost use Prim.Native.Nat.{_^_, _<_};
-ghost use Rattle.unit.specs.Region.{startsAt, keepAt, loopEndsIn, listIn, listAt, stackEnd};
+ghost use Rattle.unit.specs.laws.Region.{startsAt, keepAt, loopEndsIn, listIn, listAt, stackEnd};
 
 pub fn starts_at(n: usize) -> usize
     requires { ⌜ n < 2 ^ 32 ⌝ }

@@ -12,7 +12,7 @@ use borrow.Author.Tests.{lt-ltb, le-ltb}
 use borrow.Rule.Slice.PartMut.{midOf}
 use Rattle.words.specs.Lists.{sum}
 use Rattle.words.specs.laws.Regions.{Outside}
-use Rattle.unit.specs.Region.{stackEnd}
+use Rattle.unit.specs.laws.Region.{stackEnd}
 use Rattle.flow.specs.Reach.{reached}
 use Rattle.flow.specs.laws.Marks.{bit, grew-set, sum-set, sum-grew}
 use Rattle.flow.specs.laws.Walking.{pushAll, push-append, Walking, walk-begin, walk-old, walk-new, walk-end}

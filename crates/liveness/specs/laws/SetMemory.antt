@@ -12,7 +12,7 @@ use Rattle.words.specs.laws.Bits.{member}
 use Rattle.words.specs.laws.Regions.{mid-long, get-mid}
 use Rattle.instruction.specs.declared.Instruction.{Instruction}
 use Rattle.instruction.specs.Instruction.{ofWord, class}
-use Rattle.unit.specs.Region.{keepAt}
+use Rattle.unit.specs.laws.Region.{keepAt}
 use Rattle.unit.specs.Size.{maxInstructions, metadataSize}
 use Rattle.effects.specs.Shape.{Tables, Cell, cellAt}
 use Rattle.effects.specs.laws.Cells.{cellOf, cellsBy, cell-at, cells-long}

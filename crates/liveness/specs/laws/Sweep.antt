@@ -13,7 +13,7 @@ use lib.Seq.{drop-cons, drop-length, take-length, take-suc, append-snoc, set-at,
 use borrow.Author.Tests.{eqb-true, eqb-false, eq-eqb}
 use borrow.Rule.Slice.PartMut.{putMid}
 use Rattle.words.specs.Lists.{tabulate}
-use Rattle.unit.specs.Region.{keepAt}
+use Rattle.unit.specs.laws.Region.{keepAt}
 use Rattle.effects.specs.Shape.{Tables, Sections, Cell, cellAt, noCell}
 use Rattle.instruction.specs.Instruction.{ofWord}
 use Rattle.effects.specs.laws.Cells.{cellOf, cellsBy, cells-long, cell-at}

@@ -10,7 +10,7 @@ use lib.ListN.{length, getD, take, replicate, length-replicate}
 use lib.Seq.{take-take}
 use borrow.Rule.Slice.PartMut.{midOf, putMid, put-same, take-put}
 use Rattle.words.specs.laws.Regions.{mid-long, get-mid, mid-put, put-long}
-use Rattle.unit.specs.Region.{startsAt, keepAt}
+use Rattle.unit.specs.laws.Region.{startsAt, keepAt}
 use Rattle.unit.specs.Size.{setWords, maxSetWords, setsRoom, metadataSize}
 use Rattle.effects.specs.Shape.{Tables, Sections, Cell}
 use Rattle.effects.specs.laws.Cells.{cellOf, cellsBy}

@@ -11,7 +11,7 @@ use borrow.Rule.Slice.PartMut.{midOf, postOf}
 use Rattle.words.specs.laws.Regions.{mid-long, put-long}
 use Rattle.instruction.specs.Instruction.{class, ofWord}
 use Rattle.unit.specs.Entry.{metadataAt, goodMetadata}
-use Rattle.unit.specs.Region.{keepAt, listAt}
+use Rattle.unit.specs.laws.Region.{keepAt, listAt}
 use Rattle.unit.specs.Size.{metadataSize, caseSize, setsRoom, work64Room, maxInstructions, maxLocalSlots}
 use Rattle.unit.specs.laws.Size.{sets-fit}
 use Rattle.effects.specs.declared.Check.{Check}

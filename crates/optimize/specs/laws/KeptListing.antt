@@ -8,7 +8,7 @@ use native.Mathlib.Omega.{arith}
 use lib.ListN.{length}
 use borrow.Rule.Slice.PartMut.{midOf, putMid}
 use Rattle.words.specs.laws.Regions.{mid-long, put-long, Outside, outside-front}
-use Rattle.unit.specs.Region.{keepAt, listIn, listAt}
+use Rattle.unit.specs.laws.Region.{keepAt, listIn, listAt}
 use Rattle.unit.specs.Size.{work32Room, maxInstructions}
 use Rattle.flow.specs.laws.Flags.{Flags, sum-most}
 use Rattle.words.specs.laws.Only.{mid-mid, back-within}

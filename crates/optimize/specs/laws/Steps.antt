@@ -14,7 +14,7 @@ use borrow.Rule.Slice.PartMut.{midOf, putMid, postOf}
 use Rattle.words.specs.laws.Only.{mid-mid, back-within, back-before}
 use Rattle.words.specs.laws.Regions.{mid-long, get-mid, Outside, outside-front}
 use Rattle.instruction.specs.Instruction.{class, ofWord}
-use Rattle.unit.specs.Region.{keepAt, listAt}
+use Rattle.unit.specs.laws.Region.{keepAt, listAt}
 use Rattle.unit.specs.Size.{instructionSize, metadataSize, resultSize, work32Room, work64Room, setsRoom, maxInstructions, maxLocalSlots}
 use Rattle.unit.specs.laws.Size.{sets-fit}
 use Rattle.effects.specs.declared.Check.{Check}

@@ -19,7 +19,7 @@ use Rattle.instruction.specs.declared.Instruction.{Instruction}
 use Rattle.instruction.specs.Instruction.{class, ofWord}
 use Rattle.instruction.specs.laws.ReadBack.{jump-class}
 use Rattle.instruction.specs.Opcode as op
-use Rattle.unit.specs.Region.{loopEndsIn}
+use Rattle.unit.specs.laws.Region.{loopEndsIn}
 use Rattle.effects.specs.Shape.{Cell}
 use Rattle.effects.specs.laws.Cells.{cellOf, cellsBy, cells-long}
 use Rattle.flow.specs.Branch.{branches, target, branchInside}

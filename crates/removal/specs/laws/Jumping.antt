@@ -11,7 +11,7 @@ use borrow.Rule.Slice.PartMut.{midOf}
 use Rattle.words.specs.Lists.{tabulate}
 use Rattle.instruction.specs.declared.Instruction.{Instruction}
 use Rattle.instruction.specs.Opcode as op
-use Rattle.unit.specs.Region.{loopEndsIn, listIn}
+use Rattle.unit.specs.laws.Region.{loopEndsIn, listIn}
 use Rattle.unit.specs.Size.{maxInstructions}
 use Rattle.flow.specs.Branch.{target}
 use Rattle.flow.specs.laws.BranchLaws.{BranchesInside}

@@ -7,7 +7,7 @@ use Prim.Native.Nat.{ℕ, _+_, _*_, _/_, _≤_, _<_}
 use lib.ListN.{length, getD}
 use borrow.Rule.Slice.PartMut.{midOf}
 use Rattle.unit.specs.Entry.{metadataAt, goodMetadata}
-use Rattle.unit.specs.Region.{keepAt, loopEndsIn}
+use Rattle.unit.specs.laws.Region.{keepAt, loopEndsIn}
 use Rattle.unit.specs.Size.{metadataSize, caseSize, work32Room, setsRoom, maxInstructions, maxLocalSlots}
 use Rattle.effects.specs.Check.{operandRefusal}
 use Rattle.effects.specs.Shape.{Sections, Tables, tablesOf}

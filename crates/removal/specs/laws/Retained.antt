@@ -9,7 +9,7 @@ use lib.ListN.{length, set, replicate, length-set, length-replicate}
 use borrow.Rule.Slice.PartMut.{midOf, putMid, postOf}
 use Rattle.words.specs.laws.Only.{mid-mid, back-within, back-before, back-after}
 use Rattle.words.specs.laws.Regions.{mid-long, put-long, mid-put}
-use Rattle.unit.specs.Region.{startsAt, keepAt, loopEndsIn, listIn}
+use Rattle.unit.specs.laws.Region.{startsAt, keepAt, loopEndsIn, listIn}
 use Rattle.unit.specs.Size.{setsRoom, maxInstructions}
 use Rattle.effects.specs.Shape.{Tables, Cell, tablesOf}
 use Rattle.effects.specs.laws.Cells.{cellsBy, cells-long}

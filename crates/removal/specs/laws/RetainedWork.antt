@@ -12,7 +12,7 @@ use borrow.Rule.Slice.PartMut.{midOf, putMid}
 use Rattle.words.specs.laws.Lists.{length-tabulate}
 use Rattle.words.specs.laws.Only.{mid-mid, back-within, back-before}
 use Rattle.words.specs.laws.Regions.{mid-long, put-long, drop-behind}
-use Rattle.unit.specs.Region.{keepAt, loopEndsIn, listIn}
+use Rattle.unit.specs.laws.Region.{keepAt, loopEndsIn, listIn}
 use Rattle.unit.specs.Size.{metadataSize, maxInstructions}
 use Rattle.effects.specs.Shape.{Tables, Sections, Cell, tablesOf}
 use Rattle.effects.specs.laws.Cells.{cellsBy, cells-long}

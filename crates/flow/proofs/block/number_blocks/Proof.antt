@@ -2,7 +2,7 @@ use mathlib.Core.Path.{_≡_, _∙_}
 use Prim.Native.Nat.{ℕ, _+_, _-_, _≤_}
 use native.Mathlib.Omega.{arith}
 use lib.ListN.{getD, set, length-set}
-use Rattle.unit.specs.Region.{startsAt}
+use Rattle.unit.specs.laws.Region.{startsAt}
 use Rattle.flow.proofs.Numbering.{Buffered, buffered-begin, buffered-few, buffered-flag, buffered-some, buffered-turn, buffered-end}
 use borrow.Author.Needs.{needs}
 use Rattle.flow.proofs.block.number_blocks.Statement.{statement}

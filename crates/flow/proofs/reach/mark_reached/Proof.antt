@@ -4,7 +4,7 @@ use Prim.Native.Nat.{ℕ, _+_, _*_, _-_, _≤_}
 use native.Mathlib.Omega.{arith}
 use lib.ListN.{length}
 use borrow.Rule.Slice.PartMut.{same-len-mid}
-use Rattle.unit.specs.Region.{stackEnd}
+use Rattle.unit.specs.laws.Region.{stackEnd}
 use Rattle.effects.specs.laws.Cells.{cellsBy, cells-long}
 use Rattle.flow.specs.Loop.{reachedPlaces}
 use Rattle.flow.specs.Reach.{reached}

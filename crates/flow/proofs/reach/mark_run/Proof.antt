@@ -9,7 +9,7 @@ use borrow.Rule.Slice.PartMut.{midOf}
 use Rattle.words.specs.laws.Regions.{mid-long}
 use Rattle.words.specs.laws.Truth.{both}
 use Rattle.instruction.specs.Instruction.{ofWord}
-use Rattle.unit.specs.Region.{stackEnd}
+use Rattle.unit.specs.laws.Region.{stackEnd}
 use Rattle.effects.specs.laws.Cells.{cellOf, cellsBy}
 use Rattle.flow.specs.laws.Stack.{marksOf, left}
 use Rattle.flow.specs.laws.Successors.{following, successors-few, following-at, goes-on}

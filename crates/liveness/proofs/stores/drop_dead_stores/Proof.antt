@@ -2,7 +2,7 @@ use mathlib.Core.Path.{refl}
 use Prim.Native.Nat.{_*_, _≤_}
 use native.Mathlib.Nat.{mul-le-mul}
 use native.Mathlib.Omega.{arith}
-use Rattle.unit.specs.Region.{keepAt}
+use Rattle.unit.specs.laws.Region.{keepAt}
 use Rattle.liveness.specs.laws.Droppable.{few-words, few-blocks}
 use Rattle.liveness.specs.laws.Stores.{no-words, too-many}
 use Rattle.liveness.specs.laws.Workable.{workable, put-itself}

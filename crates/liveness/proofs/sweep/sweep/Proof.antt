@@ -4,7 +4,7 @@ use Prim.Native.Nat.{ℕ, suc, _+_, _-_, _≤_, _<_}
 use native.Mathlib.Omega.{arith}
 use lib.ListN.{length, getD}
 use Rattle.words.specs.laws.Regions.{mid-long}
-use Rattle.unit.specs.Region.{keepAt}
+use Rattle.unit.specs.laws.Region.{keepAt}
 use Rattle.effects.specs.Shape.{tablesOf}
 use Rattle.effects.specs.laws.Cells.{cellsBy, cells-long}
 use Rattle.liveness.specs.Live.{Row}

@@ -2,7 +2,7 @@ use mathlib.Core.Path.{_≡_, ap}
 use Prim.Native.Nat.{ℕ, _+_, _-_, _≤_}
 use native.Mathlib.Omega.{arith}
 use lib.ListN.{getD}
-use Rattle.unit.specs.Region.{keepAt}
+use Rattle.unit.specs.laws.Region.{keepAt}
 use Rattle.optimize.specs.laws.Parts.{answers-same}
 use Rattle.optimize.specs.laws.Steps.{finish-few, finish-asks, finish-same}
 use borrow.Author.Needs.{needs}

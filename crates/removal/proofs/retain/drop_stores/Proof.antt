@@ -4,7 +4,7 @@ use native.Mathlib.Omega.{arith}
 use lib.ListN.{length}
 use borrow.Rule.Slice.PartMut.{midOf}
 use Rattle.words.specs.laws.Regions.{mid-long}
-use Rattle.unit.specs.Region.{keepAt}
+use Rattle.unit.specs.laws.Region.{keepAt}
 use Rattle.effects.specs.Shape.{tablesOf}
 use Rattle.removal.specs.laws.Retained.{blocks-asks, stores-asks, stores-leave}
 use borrow.Author.Needs.{needs}

@@ -5,7 +5,7 @@ use native.Mathlib.Omega.{arith}
 use lib.ListN.{length}
 use borrow.Rule.Slice.PartMut.{midOf, putMid}
 use Rattle.words.specs.laws.Regions.{mid-long, put-long}
-use Rattle.unit.specs.Region.{keepAt}
+use Rattle.unit.specs.laws.Region.{keepAt}
 use Rattle.removal.specs.laws.KeptWork.{Useful, Stored}
 use Rattle.removal.specs.laws.RetainedWork.{hints-asks, hints-retainable, stores-long, behind-same, jumps-asks, jumps-retained}
 use borrow.Author.Needs.{needs}

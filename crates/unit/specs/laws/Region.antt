@@ -1,4 +1,4 @@
--- Definitions. Where the regions of the 32-bit work stand, for n instructions: the table in docs/ARCHITECTURE.md.
+-- Where the regions of the 32-bit work stand, for n instructions: the table in docs/ARCHITECTURE.md.
 -- Assumes nothing.
 use Prim.Native.Nat.{ℕ, _+_, _*_}
 
