@@ -194,22 +194,41 @@ answer-worked u room kept e =
     go true t e = refl
     go false t e = absurd (true≢false e)
 
+-- Its function is well, and is worked on.
+pub record Came (u : List ℕ) (kept : List Retained) : Type 0 where
+  pub laid : isUnit u ≡ true
+  pub described : headerOf u .counts .metadata ≡ headerOf u .counts .instructions
+  pub well : Well (givenFunction u)
+  pub worked : isWorkedOn (length (cellsOf u)) ≡ true
+  pub answer : optimized (sectionsOf u) (cellsOf u) ≡ rewritten kept
+
 module _ (u : List ℕ) (b : Bytes u) (room : Bool) where
-  pub answer-returnable : (kept : List Retained) → answerWith room u ≡ rewritten kept → Returnable (givenFunction u) (headerOf u .counts .cases) kept
+  pub answer-came : (kept : List Retained) → answerWith room u ≡ rewritten kept → Came u kept
   unfolding answerWith afterLayout afterSkipped afterRoom isSkipped givenFunction
-  answer-returnable kept e =
+  answer-came kept e =
       let laid = laid-kept u _ kept e in
       let worked = left-kept (not (isWorkedOn (headerOf u .counts .instructions)) || eqb (headerOf u .counts .defer) 1) _ kept (laid .1) in
       let lent = outcome-kept room _ (refused shortBuffer 0) kept (not-refused shortBuffer 0) (worked .1) in
       let described = outcome-kept (eqb (headerOf u .counts .metadata) (headerOf u .counts .instructions)) _ (refused metadataCount 0) kept (not-refused metadataCount 0) (lent .1) in
       let typed = outcome-kept (eqb (headerOf u .counts .types) (headerOf u .counts .locals)) _ (refused typeCount 0) kept (not-refused typeCount 0) (described .1) in
       let same = eqb-true (headerOf u .counts .metadata) (headerOf u .counts .instructions) (described .0) in
-      let on : isWorkedOn (length (cellsOf u)) ≡ true = rw (cells-long u) (go (isWorkedOn (headerOf u .counts .instructions)) _ (worked .0)) in
-      optimized-returnable (givenFunction u) (headerOf u .counts .cases) (given-well u b (laid .0) same (eqb-true (headerOf u .counts .types) (headerOf u .counts .locals) (typed .0))) (given-sound u b (laid .0) same) on kept (typed .1)
+      record {
+        laid = laid .0;
+        described = same;
+        well = given-well u b (laid .0) same (eqb-true (headerOf u .counts .types) (headerOf u .counts .locals) (typed .0));
+        worked = rw (cells-long u) (go (isWorkedOn (headerOf u .counts .instructions)) _ (worked .0));
+        answer = typed .1;
+      }
     where
       go : (s t : Bool) → (not s || t) ≡ false → s ≡ true
       go true t e = refl
       go false t e = absurd (true≢false e)
+
+  pub answer-returnable : (kept : List Retained) → answerWith room u ≡ rewritten kept → Returnable (givenFunction u) (headerOf u .counts .cases) kept
+  unfolding givenFunction
+  answer-returnable kept e =
+      let c = answer-came kept e in
+      optimized-returnable (givenFunction u) (headerOf u .counts .cases) (c .well) (given-sound u b (c .laid) (c .described)) (c .worked) kept (c .answer)
 
 -- the function in the output's bytes is the one that was retained
 returned-places : (u : List ℕ) (cases : ℕ) (kept : List Retained) (lines : List Line) (out : List ℕ) → Returnable (givenFunction u) cases kept

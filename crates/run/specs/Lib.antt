@@ -3,6 +3,8 @@ pub mod Machine
 pub mod Program
 pub mod Returned
 pub mod Visits
+pub mod Reader
 pub mod Contract
 pub mod Given
+pub mod Stores
 pub mod laws

@@ -23,6 +23,7 @@ pub mod Alive
 pub mod Optimized
 pub mod Kept
 pub mod Opcodes
+pub mod Readers
 pub mod Checked
 pub mod Passed
 pub mod Reading

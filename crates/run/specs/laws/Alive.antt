@@ -86,10 +86,10 @@ module _ (S : Sections) (leaders keep : List ℕ) (cells : List Cell) (rows : Li
   dead p = isDead S (cell p) (after p)
 
   -- the same with no store dropped
-  abbrev whole : ℕ → Row
+  abbrev pub whole : ℕ → Row
   whole p = roundFrom S n leaders keep p (drop p cells) rows .before
 
-  abbrev wholeAfter : ℕ → Row
+  abbrev pub wholeAfter : ℕ → Row
   wholeAfter p = liveAfter S n leaders keep rows p (cell p) (whole (suc p))
 
   abbrev pub reads : ℕ → ℕ → Bool
@@ -134,10 +134,10 @@ module _ (S : Sections) (leaders keep : List ℕ) (cells : List Cell) (rows : Li
     whole-long : (p : ℕ) → length (whole p) ≡ S .locals
     whole-long p = walk-wide S n leaders keep p (drop p cells) rows (A .wide)
 
-    last-place : (p : ℕ) → suc p ≡ n → isLast n leaders p ≡ true
+    pub last-place : (p : ℕ) → suc p ≡ n → isLast n leaders p ≡ true
     last-place p e = rw (eq-eqb (suc p) n e) refl
 
-    not-last : (p : ℕ) → p < n → isLast n leaders p ≡ false → suc p < n
+    pub not-last : (p : ℕ) → p < n → isLast n leaders p ≡ false → suc p < n
     not-last p h e = go (eqb (suc p) n) refl e
       where
         go : (t : Bool) → eqb (suc p) n ≡ t → (t || eqb (getD leaders (suc p) 0) 1) ≡ false → suc p < n
@@ -176,22 +176,22 @@ module _ (S : Sections) (leaders keep : List ℕ) (cells : List Cell) (rows : Li
     pub before-flow : (p s : ℕ) → p < n → s < S .locals → bit (before p) s ≡ flow (stays p) (reads p s) (bit (after p) s) (written p s)
     before-flow p s h l = ap (λ (r : Row). bit r s) (before-at S leaders keep cells rows p h) ∙ flow-bit (stays p) (cell p) (after p) s (rw (after-wide p h) l)
 
-    whole-flow : (p s : ℕ) → p < n → s < S .locals → bit (whole p) s ≡ flow (isKept keep p) (reads p s) (bit (wholeAfter p) s) (written p s)
+    pub whole-flow : (p s : ℕ) → p < n → s < S .locals → bit (whole p) s ≡ flow (isKept keep p) (reads p s) (bit (wholeAfter p) s) (written p s)
     whole-flow p s h l =
         ap (λ (r : Row). bit r s) (whole-at S leaders keep cells (A .long) (A .flags) (A .one) rows (A .count) (A .rest) p h)
         ∙ flow-bit (isKept keep p) (cell p) (wholeAfter p) s (rw (whole-after-long p) l)
 
     -- after a place: at a block's end what is live at its successors, else what is live before the next
-    after-last : (p : ℕ) → isLast n leaders p ≡ true → (r : Row) → liveAfter S n leaders keep rows p (cell p) r ≡ joined S n leaders keep rows (edges n p (cell p))
+    pub after-last : (p : ℕ) → isLast n leaders p ≡ true → (r : Row) → liveAfter S n leaders keep rows p (cell p) r ≡ joined S n leaders keep rows (edges n p (cell p))
     unfolding liveAfter
     after-last p e r = rw e
 
-    after-inner : (p : ℕ) → isLast n leaders p ≡ false → (r : Row) → liveAfter S n leaders keep rows p (cell p) r ≡ r
+    pub after-inner : (p : ℕ) → isLast n leaders p ≡ false → (r : Row) → liveAfter S n leaders keep rows p (cell p) r ≡ r
     unfolding liveAfter
     after-inner p e r = rw e
 
     -- nothing is live at the end of the code
-    at-end : (p : ℕ) → n ≤ p → before p ≡ []
+    pub at-end : (p : ℕ) → n ≤ p → before p ≡ []
     unfolding sweepFrom
     at-end p h = ap (λ (l : List Cell). sweepFrom S n leaders keep rows p l .before) (drop-of-length-le cells h)
 
@@ -228,7 +228,7 @@ module _ (S : Sections) (leaders keep : List ℕ) (cells : List Cell) (rows : Li
         only true e = here
         only false e = absurd (false≢true e)
 
-    last-leader : (p : ℕ) → suc p < n → isLast n leaders p ≡ true → Marked leaders (suc p)
+    pub last-leader : (p : ℕ) → suc p < n → isLast n leaders p ≡ true → Marked leaders (suc p)
     last-leader p h e = go (eqb (suc p) n) refl e
       where
         go : (t : Bool) → eqb (suc p) n ≡ t → (t || eqb (getD leaders (suc p) 0) 1) ≡ true → Marked leaders (suc p)

@@ -122,7 +122,7 @@ module _ (keep : List ℕ) (flags : Flags keep) (cases : ℕ) where
 
 -- ---- the places that a pass keeps are flags
 
-kept-flags : (S : Sections) (leads : List ℕ) (code : List Cell) → Flags (keptPlaces S leads (reachedPlaces code) code)
+pub kept-flags : (S : Sections) (leads : List ℕ) (code : List Cell) → Flags (keptPlaces S leads (reachedPlaces code) code)
 unfolding keptPlaces
 kept-flags S leads code = rounds-flags (anchors (reachedPlaces code) code) code 16 _ (dead-flags S leads _ code (useful-flags (reachedPlaces code) code (places-flags code)))
 

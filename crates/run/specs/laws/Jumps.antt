@@ -86,6 +86,16 @@ module _ (anchors : List ℕ) (cells : List Cell) where
   rounds-fewer zero keep p e = e
   rounds-fewer (suc i) keep p e = rounds-fewer i (dropIdle anchors cells keep) p (round-fewer keep p e)
 
+  -- all rounds keep what is no jump
+  pub rounds-keep : (i : ℕ) (keep : List ℕ) (p : ℕ) → p < length cells → (cellAt cells p .instruction .op ≡ op.Jump → ⊥) → isKept keep p ≡ true → isKept (jumpRounds i anchors cells keep) p ≡ true
+  unfolding jumpRounds
+  rounds-keep zero keep p h n e = e
+  rounds-keep (suc i) keep p h n e = rounds-keep i (dropIdle anchors cells keep) p h n (go (isKept (dropIdle anchors cells keep) p) refl)
+    where
+      go : (t : Bool) → isKept (dropIdle anchors cells keep) p ≡ t → isKept (dropIdle anchors cells keep) p ≡ true
+      go true d = d
+      go false d = absurd (n (round-why keep p h e d .0))
+
   -- nothing strictly between p and t is kept
   abbrev Bare : List ℕ → ℕ → ℕ → Type 0
   Bare keep p t = (q : ℕ) → p < q → q < t → isKept keep q ≡ false

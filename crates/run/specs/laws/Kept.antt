@@ -96,7 +96,7 @@ pure-passes Panic e = e
 pure-passes Outside e = e
 pure-passes Invalid e = e
 
-dead-pure : (S : Sections) (x : Cell) (a : Row) → isDead S x a ≡ true → isPure (class (x .instruction)) ≡ true
+pub dead-pure : (S : Sections) (x : Cell) (a : Row) → isDead S x a ≡ true → isPure (class (x .instruction)) ≡ true
 unfolding isDead
 dead-pure S x a e = go (isPure (class (x .instruction))) e
   where
@@ -104,7 +104,7 @@ dead-pure S x a e = go (isPure (class (x .instruction))) e
     go true e = refl
     go false e = e
 
-dead-unread : (S : Sections) (x : Cell) (a : Row) (s : ℕ) → isDead S x a ≡ true → anyOf (rangeHas s) (sureWrites (S .tables) x) ≡ true → bit a s ≡ false
+pub dead-unread : (S : Sections) (x : Cell) (a : Row) (s : ℕ) → isDead S x a ≡ true → anyOf (rangeHas s) (sureWrites (S .tables) x) ≡ true → bit a s ≡ false
 unfolding isDead writes
 dead-unread S x a s e h = go (isPure (class (x .instruction))) e
   where
@@ -138,7 +138,7 @@ module _ (G : Function) (leaders : List ℕ) (N : Removing G leaders) where
   Reach p = (p ≤ n) × (p < n → Marked marks p)
 
   -- rows that were found make an analysis
-  analysed : (rows : List Row) → liveRows S leaders useful code ≡ some rows → Analysed S leaders useful code rows
+  pub analysed : (rows : List Row) → liveRows S leaders useful code ≡ some rows → Analysed S leaders useful code rows
   unfolding liveRows
   analysed rows e = go (eqb (setWords (S .locals)) 0) (leb (setWords (S .locals) * blockCount leaders) maxSetWords) e
     where
@@ -184,7 +184,7 @@ module _ (G : Function) (leaders : List ℕ) (N : Removing G leaders) where
     keep-long : length keep ≡ n
     keep-long = sweep-long S leaders useful code rows 0 code
 
-    keep-at : (p : ℕ) → p < n → isKept keep p ≡ remains p
+    pub keep-at : (p : ℕ) → p < n → isKept keep p ≡ remains p
     keep-at p h = ap (λ (k : ℕ). eqb k 1) (stays-at S leaders useful code rows p h) ∙ go (remains p)
       where
         go : (t : Bool) → eqb (cond t 1 0) 1 ≡ t

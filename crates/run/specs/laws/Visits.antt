@@ -226,3 +226,15 @@ old-places (x ∷ xs) p = go (eqb x p) refl (old-places xs p)
         → cond (eqb x p) (x ∷ []) (notedAt xs (λ q. getD xs q 0 ∷ []) p) ≡ cond (cond (eqb p x) true (isIn p xs)) (p ∷ []) []
     go true e ih = let same : x ≡ p = eqb-true x p e in rw (eq-eqb p x (sym same), e, same)
     go false e ih = rw (e, ne-eqb p x (λ q. eqb-false x p e (sym q))) ih
+
+-- the old places are the kept ones
+pub place-kept : (keep : List ℕ) → Flags keep → (cells : List Cell) → length cells ≡ length keep → (p : ℕ) → p < length cells → isIn p (placesOf (retainFrom keep 0 cells)) ≡ isKept keep p
+place-kept keep flags cells long p h =
+    let places = placesOf (retainFrom keep 0 cells) in
+    alike p (getD places (boundary keep p) 0) (isIn p places) (isKept keep p) (sym (old-places places p) ∙ at-place keep flags (λ q. getD places q 0 ∷ []) cells long p h)
+  where
+    alike : (x y : ℕ) (a b : Bool) → cond a (x ∷ []) [] ≡ cond b (y ∷ []) [] → a ≡ b
+    alike x y true true e = refl
+    alike x y true false e = let z : _≡_ {A = ℕ} 1 0 = ap (λ (l : List ℕ). length l) e in absurd (omega arith)
+    alike x y false true e = let z : _≡_ {A = ℕ} 0 1 = ap (λ (l : List ℕ). length l) e in absurd (omega arith)
+    alike x y false false e = refl
