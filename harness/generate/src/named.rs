@@ -66,6 +66,7 @@ pub fn all() -> Vec<Named> {
     named.extend(many_cases());
     named.extend(large());
     named.extend(perhaps_written());
+    named.extend(stores_with_readers());
     named
 }
 
@@ -750,5 +751,75 @@ fn perhaps_written() -> Vec<Named> {
                 Metadata { first: 1, second: 1, has_ok: 1, ..Metadata::new(Kind::MapGet) },
             ),
         ),
+    ]
+}
+
+/// Document 02, L7: a store remains exactly if it has a reader.
+fn stores_with_readers() -> Vec<Named> {
+    use Opcode::{AddF, CopyN};
+    let add = |to, from| op(AddF, to, from, from);
+    let end = give_back(2, 1);
+    let pair = op(CopyN, 0, 4, 2);
+    let turn = [add(1, 0), add(0, 2), jump_if(3, -2), give_back(1, 1)];
+    let over = [add(0, 1), jump(1), add(0, 3), add(4, 0), end];
+    let hinted = function(4, &[add(0, 1), loop_hint(3), end, give_back(0, 1)]);
+    let decided = [add(1, 2), load_int(0, 1), jump_if(0, 1), add(3, 1), end];
+    vec![
+        Named::new("a store that the next turn reads", function(4, &turn), Stated::Unchanged),
+        Named::new(
+            "a store that it reads itself after a turn",
+            function(4, &[op(AddF, 0, 0, 1), jump_if(3, -1), end]),
+            Stated::Unchanged,
+        ),
+        Named::new(
+            "a store that reads its own slot once",
+            function(4, &[op(AddF, 0, 0, 1), end]),
+            rewritten(&[(1, end)]),
+        ),
+        Named::new(
+            "a store that a dropped store of its block reads",
+            function(4, &[add(1, 0), add(3, 1), end]),
+            rewritten(&[(2, end)]),
+        ),
+        Named::new(
+            "a store that a dropped store of another block reads",
+            function(4, &[add(1, 0), jump(1), add(3, 1), end]),
+            rewritten(&[(0, add(1, 0)), (3, end)]),
+        )
+        .cleaned(rewritten(&[(3, end)]), 3),
+        Named::new(
+            "a store that a dropped store of the next block reads",
+            function(6, &[jump_if(5, 2), add(1, 2), add(3, 1), end]),
+            rewritten(&[(0, jump_if(5, 2)), (1, add(1, 2)), (3, end)]),
+        )
+        .cleaned(rewritten(&[(0, jump_if(5, 1)), (3, end)]), 3),
+        Named::new(
+            "a store that is read behind a decided branch",
+            function(4, &decided),
+            rewritten(&[(0, add(1, 2)), (4, end)]),
+        )
+        .cleaned(rewritten(&[(4, end)]), 3),
+        Named::new("a store that a dropped store overwrites", function(5, &over), rewritten(&[(4, end)])),
+        Named::new(
+            "a store that is read behind a loop hint's exit",
+            with_metadata(hinted, 1, Metadata::loop_end(2)),
+            rewritten(&[(1, loop_hint(2)), (2, end), (3, give_back(0, 1))]),
+        ),
+        Named::new(
+            "CopyN of which one slot is read",
+            function(8, &[pair, add(0, 6), give_back(0, 2)]),
+            Stated::Unchanged,
+        ),
+        Named::new(
+            "CopyN of which no slot is read",
+            function(8, &[pair, add(0, 6), add(1, 7), give_back(0, 2)]),
+            rewritten(&[(1, add(0, 6)), (2, add(1, 7)), (3, give_back(0, 2))]),
+        ),
+        Named::new(
+            "CopyN into a slot that is no scalar",
+            with_type(function(8, &[pair, end]), 1, TYPE_GC_BASE),
+            Stated::Unchanged,
+        ),
+        Named::new("CopyN of no slot", function(4, &[op(CopyN, 0, 0, 0), end]), rewritten(&[(1, end)])),
     ]
 }
