@@ -34,7 +34,8 @@ pub fn run(options: &[&str]) -> Result<(), String> {
     Ok(())
 }
 
-fn parse(options: &[&str]) -> Result<(u64, u64), String> {
+/// The seed and the number of units.
+pub fn parse(options: &[&str]) -> Result<(u64, u64), String> {
     let (mut seed, mut count) = (SEED, COUNT);
     for pair in options.chunks(2) {
         let number = |text: &str| text.parse().map_err(|_| format!("not a number: {text}"));

@@ -52,7 +52,7 @@ impl Prepared {
         self.module.optimize_function()
     }
 
-    /// The steps of a pass that rewrites the function.
+    /// The steps of a pass that comes as far as dead stores.
     pub fn stages(&self) -> Result<Stages, String> {
         self.module.stages()
     }
