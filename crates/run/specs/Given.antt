@@ -179,56 +179,51 @@ laid-kept u o kept = go (layoutOf u) refl
 pub record Worked (u : List ℕ) (room : Bool) : Type 0 where
   pub laid : isUnit u ≡ true
   pub rise : linesRise u ≡ true
+  pub worked : isWorkedOn (length (cellsOf u)) ≡ true
   pub few : headerOf u .counts .instructions ≤ maxInstructions
   pub lent : room ≡ true
+  pub described : headerOf u .counts .metadata ≡ headerOf u .counts .instructions
+  pub typed : headerOf u .counts .types ≡ headerOf u .counts .locals
 
-pub answer-worked : (u : List ℕ) (room : Bool) (kept : List Retained) → answerWith room u ≡ rewritten kept → Worked u room
-unfolding answerWith afterLayout afterSkipped isSkipped
-answer-worked u room kept e =
+pub answer-optimized : (u : List ℕ) (room : Bool) (kept : List Retained) → answerWith room u ≡ rewritten kept → Worked u room × (optimized (sectionsOf u) (cellsOf u) ≡ rewritten kept)
+unfolding answerWith afterLayout afterSkipped afterRoom isSkipped
+answer-optimized u room kept e =
     let laid = laid-kept u _ kept e in
     let worked = left-kept (not (isWorkedOn (headerOf u .counts .instructions)) || eqb (headerOf u .counts .defer) 1) _ kept (laid .1) in
     let lent = outcome-kept room _ (refused shortBuffer 0) kept (not-refused shortBuffer 0) (worked .1) in
-    record { laid = laid .0; rise = laid .2; few = worked-size (headerOf u .counts .instructions) (go (isWorkedOn (headerOf u .counts .instructions)) _ (worked .0)) .1; lent = lent .0 }
+    let described = outcome-kept (eqb (headerOf u .counts .metadata) (headerOf u .counts .instructions)) _ (refused metadataCount 0) kept (not-refused metadataCount 0) (lent .1) in
+    let typed = outcome-kept (eqb (headerOf u .counts .types) (headerOf u .counts .locals)) _ (refused typeCount 0) kept (not-refused typeCount 0) (described .1) in
+    let on = go (isWorkedOn (headerOf u .counts .instructions)) _ (worked .0) in (
+      record {
+        laid = laid .0;
+        rise = laid .2;
+        worked = rw (cells-long u) on;
+        few = worked-size (headerOf u .counts .instructions) on .1;
+        lent = lent .0;
+        described = eqb-true (headerOf u .counts .metadata) (headerOf u .counts .instructions) (described .0);
+        typed = eqb-true (headerOf u .counts .types) (headerOf u .counts .locals) (typed .0);
+      },
+      typed .1,
+    )
   where
     go : (s t : Bool) → (not s || t) ≡ false → s ≡ true
     go true t e = refl
     go false t e = absurd (true≢false e)
 
--- Its function is well, and is worked on.
-pub record Came (u : List ℕ) (kept : List Retained) : Type 0 where
-  pub laid : isUnit u ≡ true
-  pub described : headerOf u .counts .metadata ≡ headerOf u .counts .instructions
-  pub well : Well (givenFunction u)
-  pub worked : isWorkedOn (length (cellsOf u)) ≡ true
-  pub answer : optimized (sectionsOf u) (cellsOf u) ≡ rewritten kept
+pub answer-worked : (u : List ℕ) (room : Bool) (kept : List Retained) → answerWith room u ≡ rewritten kept → Worked u room
+answer-worked u room kept e = answer-optimized u room kept e .0
+
+-- Its function is well.
+pub worked-well : {u : List ℕ} {room : Bool} → Bytes u → Worked u room → Well (givenFunction u)
+worked-well {u} b w = given-well u b (w .laid) (w .described) (w .typed)
 
 module _ (u : List ℕ) (b : Bytes u) (room : Bool) where
-  pub answer-came : (kept : List Retained) → answerWith room u ≡ rewritten kept → Came u kept
-  unfolding answerWith afterLayout afterSkipped afterRoom isSkipped givenFunction
-  answer-came kept e =
-      let laid = laid-kept u _ kept e in
-      let worked = left-kept (not (isWorkedOn (headerOf u .counts .instructions)) || eqb (headerOf u .counts .defer) 1) _ kept (laid .1) in
-      let lent = outcome-kept room _ (refused shortBuffer 0) kept (not-refused shortBuffer 0) (worked .1) in
-      let described = outcome-kept (eqb (headerOf u .counts .metadata) (headerOf u .counts .instructions)) _ (refused metadataCount 0) kept (not-refused metadataCount 0) (lent .1) in
-      let typed = outcome-kept (eqb (headerOf u .counts .types) (headerOf u .counts .locals)) _ (refused typeCount 0) kept (not-refused typeCount 0) (described .1) in
-      let same = eqb-true (headerOf u .counts .metadata) (headerOf u .counts .instructions) (described .0) in
-      record {
-        laid = laid .0;
-        described = same;
-        well = given-well u b (laid .0) same (eqb-true (headerOf u .counts .types) (headerOf u .counts .locals) (typed .0));
-        worked = rw (cells-long u) (go (isWorkedOn (headerOf u .counts .instructions)) _ (worked .0));
-        answer = typed .1;
-      }
-    where
-      go : (s t : Bool) → (not s || t) ≡ false → s ≡ true
-      go true t e = refl
-      go false t e = absurd (true≢false e)
-
   pub answer-returnable : (kept : List Retained) → answerWith room u ≡ rewritten kept → Returnable (givenFunction u) (headerOf u .counts .cases) kept
   unfolding givenFunction
   answer-returnable kept e =
-      let c = answer-came kept e in
-      optimized-returnable (givenFunction u) (headerOf u .counts .cases) (c .well) (given-sound u b (c .laid) (c .described)) (c .worked) kept (c .answer)
+      let o = answer-optimized u room kept e in
+      let w = o .0 in
+      optimized-returnable (givenFunction u) (headerOf u .counts .cases) (worked-well b w) (given-sound u b (w .laid) (w .described)) (w .worked) kept (o .1)
 
 -- the function in the output's bytes is the one that was retained
 returned-places : (u : List ℕ) (cases : ℕ) (kept : List Retained) (lines : List Line) (out : List ℕ) → Returnable (givenFunction u) cases kept

@@ -67,12 +67,12 @@ abbrev pub LiveFound : Sections → List Cell → Type 0
 LiveFound S cells = (rows : List Row) × (liveRows S (leadersOf cells) (usefulIn S cells) (numbered S cells) ≡ some rows)
 
 -- a store of the given cells has a reader
-abbrev pub hasReader : Sections → List Cell → ℕ → Type 0
-hasReader S cells p =
+abbrev pub HasReaderIn : Sections → List Cell → ℕ → Type 0
+HasReaderIn S cells p =
     HasReader (S .tables) (leadersOf cells) (usefulIn S cells) (deadStores S (leadersOf cells) (usefulIn S cells) (numbered S cells)) (numbered S cells) p
 
 -- Document 02, L7, of given cells and the places that remain: "a reachable pure store into scalar slots remains exactly if" it has a reader. A
 -- place that is not reached does not remain, and has none.
 pub record StoresRead (S : Sections) (cells : List Cell) (remains : ℕ → Bool) : Type 0 where
-  pub reader : (p : ℕ) → p < length cells → ScalarStore S (cellAt (numbered S cells) p) → remains p ≡ true → hasReader S cells p
-  pub kept : (p : ℕ) → p < length cells → ScalarStore S (cellAt (numbered S cells) p) → hasReader S cells p → remains p ≡ true
+  pub reader : (p : ℕ) → p < length cells → ScalarStore S (cellAt (numbered S cells) p) → remains p ≡ true → HasReaderIn S cells p
+  pub kept : (p : ℕ) → p < length cells → ScalarStore S (cellAt (numbered S cells) p) → HasReaderIn S cells p → remains p ≡ true

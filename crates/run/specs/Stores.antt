@@ -52,7 +52,7 @@ use Rattle.run.specs.laws.Checked.{Well, numberable, removing}
 use Rattle.run.specs.laws.Passed.{some-code, few, optimized-kept}
 use Rattle.run.specs.laws.Fitting.{kept-flags}
 use Rattle.run.specs.laws.Visits.{place-kept}
-use Rattle.run.specs.Given.{answer-came}
+use Rattle.run.specs.Given.{answer-optimized, worked-well}
 use Rattle.run.specs.laws.Readers.{Inside, solved-inside, none-inside, joined-in, edge-start, row-live, reader-whole, reader-before, before-reader, live-slot, slot-below}
 
 both-true : (a b : Bool) → a ≡ true → b ≡ true → (a && b) ≡ true
@@ -218,4 +218,6 @@ module _ (F : Function) (w : Well F) (worked : isWorkedOn (length (F .cells)) �
 pub pass-stores : (u : List ℕ) (l : Lent) (kept : List Retained) → Bytes u → passAnswer u l ≡ rewritten kept → LiveFound (sectionsOf u) (cellsOf u)
     → StoresRead (sectionsOf u) (cellsOf u) (λ p. isIn p (placesOf kept))
 unfolding passAnswer givenFunction
-pass-stores u l kept b e found = let c = answer-came u b (roomFor (headerOf u .counts) l) kept e in stores-retained (givenFunction u) (c .well) (c .worked) kept (c .answer) found
+pass-stores u l kept b e found =
+    let o = answer-optimized u (roomFor (headerOf u .counts) l) kept e in
+    stores-retained (givenFunction u) (worked-well b (o .0)) (o .0 .worked) kept (o .1) found

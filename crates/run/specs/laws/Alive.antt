@@ -63,6 +63,14 @@ flow-reads true true a w e f = refl
 flow-reads true false a w e f = absurd (false≢true f)
 flow-reads false r a w e f = absurd (false≢true e)
 
+-- behind a block's last place a block starts
+pub last-leader : (n : ℕ) (leaders : List ℕ) (p : ℕ) → suc p < n → isLast n leaders p ≡ true → Marked leaders (suc p)
+last-leader n leaders p h e = go (eqb (suc p) n) refl e
+  where
+    go : (t : Bool) → eqb (suc p) n ≡ t → (t || eqb (getD leaders (suc p) 0) 1) ≡ true → Marked leaders (suc p)
+    go true q r = let d : suc p ≡ n = eqb-true (suc p) n q in absurd (omega arith)
+    go false q r = eqb-true (getD leaders (suc p) 0) 1 r
+
 module _ (S : Sections) (leaders keep : List ℕ) (cells : List Cell) (rows : List Row) where
   abbrev n : ℕ
   n = length cells
@@ -134,10 +142,10 @@ module _ (S : Sections) (leaders keep : List ℕ) (cells : List Cell) (rows : Li
     whole-long : (p : ℕ) → length (whole p) ≡ S .locals
     whole-long p = walk-wide S n leaders keep p (drop p cells) rows (A .wide)
 
-    pub last-place : (p : ℕ) → suc p ≡ n → isLast n leaders p ≡ true
+    last-place : (p : ℕ) → suc p ≡ n → isLast n leaders p ≡ true
     last-place p e = rw (eq-eqb (suc p) n e) refl
 
-    pub not-last : (p : ℕ) → p < n → isLast n leaders p ≡ false → suc p < n
+    not-last : (p : ℕ) → p < n → isLast n leaders p ≡ false → suc p < n
     not-last p h e = go (eqb (suc p) n) refl e
       where
         go : (t : Bool) → eqb (suc p) n ≡ t → (t || eqb (getD leaders (suc p) 0) 1) ≡ false → suc p < n
@@ -228,13 +236,6 @@ module _ (S : Sections) (leaders keep : List ℕ) (cells : List Cell) (rows : Li
         only true e = here
         only false e = absurd (false≢true e)
 
-    pub last-leader : (p : ℕ) → suc p < n → isLast n leaders p ≡ true → Marked leaders (suc p)
-    last-leader p h e = go (eqb (suc p) n) refl e
-      where
-        go : (t : Bool) → eqb (suc p) n ≡ t → (t || eqb (getD leaders (suc p) 0) 1) ≡ true → Marked leaders (suc p)
-        go true q r = let d : suc p ≡ n = eqb-true (suc p) n q in absurd (omega arith)
-        go false q r = eqb-true (getD leaders (suc p) 0) 1 r
-
     pub goto-le : (p q : ℕ) → p < n → Succ (class (cell p .instruction)) p (cell p .instruction) q → q ≤ n
     goto-le p q h (next f) = h
     goto-le p q h (branch f) = let l = A .targets p h f .1 in omega arith
@@ -254,7 +255,7 @@ module _ (S : Sections) (leaders keep : List ℕ) (cells : List Cell) (rows : Li
     ]
       where
         inside : (q : ℕ) → Succ (class (cell p .instruction)) p (cell p .instruction) q → bit (before q) s ≡ true → q < n → (t : Bool) → isLast n leaders p ≡ t → bit (after p) s ≡ true
-        inside q (next f) b k true e = joins p (suc p) s l k e (last-leader p k e) (edge-next p f k) b
+        inside q (next f) b k true e = joins p (suc p) s l k e (last-leader n leaders p k e) (edge-next p f k) b
         inside q (next f) b k false e = ap (λ (r : Row). bit r s) (after-inner p e (before (suc p))) ∙ b
         inside q (branch f) b k true e = joins p _ s l k e (A .targets p h f .0) (edge-branch p f) b
         inside q (branch f) b k false e = absurd (false≢true (sym (A .inner p h e) ∙ f))

@@ -25,7 +25,6 @@ use Rattle.flow.specs.Branch.{falls, branches, target}
 use Rattle.flow.specs.Block.{blockOf, blockCount}
 use Rattle.flow.specs.Loop.{reachedPlaces}
 use Rattle.flow.specs.laws.Marks.{Marked}
-use Rattle.flow.specs.laws.Flags.{sum-mono, sum-next, sum-first}
 use Rattle.flow.specs.laws.Blocks.{block-below}
 use Rattle.pc_map.specs.Boundary.{isKept}
 use Rattle.liveness.specs.Live.{Row, liveBefore, edges, isLast, noRow, joined, liveAfter, roundFrom, solveIn, sameRows}
@@ -36,13 +35,9 @@ use Rattle.run.specs.Program.{Function}
 use Rattle.run.specs.Reader.{readsSlot, writesSlot, Reader, read, inner, edge}
 use Rattle.run.specs.laws.Frame.{In, here, there}
 use Rattle.run.specs.laws.Optimized.{Removing, useful-long}
-use Rattle.run.specs.laws.Solved.{row-at}
+use Rattle.run.specs.laws.Solved.{block-later, row-at}
 use Rattle.run.specs.laws.RowBits.{or-left, or-right, joined-bit}
-use Rattle.run.specs.laws.Alive.{flow, flow-reads, before as liveAt, after as liveOut, dead, stays, reads, written, whole, wholeAfter, Analysed, before-flow, whole-flow, after-last, after-inner, at-end}
-
-and-true : (t : Bool) → (t && true) ≡ t
-and-true true = refl
-and-true false = refl
+use Rattle.run.specs.laws.Alive.{last-leader, flow, flow-reads, before as liveAt, after as liveOut, dead, stays, reads, written, whole, wholeAfter, Analysed, before-flow, whole-flow, after-last, after-inner, at-end}
 
 -- a truth value of two
 either : (a b : Bool) → (a || b) ≡ true → (a ≡ true) ⊎ (b ≡ true)
@@ -104,12 +99,6 @@ module _ (G : Function) (leaders : List ℕ) (N : Removing G leaders) (kept : Li
     pub inside : r < n
     pub leads : Marked leaders r
 
-  last-leads : (p : ℕ) → suc p < n → isLast n leaders p ≡ true → Marked leaders (suc p)
-  last-leads p h e = elim (either (eqb (suc p) n) (eqb (getD leaders (suc p) 0) 1) e) [
-    | inl q ↦ (let same : suc p ≡ n = eqb-true (suc p) n q in absurd (omega arith))
-    | inr q ↦ eqb-true (getD leaders (suc p) 0) 1 q
-  ]
-
   -- edges lead to the starts of blocks
   pub edge-start : (p r : ℕ) → p < n → isLast n leaders p ≡ true → isIn r (edges n p (cell p)) ≡ true → Start r
   unfolding edges
@@ -117,7 +106,7 @@ module _ (G : Function) (leaders : List ℕ) (N : Removing G leaders) (kept : Li
       elim (in-two (falls (class (cell p .instruction)) && ltb (suc p) n) (branches (class (cell p .instruction))) (suc p) (target p (cell p .instruction)) r i) [
         | inl (a, q) ↦ rw q (
             let l : suc p < n = ltb-true (suc p) n (right-true (falls (class (cell p .instruction))) (ltb (suc p) n) a) in
-            record { inside = l; leads = last-leads p l e })
+            record { inside = l; leads = last-leader n leaders p l e })
         | inr (b, q) ↦ rw q (let t = N .targets p h b in record { inside = t .1; leads = t .0 })
       ]
 
@@ -158,16 +147,9 @@ module _ (G : Function) (leaders : List ℕ) (N : Removing G leaders) (kept : Li
   same-start : (p q : ℕ) → p < n → Marked leaders p → Start q → blockOf leaders q ≡ blockOf leaders p → q ≡ p
   same-start p q h m b e = go (ltb p q) refl (ltb q p) refl
     where
-      later : (p q : ℕ) → p < q → q < n → Marked leaders q → blockOf leaders p < blockOf leaders q
-      later p q h l m =
-          let a = sum-next leaders q (rw (N .long) l) in
-          let b = sum-mono leaders (suc p) q h in
-          let c = sum-first leaders (suc p) (N .one) (omega arith) in
-          omega arith
-
       go : (s : Bool) → ltb p q ≡ s → (t : Bool) → ltb q p ≡ t → q ≡ p
-      go true x t y = let l = later p q (ltb-true p q x) (b .inside) (b .leads) in absurd (omega arith)
-      go false x true y = let l = later q p (ltb-true q p y) h m in absurd (omega arith)
+      go true x t y = let l = block-later leaders (N .one) p q (ltb-true p q x) (rw (N .long) (b .inside)) (b .leads) in absurd (omega arith)
+      go false x true y = let l = block-later leaders (N .one) q p (ltb-true q p y) (rw (N .long) h) m in absurd (omega arith)
       go false x false y = let u = ltb-false p q x in let v = ltb-false q p y in omega arith
 
   -- a place more of a round, from the last to the first
@@ -278,13 +260,18 @@ module _ (G : Function) (leaders : List ℕ) (N : Removing G leaders) (kept : Li
   reader-inside {t} {q} (edge w e i r) = last-inside q e
 
   -- a slot that is live after a place that does not write it is live before it
-  pass-flow : (u d r a w : Bool) → (u && w) ≡ false → a ≡ true → flow (u && d) r a w ≡ true
+  pass-flow : (k r a w : Bool) → (k && w) ≡ false → a ≡ true → flow k r a w ≡ true
   unfolding flow
-  pass-flow true true true a w e f = refl
-  pass-flow true true false true w e f = rw e refl
-  pass-flow true true false false w e f = absurd (false≢true f)
-  pass-flow true false r a w e f = f
-  pass-flow false d r a w e f = f
+  pass-flow true true a w e f = refl
+  pass-flow true false true w e f = rw e refl
+  pass-flow true false false w e f = absurd (false≢true f)
+  pass-flow false r a w e f = f
+
+  -- what does not write does not write if it stays
+  stays-less : (u d w : Bool) → (u && w) ≡ false → ((u && d) && w) ≡ false
+  stays-less true true w e = e
+  stays-less true false w e = refl
+  stays-less false d w e = refl
 
   module _ (rows : List Row) (A : Analysed S leaders useful code rows) where
     in-list : (r : ℕ) (l : List ℕ) → isIn r l ≡ true → In r l
@@ -311,13 +298,11 @@ module _ (G : Function) (leaders : List ℕ) (N : Removing G leaders) (kept : Li
     reader-whole {t} {q} l (inner w e r) =
         let h = reader-inside r in
         whole-flow S leaders useful code rows A q t (omega arith) l
-        ∙ ap (λ (k : Bool). flow k (reads S leaders useful code rows q t) (bit (wholeAfter S leaders useful code rows q) t) (written S leaders useful code rows q t)) (sym (and-true (isKept useful q)))
-        ∙ pass-flow (isKept useful q) true _ _ _ w (ap (λ (x : Row). bit x t) (after-inner S leaders useful code rows A q e _) ∙ reader-whole l r)
+        ∙ pass-flow (isKept useful q) _ _ _ w (ap (λ (x : Row). bit x t) (after-inner S leaders useful code rows A q e _) ∙ reader-whole l r)
     reader-whole {t} {q} l (edge {r = r} w e i g) =
         let h = last-inside q e in
         whole-flow S leaders useful code rows A q t h l
-        ∙ ap (λ (k : Bool). flow k (reads S leaders useful code rows q t) (bit (wholeAfter S leaders useful code rows q) t) (written S leaders useful code rows q t)) (sym (and-true (isKept useful q)))
-        ∙ pass-flow (isKept useful q) true _ _ _ w (row-live q r t h e i (reader-whole l g) _)
+        ∙ pass-flow (isKept useful q) _ _ _ w (row-live q r t h e i (reader-whole l g) _)
 
     module _ (kept-stays : (q : ℕ) → q < n → isKept kept q ≡ stays S leaders useful code rows q) where
       -- what has a reader of the store's block is live in the sweep
@@ -329,11 +314,11 @@ module _ (G : Function) (leaders : List ℕ) (N : Removing G leaders) (kept : Li
       reader-before {t} {q} f l (inner w e r) =
           let h = reader-inside r in
           before-flow S leaders useful code rows A q t (omega arith) l
-          ∙ pass-flow (isKept useful q) (not (dead S leaders useful code rows q)) _ _ _ w (ap (λ (x : Row). bit x t) (after-inner S leaders useful code rows A q e _) ∙ reader-before f l r)
+          ∙ pass-flow (stays S leaders useful code rows q) _ _ _ (stays-less (isKept useful q) (not (dead S leaders useful code rows q)) _ w) (ap (λ (x : Row). bit x t) (after-inner S leaders useful code rows A q e _) ∙ reader-before f l r)
       reader-before {t} {q} f l (edge {r = r} w e i g) =
           let h = last-inside q e in
           before-flow S leaders useful code rows A q t h l
-          ∙ pass-flow (isKept useful q) (not (dead S leaders useful code rows q)) _ _ _ w (row-live q r t h e i (reader-whole l g) _)
+          ∙ pass-flow (stays S leaders useful code rows q) _ _ _ (stays-less (isKept useful q) (not (dead S leaders useful code rows q)) _ w) (row-live q r t h e i (reader-whole l g) _)
 
       module _ (I : Inside rows) where
         -- what is live in the sweep has a reader

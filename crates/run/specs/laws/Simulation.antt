@@ -11,16 +11,17 @@ use Rattle.run.specs.System.{System, after, Same}
 use Rattle.run.specs.Visits.{Noted, noted, noteStep, noting}
 
 module _ {R W : Type 0} where
-  -- What a simulation is. `move`: either both step, or the given one steps alone and its size goes down.
-  record Sim (S S′ : System R W) : Type 1 where
+  -- What a simulation is. `move`: either both step, or the given one steps alone and its size goes down. What is asked of such steps besides
+  -- is `Both` and `Alone`.
+  pub record Sim (S S′ : System R W) (Both : S .State → S′ .State → Type 0) (Alone : S .State → Type 0) : Type 1 where
     pub rel : S .State → S′ .State → Type 0
     pub size : S .State → ℕ
     pub log= : (x : S .State) (y : S′ .State) → rel x y → S′ .log y ≡ S .log x
     pub end= : (x : S .State) (y : S′ .State) (w : W) → rel x y → S .way x ≡ some w → S′ .way y ≡ some w
     pub move : (x : S .State) (y : S′ .State) → rel x y → S .way x ≡ none
-        → ((S′ .way y ≡ none) × rel (S .next x) (S′ .next y)) ⊎ (rel (S .next x) y × (size (S .next x) < size x))
+        → ((S′ .way y ≡ none) × Both x y × rel (S .next x) (S′ .next y)) ⊎ (Alone x × rel (S .next x) y × (size (S .next x) < size x))
 
-  module _ {S S′ : System R W} (M : Sim S S′) where
+  module _ {S S′ : System R W} {Both : S .State → S′ .State → Type 0} {Alone : S .State → Type 0} (M : Sim S S′ Both Alone) where
     open Sim M using (rel, size, log=, end=, move)
 
     -- an ended state is the same for ever
@@ -47,7 +48,7 @@ module _ {R W : Type 0} where
     forward (suc k) x y r = go (forward k) (S .way x) refl
       where
         go : ((x₁ : S .State) (y₁ : S′ .State) → rel x₁ y₁ → Ahead k x₁ y₁) → (o : Option W) → S .way x ≡ o → Ahead (suc k) x y
-        go ih none e = elim (move x y r e) [ inl m ↦ ahead-both k x y (ih _ _ (m .1)) | inr m ↦ ahead-alone k x y (ih _ _ (m .0)) ]
+        go ih none e = elim (move x y r e) [ inl m ↦ ahead-both k x y (ih _ _ (m .2)) | inr m ↦ ahead-alone k x y (ih _ _ (m .1)) ]
         go ih (some w) e = ahead-alone k x y (ih (S .next x) y (rw (S .stays x w e) r))
 
     -- where the returned run has ended, the given one gets to its end by steps that it takes alone
@@ -68,7 +69,7 @@ module _ {R W : Type 0} where
         go ih none p =
             elim (move x y r p) [
               | inl m ↦ let q : S′ .way y ≡ none = m .0 in let z : _≡_ {A = ℕ} 0 1 = cc in absurd (omega arith)
-              | inr m ↦ settled-alone x y w (ih (S .next x) y w (let h = m .1 in omega arith) (m .0) e)
+              | inr m ↦ settled-alone x y w (ih (S .next x) y w (let h = m .2 in omega arith) (m .1) e)
             ]
         go ih (some v) p = let q : S′ .way y ≡ some v = end= x y v r p in (zero, cc, r)
 
@@ -88,8 +89,8 @@ module _ {R W : Type 0} where
         go : ((x₁ : S .State) (y₁ : S′ .State) → size x₁ < f → rel x₁ y₁ → Caught x₁ y₁) → (o : Option W) → S .way x ≡ o → Caught x y
         go ih none p =
             elim (move x y r p) [
-              | inl m ↦ (1, m .1)
-              | inr m ↦ caught-alone x y (ih (S .next x) y (let h = m .1 in omega arith) (m .0))
+              | inl m ↦ (1, m .2)
+              | inr m ↦ caught-alone x y (ih (S .next x) y (let h = m .2 in omega arith) (m .1))
             ]
         go ih (some v) p = (zero, rw (S′ .stays y v (end= x y v r p)) r)
 
@@ -120,14 +121,9 @@ module _ {R W : Type 0} where
     }
 
 module _ {R W : Type 0} where
-  -- The same with notes. `move`: either both step and note the same, or the given one steps alone and notes nothing.
-  pub record NotedSim (S S′ : System R W) (note : S .State → List ℕ) (note′ : S′ .State → List ℕ) : Type 1 where
-    pub rel : S .State → S′ .State → Type 0
-    pub size : S .State → ℕ
-    pub log= : (x : S .State) (y : S′ .State) → rel x y → S′ .log y ≡ S .log x
-    pub end= : (x : S .State) (y : S′ .State) (w : W) → rel x y → S .way x ≡ some w → S′ .way y ≡ some w
-    pub move : (x : S .State) (y : S′ .State) → rel x y → S .way x ≡ none
-        → ((S′ .way y ≡ none) × (note′ y ≡ note x) × rel (S .next x) (S′ .next y)) ⊎ ((note x ≡ []) × rel (S .next x) y × (size (S .next x) < size x))
+  -- The same with notes: both note the same, or the given one notes nothing.
+  abbrev pub NotedSim : (S S′ : System R W) → (S .State → List ℕ) → (S′ .State → List ℕ) → Type 1
+  NotedSim S S′ note note′ = Sim S S′ (λ x y. note′ y ≡ note x) (λ x. note x ≡ [])
 
   module _ {S S′ : System R W} {note : S .State → List ℕ} {note′ : S′ .State → List ℕ} (M : NotedSim S S′ note note′) where
     abbrev Noting : Noted (S .State) → Noted (S′ .State) → Type 0
@@ -137,15 +133,16 @@ module _ {R W : Type 0} where
     noting-log x y r = rw (M .log= (x .content) (y .content) (r .0), r .1)
 
     noting-move : (x : Noted (S .State)) (y : Noted (S′ .State)) → Noting x y → S .way (x .content) ≡ none
-        → ((S′ .way (y .content) ≡ none) × Noting (noteStep S note x) (noteStep S′ note′ y)) ⊎ (Noting (noteStep S note x) y × (M .size (S .next (x .content)) < M .size (x .content)))
+        → ((S′ .way (y .content) ≡ none) × Unit {0} × Noting (noteStep S note x) (noteStep S′ note′ y))
+        ⊎ (Unit {0} × Noting (noteStep S note x) y × (M .size (S .next (x .content)) < M .size (x .content)))
     unfolding noted
     noting-move x y r e =
         elim (M .move (x .content) (y .content) (r .0) e) [
-          | inl m ↦ inl (m .0, (m .2, rw (m .0, e, m .1, r .1)))
-          | inr m ↦ inr ((m .1, rw (e, m .0) (r .1)), m .2)
+          | inl m ↦ inl (m .0, tt, (m .2, rw (m .0, e, m .1, r .1)))
+          | inr m ↦ inr (tt, (m .1, rw (e, m .0) (r .1)), m .2)
         ]
 
-    noting-sim : Sim (noting S note) (noting S′ note′)
+    noting-sim : Sim (noting S note) (noting S′ note′) (λ x y. Unit {0}) (λ x. Unit {0})
     noting-sim = record {
       rel = Noting;
       size = λ x. M .size (x .content);

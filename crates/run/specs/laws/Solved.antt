@@ -4,7 +4,7 @@ use mathlib.Core.Path.{_≡_, refl, sym, ap, _∙_}
 use mathlib.Core.Bool.{Bool, true, false, cond}
 use mathlib.Core.List.{List, [], _∷_}
 use mathlib.Core.Option.{some}
-use Prim.Native.Nat.{ℕ, zero, suc, _+_, _-_, _≤_, _<_}
+use Prim.Native.Nat.{ℕ, zero, suc, _+_, _≤_, _<_}
 use native.Mathlib.Decide.{ℕ-discrete}
 use native.Mathlib.Omega.{arith}
 use lib.Dec.{eqb}
@@ -23,6 +23,14 @@ use Rattle.liveness.specs.laws.Rounding.{rows-long, same-rows}
 perhaps-other : (t : Bool) (rows : List Row) (b i : ℕ) (r d : Row) → (t ≡ true → i ≡ b → ⊥) → getD (cond t (set rows b r) rows) i d ≡ getD rows i d
 perhaps-other true rows b i r d f = getD-set-other rows b i r d (f refl)
 perhaps-other false rows b i r d f = refl
+
+-- a later leader is in a later block
+pub block-later : (leaders : List ℕ) → Marked leaders 0 → (p q : ℕ) → p < q → q < length leaders → Marked leaders q → blockOf leaders p < blockOf leaders q
+block-later leaders one p q h l m =
+    let a = sum-next leaders q l in
+    let b = sum-mono leaders (suc p) q h in
+    let c = sum-first leaders (suc p) one (omega arith) in
+    omega arith
 
 module _ (S : Sections) (leaders keep : List ℕ) (cells : List Cell) where
   abbrev n : ℕ
@@ -72,14 +80,6 @@ module _ (S : Sections) (leaders keep : List ℕ) (cells : List Cell) where
     abbrev walk : ℕ → Walked S n leaders keep
     walk p = roundFrom S n leaders keep p (drop p cells) rows
 
-    -- a later leader is in a later block
-    block-later : (p q : ℕ) → p < q → q < n → Marked leaders q → blockOf leaders p < blockOf leaders q
-    block-later p q h l m =
-        let a = sum-next leaders q (rw long l) in
-        let b = sum-mono leaders (suc p) q h in
-        let c = sum-first leaders (suc p) one (omega arith) in
-        omega arith
-
     abbrev made : ℕ → Row
     made p =
         let after = liveAfter S n leaders keep (walk (suc p) .rows) p (cellAt cells p) (walk (suc p) .before) in
@@ -109,7 +109,7 @@ module _ (S : Sections) (leaders keep : List ℕ) (cells : List Cell) where
 
             each : (i : ℕ) → i < length (walk (suc p) .rows) → getD (walk (suc p) .rows) i (noRow S n leaders keep) ≡ getD rows i (noRow S n leaders keep)
             each i l = elim (ℕ-discrete i (blockOf leaders p)) [
-              | yes d ↦ untouched i (suc p) (drop (suc p) cells) rows (λ q a b m c. let k : q < n = inside q b in let u = block-later p q a k m in omega arith)
+              | yes d ↦ untouched i (suc p) (drop (suc p) cells) rows (λ q a b m c. let k : q < n = inside q b in let u = block-later leaders one p q a (rw long k) m in omega arith)
               | no d ↦ sym (getD-set-other (walk (suc p) .rows) (blockOf leaders p) i (made p) (noRow S n leaders keep) d) ∙ ap (λ (l : List Row). getD l i (noRow S n leaders keep)) (sym w ∙ r)
             ]
 
