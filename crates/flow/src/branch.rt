@@ -2,10 +2,9 @@
 ghost use mathlib.Core.Path.{_≡_};
 ghost use mathlib.Core.Bool.{true, cond};
 ghost use mathlib.Core.List.{List};
-ghost use Prim.Native.Nat.{ℕ, _≤_, _<_};
+ghost use Prim.Native.Nat.{ℕ, _^_, _≤_, _<_};
 ghost use lib.ListN.{length};
 ghost use Rattle.unit.specs.Refusal.{branchOutside};
-ghost use Rattle.unit.specs.Size.{maxInstructions};
 ghost use Rattle.effects.specs.laws.Cells.{cellsBy};
 ghost use mir.Val.{boolByte};
 ghost use Rattle.instruction.specs.Class.{classOf, numberOf};
@@ -76,7 +75,7 @@ fn distance(i: Instruction, looped: bool) -> u64
 
 // The target of a branch at place p, by the number of its class; of what is no branch the answer is free.
 pub fn branch_target(p: usize, i: Instruction, k: u64) -> u64
-    requires { ⌜ (p ≤ maxInstructions) × (k ≡ numberOf (class i)) ⌝ }
+    requires { ⌜ (p < 2 ^ 32) × (k ≡ numberOf (class i)) ⌝ }
     ensures { λ r. ⌜ (branches (class i) ≡ true → r ≡ target p i) ⌝ }
 {
     let looped = k == number::FOR_LOOP;
@@ -86,7 +85,7 @@ pub fn branch_target(p: usize, i: Instruction, k: u64) -> u64
 
 // Of what is no branch, the next place.
 pub fn target(p: usize, i: Instruction) -> u64
-    requires { ⌜ p ≤ maxInstructions ⌝ }
+    requires { ⌜ p < 2 ^ 32 ⌝ }
     ensures { λ r. ⌜ r ≡ target p i ⌝ }
 {
     let k = opcode::class_number(i.op);
@@ -98,7 +97,7 @@ pub fn target(p: usize, i: Instruction) -> u64
 
 // The refusal of a branch at place p of n, or 0.
 fn branch_refusal(n: usize, p: usize, i: Instruction) -> u32
-    requires { ⌜ p ≤ maxInstructions ⌝ }
+    requires { ⌜ p < 2 ^ 32 ⌝ }
     ensures { λ r. ⌜ r ≡ cond (branchInside n p i) 0 branchOutside ⌝ }
 {
     if !ends_block(i.op) {
@@ -115,7 +114,7 @@ fn branch_refusal(n: usize, p: usize, i: Instruction) -> u32
 
 // Refusal 8, by the list of the control places. The metadata of the cells plays no part.
 pub fn check_branches(words: &[u64], list: &[u64]) -> Check
-    requires { ⌜ (length (now words) ≤ maxInstructions) × Controls (now words) (now list) (length (now words)) ⌝ }
+    requires { ⌜ (length (now words) < 2 ^ 32) × Controls (now words) (now list) (length (now words)) ⌝ }
     ensures { λ r. ⌜ ((metadata : List ℕ) → r ≡ branchCheck (cellsBy (now (words .entry)) metadata)) ⌝ }
 {
     let n = words.len();

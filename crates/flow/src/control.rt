@@ -1,14 +1,14 @@
 // The check of all operands, and the list of the control places, where the sweeps over branches, blocks and hints find something to do.
 ghost use mathlib.Core.Path.{_≡_};
 ghost use mathlib.Core.Bool.{true};
-ghost use Prim.Native.Nat.{ℕ, _+_, _*_, _/_, _≤_, _<_};
+ghost use Prim.Native.Nat.{ℕ, _+_, _*_, _/_, _^_, _≤_, _<_};
 ghost use mir.Val.{boolByte};
 ghost use lib.ListN.{length};
 ghost use borrow.Rule.Slice.PartMut.{midOf};
 ghost use Rattle.words.specs.laws.Regions.{Outside};
 ghost use Rattle.instruction.specs.Instruction.{class, ofWord};
 ghost use Rattle.unit.specs.Entry.{metadataAt, goodMetadata};
-ghost use Rattle.unit.specs.Size.{metadataSize, caseSize, maxInstructions, maxLocalSlots};
+ghost use Rattle.unit.specs.Size.{metadataSize, caseSize, maxLocalSlots};
 ghost use Rattle.effects.specs.Shape.{tablesOf};
 ghost use Rattle.effects.specs.Check.{operandCheck};
 ghost use Rattle.effects.specs.laws.Cells.{cellsBy};
@@ -37,7 +37,7 @@ pub fn check_operands(
     externs: &[u8],
     cases: &[u8],
 ) -> Listing
-    requires { ⌜ (n ≤ maxInstructions) × (n ≤ at) × (at + n ≤ length (now memory)) × (length (now metadata) ≡ metadataSize * n) × (locals ≤ maxLocalSlots) × ((k : ℕ) → k < n → goodMetadata (length (now cases) / caseSize) (metadataAt (now metadata) k) ≡ true) ⌝ }
+    requires { ⌜ (n < 2 ^ 32) × (n ≤ at) × (at + n ≤ length (now memory)) × (length (now metadata) ≡ metadataSize * n) × (locals ≤ maxLocalSlots) × ((k : ℕ) → k < n → goodMetadata (length (now cases) / caseSize) (metadataAt (now metadata) k) ≡ true) ⌝ }
     ensures { λ r. ⌜ (checkOf r ≡ operandCheck locals (tablesOf (now (functions .entry)) (now (externs .entry)) (now (cases .entry))) (cellsBy (midOf 0 n (now (memory .entry))) (now (metadata .entry)))) × ListedBy r (midOf 0 n (now (memory .entry))) n at (now (memory .exit)) × Outside at n (now (memory .entry)) (now (memory .exit)) ⌝ }
 {
     let mut count: usize = 0;

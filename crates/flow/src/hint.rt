@@ -2,12 +2,12 @@
 ghost use mathlib.Core.Path.{_≡_};
 ghost use mathlib.Core.Bool.{cond, _&&_};
 ghost use mathlib.Core.List.{[], _∷_};
-ghost use Prim.Native.Nat.{_+_, _*_, _≤_, _<_};
+ghost use Prim.Native.Nat.{_+_, _*_, _^_, _≤_, _<_};
 ghost use lib.Dec.{eqb, ltb};
 ghost use lib.ListN.{length, getD};
 ghost use borrow.Rule.Slice.PartMut.{midOf, putMid};
 ghost use Rattle.unit.specs.Entry.{kindLoopEnd, metadataAt};
-ghost use Rattle.unit.specs.Size.{maxInstructions, metadataSize};
+ghost use Rattle.unit.specs.Size.{metadataSize};
 ghost use Rattle.effects.specs.laws.Cells.{cellOf, cellsBy};
 ghost use Rattle.flow.specs.laws.Control.{Controls};
 ghost use Rattle.flow.specs.laws.Hints.{loopTest};
@@ -53,7 +53,7 @@ fn loop_refusal(words: &[u64], metadata: &[u8], marks: &[u32], p: usize) -> u32
 
 // Refusal 9, of the places that are reached, by the list of the control places.
 pub fn check_loops(words: &[u64], list: &[u64], metadata: &[u8], marks: &[u32]) -> Check
-    requires { ⌜ (length (now words) ≤ maxInstructions) × (metadataSize * length (now words) ≤ length (now metadata)) × (length (now marks) ≡ length (now words)) × Controls (now words) (now list) (length (now words)) ⌝ }
+    requires { ⌜ (length (now words) < 2 ^ 32) × (metadataSize * length (now words) ≤ length (now metadata)) × (length (now marks) ≡ length (now words)) × Controls (now words) (now list) (length (now words)) ⌝ }
     ensures { λ r. ⌜ r ≡ loopCheck (now (marks .entry)) (cellsBy (now (words .entry)) (now (metadata .entry))) ⌝ }
 {
     let mut k: usize = 0;
@@ -81,7 +81,7 @@ fn mark_end(metadata: &[u8], ends: &mut [u32], reached: u32, p: usize, i: Instru
 
 // Marks the ends of the reached loop hints, by the list of the control places. The marks of the reached places stand first, the ends from `at` on.
 pub fn mark_anchors(words: &[u64], list: &[u64], metadata: &[u8], work: &mut [u32], at: usize)
-    requires { ⌜ (length (now words) ≤ maxInstructions) × (metadataSize * length (now words) ≤ length (now metadata)) × (length (now words) ≤ at) × (at + length (now words) ≤ length (now work)) × Controls (now words) (now list) (length (now words)) ⌝ }
+    requires { ⌜ (length (now words) < 2 ^ 32) × (metadataSize * length (now words) ≤ length (now metadata)) × (length (now words) ≤ at) × (at + length (now words) ≤ length (now work)) × Controls (now words) (now list) (length (now words)) ⌝ }
     ensures { λ _. ⌜ now (work .exit) ≡ putMid at (length (now (words .entry))) (now (work .entry)) (anchors (midOf 0 (length (now (words .entry))) (now (work .entry))) (cellsBy (now (words .entry)) (now (metadata .entry)))) ⌝ }
 {
     let n = words.len();

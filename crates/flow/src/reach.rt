@@ -2,11 +2,11 @@
 ghost use mathlib.Core.Path.{_≡_};
 ghost use mathlib.Core.Bool.{cond};
 ghost use mathlib.Core.List.{[], _∷_};
-ghost use Prim.Native.Nat.{_+_, _*_, _≤_, _<_};
+ghost use Prim.Native.Nat.{_+_, _*_, _^_, _≤_, _<_};
 ghost use lib.ListN.{length, getD};
 ghost use borrow.Rule.Slice.PartMut.{midOf, putMid};
 ghost use Rattle.unit.specs.laws.Region.{stackEnd};
-ghost use Rattle.unit.specs.Size.{maxInstructions, metadataSize};
+ghost use Rattle.unit.specs.Size.{metadataSize};
 ghost use Rattle.effects.specs.laws.Cells.{cellOf, cellsBy};
 ghost use Rattle.flow.specs.Loop.{successors, reachedPlaces};
 ghost use Rattle.flow.specs.laws.Stack.{Pushed, Standing, marksOf, stackOf, Ran};
@@ -22,7 +22,7 @@ use words::fill;
 
 // The number v goes onto the stack, if it is to and is a place. The result is the stack's new height.
 fn push_if(stack: &mut [u32], n: usize, sp: usize, when: bool, v: u64) -> usize
-    requires { ⌜ (n ≤ maxInstructions) × (sp < length (now stack)) ⌝ }
+    requires { ⌜ (n < 2 ^ 32) × (sp < length (now stack)) ⌝ }
     ensures { λ r. ⌜ Pushed n sp (cond when (v ∷ []) []) (now (stack .entry)) (now (stack .exit)) r ⌝ }
 {
     if when {
@@ -36,7 +36,7 @@ fn push_if(stack: &mut [u32], n: usize, sp: usize, when: bool, v: u64) -> usize
 
 // The next place and the branch's target.
 fn push_near(stack: &mut [u32], n: usize, sp: usize, p: usize, i: Instruction) -> usize
-    requires { ⌜ (n ≤ maxInstructions) × (p < n) × (sp + 2 ≤ length (now stack)) ⌝ }
+    requires { ⌜ (n < 2 ^ 32) × (p < n) × (sp + 2 ≤ length (now stack)) ⌝ }
     ensures { λ r. ⌜ Pushed n sp (nearSuccessors p i) (now (stack .entry)) (now (stack .exit)) r ⌝ }
 {
     let k = opcode::class_number(i.op);
@@ -59,7 +59,7 @@ fn push_loop(
     p: usize,
     i: Instruction,
 ) -> usize
-    requires { ⌜ (n ≤ maxInstructions) × (metadataSize * p + metadataSize ≤ length (now metadata)) × (sp + 2 ≤ length (now stack)) ⌝ }
+    requires { ⌜ (n < 2 ^ 32) × (metadataSize * p + metadataSize ≤ length (now metadata)) × (sp + 2 ≤ length (now stack)) ⌝ }
     ensures { λ r. ⌜ Pushed n sp (loopSuccessorsOf n i (now (metadata .entry)) p) (now (stack .entry)) (now (stack .exit)) r ⌝ }
 {
     if hint::is_loop_hint(i) {
@@ -74,7 +74,7 @@ fn push_loop(
 
 // The successors of place p go onto the stack.
 fn push_successors(words: &[u64], metadata: &[u8], stack: &mut [u32], sp: usize, p: usize) -> usize
-    requires { ⌜ (length (now words) ≤ maxInstructions) × (p < length (now words)) × (metadataSize * length (now words) ≤ length (now metadata)) × (sp + 4 ≤ length (now stack)) ⌝ }
+    requires { ⌜ (length (now words) < 2 ^ 32) × (p < length (now words)) × (metadataSize * length (now words) ≤ length (now metadata)) × (sp + 4 ≤ length (now stack)) ⌝ }
     ensures { λ r. ⌜ Pushed (length (now (words .entry))) sp (successors (length (now (words .entry))) p (cellOf (now (metadata .entry)) p (getD (now (words .entry)) p 0))) (now (stack .entry)) (now (stack .exit)) r ⌝ }
 {
     let n = words.len();
@@ -94,7 +94,7 @@ fn goes_on(op: u8) -> bool
 // successors of the last one go onto the stack. Most places only go on, and a run need not wait to load what it has just stored.
 // The result is the stack's new height.
 fn mark_run(words: &[u64], metadata: &[u8], work: &mut [u32], sp: usize, first: usize) -> usize
-    requires { ⌜ (length (now words) ≤ maxInstructions) × (metadataSize * length (now words) ≤ length (now metadata)) × (stackEnd (length (now words)) ≤ length (now work)) × Standing (length (now words)) (following (cellsBy (now words) (now metadata))) (marksOf (length (now words)) (now work)) (stackOf (length (now words)) (now work)) (sp + 1) × (first ≡ getD (now work) (length (now words) + sp) 0) ⌝ }
+    requires { ⌜ (length (now words) < 2 ^ 32) × (metadataSize * length (now words) ≤ length (now metadata)) × (stackEnd (length (now words)) ≤ length (now work)) × Standing (length (now words)) (following (cellsBy (now words) (now metadata))) (marksOf (length (now words)) (now work)) (stackOf (length (now words)) (now work)) (sp + 1) × (first ≡ getD (now work) (length (now words) + sp) 0) ⌝ }
     ensures { λ r. ⌜ Ran (length (now (words .entry))) (following (cellsBy (now (words .entry)) (now (metadata .entry)))) (now (work .entry)) (now (work .exit)) sp r ⌝ }
 {
     let n = words.len();
@@ -115,7 +115,7 @@ fn mark_run(words: &[u64], metadata: &[u8], work: &mut [u32], sp: usize, first: 
 // Marks the places that are reached from place 0. Each is visited once, and has at most four successors. The marks stand first, and
 // the stack after them.
 pub fn mark_reached(words: &[u64], metadata: &[u8], work: &mut [u32])
-    requires { ⌜ (1 ≤ length (now words)) × (length (now words) ≤ maxInstructions) × (metadataSize * length (now words) ≤ length (now metadata)) × (stackEnd (length (now words)) ≤ length (now work)) ⌝ }
+    requires { ⌜ (1 ≤ length (now words)) × (length (now words) < 2 ^ 32) × (metadataSize * length (now words) ≤ length (now metadata)) × (stackEnd (length (now words)) ≤ length (now work)) ⌝ }
     ensures { λ _. ⌜ (midOf 0 (length (now (words .entry))) (now (work .exit)) ≡ reachedPlaces (cellsBy (now (words .entry)) (now (metadata .entry)))) × (now (work .exit) ≡ putMid 0 (stackEnd (length (now (words .entry)))) (now (work .entry)) (midOf 0 (stackEnd (length (now (words .entry)))) (now (work .exit)))) ⌝ }
 {
     let n = words.len();

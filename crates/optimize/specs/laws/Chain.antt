@@ -3,7 +3,7 @@
 use mathlib.Core.Path.{_≡_, refl, sym, ap, _∙_}
 use mathlib.Core.Bool.{true}
 use mathlib.Core.List.{List, _++_}
-use Prim.Native.Nat.{ℕ, _+_, _-_, _*_, _/_, _≤_, _<_}
+use Prim.Native.Nat.{ℕ, _+_, _-_, _*_, _/_, _^_, _≤_, _<_}
 use native.Mathlib.Omega.{arith}
 use lib.ListN.{length, getD, take, drop, length-map}
 use lib.Seq.{take-at}
@@ -184,11 +184,11 @@ module _ (n k : ℕ) (code work64 words : List ℕ) (e : k ≡ n) (room : n ≤ 
 
 module _ (n : ℕ) (code metadata words : List ℕ) (S : Sections) (g : Given n code metadata S) (e : words ≡ wordsIn n code) where
   pub operands-asks : (at room : ℕ) → at ≡ work64Room n (S .locals) - n → work64Room n (S .locals) ≤ room
-      → (n ≤ maxInstructions) × (n ≤ at) × (at + n ≤ room) × (length metadata ≡ metadataSize * n) × (S .locals ≤ maxLocalSlots)
+      → (n < 2 ^ 32) × (n ≤ at) × (at + n ≤ room) × (length metadata ≡ metadataSize * n) × (S .locals ≤ maxLocalSlots)
       × ((k : ℕ) → k < n → goodMetadata (length (S .tables .cases) / caseSize) (metadataAt metadata k) ≡ true)
   operands-asks at room f r =
       let fit = sets-fit n (S .locals) in
-      (g .few, omega arith, omega arith, g .metadata-long, g .slots, g .good)
+      (let few = g .few in omega arith, omega arith, omega arith, g .metadata-long, g .slots, g .good)
 
   pub operands-answer : operandCheck (S .locals) (S .tables) (cellsIn n code metadata) ≡ operandCheck (S .locals) (S .tables) (cellsBy words metadata)
   operands-answer = rw e

@@ -5,7 +5,7 @@
 use mathlib.Core.Path.{_≡_, sym, ap, _∙_}
 use mathlib.Core.Bool.{false}
 use mathlib.Core.List.{List, _++_}
-use Prim.Native.Nat.{ℕ, _+_, _*_, _-_, _≤_, _<_}
+use Prim.Native.Nat.{ℕ, _+_, _*_, _-_, _^_, _≤_, _<_}
 use native.Mathlib.Omega.{arith}
 use native.Mathlib.Nat.{add-zero}
 use lib.ListN.{length, getD, take, drop}
@@ -181,13 +181,13 @@ reach-marks n metadata words work32 marks r room size long m e =
 -- ---- `number`
 pub leaders-asks : {n s at count : ℕ} (work32 : List ℕ) {work64 : List ℕ} → Numberable n s (length work32) work64 → ListedControls n s at count work64 → (k j m : ℕ) → k ≡ n → j ≡ n → m ≡ count
     → (1 ≤ length (midOf 0 k work64))
-    × (length (midOf 0 k work64) ≤ maxInstructions)
+    × (length (midOf 0 k work64) < 2 ^ 32)
     × (length (midOf 0 j work32) ≡ length (midOf 0 k work64))
     × Controls (midOf 0 k work64) (midOf at m work64) (length (midOf 0 k work64))
 leaders-asks {n = n} work32 {work64 = work64} d l k j m e f g =
     let size : length (midOf 0 n work64) ≡ n = mid-long work64 0 n (omega (arith, l .values, l .within)) in
     let marks : length (midOf 0 n work32) ≡ n = mid-long work32 0 n (omega (arith, d .long32)) in
-    (rw (e, size) (omega (arith, d .some)), rw (e, size) (d .few), rw (e, f, size) marks, list-lent l k m e g)
+    (rw (e, size) (omega (arith, d .some)), rw (e, size) (omega (arith, d .few)), rw (e, f, size) marks, list-lent l k m e g)
 
 module _ (n k s at count l : ℕ) (work32 work64 leads : List ℕ) (e : k ≡ n) (f : l ≡ at) (size : length leads ≡ k) (d : Numberable n s (length work32) work64) (c : ListedControls n s at count work64) where
   -- the part of the 64-bit work before the list of the control places

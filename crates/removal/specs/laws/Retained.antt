@@ -2,7 +2,7 @@
 -- Assumes nothing.
 use mathlib.Core.Path.{_≡_, refl, sym, ap, _∙_}
 use mathlib.Core.List.{List, [], _∷_, _++_}
-use Prim.Native.Nat.{ℕ, _+_, _*_, _-_, _≤_}
+use Prim.Native.Nat.{ℕ, _+_, _*_, _-_, _^_, _≤_, _<_}
 use native.Mathlib.Nat.{zero-add}
 use native.Mathlib.Omega.{arith}
 use lib.ListN.{length, set, replicate, length-set, length-replicate}
@@ -10,7 +10,7 @@ use borrow.Rule.Slice.PartMut.{midOf, putMid, postOf}
 use Rattle.words.specs.laws.Only.{mid-mid, back-within, back-before, back-after}
 use Rattle.words.specs.laws.Regions.{mid-long, put-long, mid-put}
 use Rattle.unit.specs.laws.Region.{startsAt, keepAt, loopEndsIn, listIn}
-use Rattle.unit.specs.Size.{setsRoom, maxInstructions}
+use Rattle.unit.specs.Size.{setsRoom}
 use Rattle.effects.specs.Shape.{Tables, Cell, tablesOf}
 use Rattle.effects.specs.laws.Cells.{cellsBy, cells-long}
 use Rattle.flow.specs.laws.Blocks.{Numbered, numbered-start}
@@ -66,8 +66,8 @@ module _ (T : Tables) (n : ℕ) (words metadata types work32 : List ℕ) (room64
   front-part : (b i : ℕ) → b + i ≤ keepAt n → midOf b i (midOf 0 (keepAt n) work32) ≡ midOf b i work32
   front-part b i h = mid-mid work32 0 (keepAt n) b i (omega (arith, room)) h ∙ ap (λ (m : ℕ). midOf m i work32) (zero-add b)
 
-  pub blocks-asks : (k : ℕ) → k ≡ keepAt n → Flags (midOf 0 n (midOf 0 k work32)) × Marked (midOf 0 n (midOf 0 k work32)) 0 × (n ≤ maxInstructions) × (keepAt n ≤ length (midOf 0 k work32))
-  blocks-asks k e = rw (e, front-part 0 n (omega arith), front-long) (d .flags, d .one, d .few, omega arith)
+  pub blocks-asks : (k : ℕ) → k ≡ keepAt n → Flags (midOf 0 n (midOf 0 k work32)) × Marked (midOf 0 n (midOf 0 k work32)) 0 × (n < 2 ^ 32) × (keepAt n ≤ length (midOf 0 k work32))
+  blocks-asks k e = rw (e, front-part 0 n (omega arith), front-long) (d .flags, d .one, omega (arith, d .few), omega arith)
 
   -- what the numbering of blocks left
   module _ (count : ℕ) (blocked : List ℕ) (size : length blocked ≡ keepAt n)
