@@ -43,6 +43,7 @@ use Rattle.run.specs.laws.Valuation.{Below, integer, float}
 use Rattle.run.specs.laws.RelocatedRun.{pick}
 use Rattle.run.specs.laws.Checked.{Well}
 use Rattle.run.specs.laws.Passed.{Good, worked-size, optimized-runs, pass-worked, pass-runs}
+use Rattle.run.specs.laws.Runnable.{Runnable}
 use Rattle.run.specs.laws.Reading.{AllFit, noRetained, result-back}
 use Rattle.lines.specs.laws.Below.{Rising}
 use Rattle.run.specs.laws.MovedLines.{inside, places-long, placed-places, placed-at, placed-rising, lines-placed}
@@ -255,6 +256,11 @@ pass-places u l lines out b = go (passAnswer u l) refl
 pub pass-preserves : (u : List ℕ) (l : Lent) (lines : List Line) (out : List ℕ) → Bytes u → PreservesRuns u (passAnswer u l) (outputAfter (passAnswer u l) lines out)
 pass-preserves u l lines out b = places-preserve u (passAnswer u l) _ (pass-places u l lines out b)
 
+-- What one pass retains can be run.
+pub pass-runnable : (u : List ℕ) (l : Lent) (kept : List Retained) → Bytes u → passAnswer u l ≡ rewritten kept → Runnable (resultFunction (sectionsOf u) kept)
+unfolding passAnswer givenFunction
+pass-runnable u l kept b e = answer-returnable u b (roomFor (headerOf u .counts) l) kept e .good .runs
+
 -- ---- cleaning
 
 -- old places are no part of the code
@@ -292,6 +298,7 @@ module _ (F : Function) (cases : ℕ) where
           opcodes = placed-opcodes before kept again rise (g .places .opcodes) (h .places .opcodes);
         };
         well = rw (placed-function (F .sections) before kept) (h .well);
+        runs = rw (placed-function (F .sections) before kept) (h .runs);
       }
 
   -- a pass more
@@ -400,3 +407,9 @@ clean-places u l first second lines out b = go (answerWith room u) refl
 pub clean-preserves : (u : List ℕ) (l : Lent) (first second : ℕ) (lines : List Line) (out : List ℕ) → Bytes u
     → PreservesRuns u (cleanAnswer u l first second .outcome) (outputAfter (cleanAnswer u l first second .outcome) lines out)
 clean-preserves u l first second lines out b = places-preserve u (cleanAnswer u l first second .outcome) _ (clean-places u l first second lines out b)
+
+-- What cleaning retains can be run.
+pub clean-runnable : (u : List ℕ) (l : Lent) (first second : ℕ) (kept : List Retained) → Bytes u → cleanAnswer u l first second .outcome ≡ rewritten kept
+    → Runnable (resultFunction (sectionsOf u) kept)
+unfolding givenFunction
+clean-runnable u l first second kept b e = clean-kept u b l first second kept e .1 .good .runs

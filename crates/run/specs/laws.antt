@@ -2,6 +2,7 @@ pub mod System
 pub mod Machine
 pub mod Visits
 pub mod Simulation
+pub mod Invariant
 pub mod LockStep
 pub mod Removal
 pub mod Gives
@@ -10,6 +11,7 @@ pub mod Valuation
 pub mod Justified
 pub mod Small
 pub mod Numbering
+pub mod Runnable
 pub mod Step
 pub mod Numbered
 pub mod RetainedCells

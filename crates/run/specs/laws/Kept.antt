@@ -36,6 +36,7 @@ use Rattle.liveness.specs.laws.Unread.{pure-inside}
 use Rattle.answer.specs.Jump.{jumpRounds}
 use Rattle.answer.specs.Pass.{usefulPlaces, keptPlaces}
 use Rattle.lines.specs.Lines.{placesOf}
+use Rattle.unit.specs.Result.{Retained}
 use Rattle.run.specs.Visits.{notedAt, SameVisits}
 use Rattle.run.specs.Program.{Function, givenRanges, slotsOf, programOf}
 use Rattle.run.specs.Returned.{resultFunction}
@@ -44,11 +45,12 @@ use Rattle.words.specs.laws.Truth.{left-true, right-true}
 use Rattle.run.specs.laws.Step.{Succ, next, branch}
 use Rattle.run.specs.laws.Frame.{In, slots-any, slots-within, any-left}
 use Rattle.run.specs.laws.Jumps.{rounds-fewer}
-use Rattle.run.specs.laws.Removed.{passes, passing-falls, Dropped, store, Removable, removed}
+use Rattle.run.specs.laws.Removed.{passes, passing-falls, Dropped, store, Removable, removed, removed-runnable}
+use Rattle.run.specs.laws.Runnable.{Runnable}
 use Rattle.run.specs.laws.Solved.{solved, solve-long}
 use Rattle.run.specs.laws.RowBits.{solve-wide}
 use Rattle.run.specs.laws.Alive.{flow-gone, flow-kept, flow-reads, before, after, dead, stays, Analysed, before-flow, out, stays-at}
-use Rattle.run.specs.laws.Optimized.{Removing, not-useful, plain-class, hint-gives, inner, skipped, removable, plain-removable}
+use Rattle.run.specs.laws.Optimized.{Removing, not-useful, plain-class, hint-gives, reach-invariant, inner, skipped, removable, plain-removable}
 
 -- ---- a dead store's slots are not live
 
@@ -264,13 +266,23 @@ module _ (G : Function) (leaders : List ℕ) (N : Removing G leaders) where
     live-removable : Removable G final Reach Live
     live-removable = removable G leaders N keep keep-flags keep-long Live reads-live (λ p h r e q g s v w. passes-on p h q g s v w) drops-live
 
-  -- the places that the pass keeps, relocated, run as all of them do
-  pub kept-visits : let kept = retainFrom (keptPlaces S leaders marks code) 0 code in SameVisits (programOf G) (programOf (resultFunction S kept)) (notedAt (placesOf kept))
+  abbrev kept : List Retained
+  kept = retainFrom (keptPlaces S leaders marks code) 0 code
+
+  -- the conditions hold of the places that the pass keeps, whether it drops dead stores or skips them
+  kept-removable : (live : ℕ → ℕ → Type 0) × Removable G (keptPlaces S leaders marks code) Reach live
   unfolding keptPlaces deadStores withoutDead
-  kept-visits = go (liveRows S leaders useful code) refl
+  kept-removable = go (liveRows S leaders useful code) refl
     where
       go : (o : Option (List Row)) → liveRows S leaders useful code ≡ o
-          → let kept = retainFrom (jumpRounds 16 (anchors marks code) code (withoutDead S leaders useful code (liveRows S leaders useful code))) 0 code in
-          SameVisits (programOf G) (programOf (resultFunction S kept)) (notedAt (placesOf kept))
-      go none e = rw e (removed G _ Reach _ (plain-removable G leaders N))
-      go (some rows) e = rw e (removed G _ Reach _ (live-removable rows e))
+          → (live : ℕ → ℕ → Type 0) × Removable G (jumpRounds 16 (anchors marks code) code (withoutDead S leaders useful code o)) Reach live
+      go none e = (_, plain-removable G leaders N)
+      go (some rows) e = (_, live-removable rows e)
+
+  -- the places that the pass keeps, relocated, run as all of them do
+  pub kept-visits : SameVisits (programOf G) (programOf (resultFunction S kept)) (notedAt (placesOf kept))
+  kept-visits = removed G _ Reach _ (kept-removable .1) (reach-invariant G leaders N) (λ W p σ r. r)
+
+  -- and can be run
+  pub kept-runnable : Runnable (resultFunction S kept)
+  kept-runnable = removed-runnable G _ Reach _ (kept-removable .1)

@@ -10,6 +10,7 @@ use native.Mathlib.Omega.{arith}
 use lib.Dec.{eqb}
 use lib.ListN.{length, getD}
 use borrow.Author.Tests.{eq-eqb}
+use Rattle.instruction.specs.declared.Instruction.{Instruction}
 use Rattle.instruction.specs.Instruction.{class}
 use Rattle.instruction.specs.laws.Instruction.{Fields}
 use Rattle.unit.specs.Entry.{constantAt}
@@ -19,15 +20,15 @@ use Rattle.flow.specs.Branch.{falls, branches, target}
 use Rattle.values.specs.declared.Atom.{Atom}
 use Rattle.values.specs.Values.{Values, empty}
 use Rattle.values.specs.Number.{Numbered, constantAtom, number, numberFrom, numberFromWith, numberCode, numberCodeWith}
-use Rattle.run.specs.Machine.{Words, Event, World, Reply, words, finish, at, put, Act, silent, ask, stop, fail, Node, goto, answered, perform, step}
+use Rattle.run.specs.Machine.{Words, Event, World, finish, at, put, step}
 use Rattle.run.specs.Visits.{SameVisits}
-use Rattle.run.specs.laws.LockStep.{Holds, held, past, Lock, lock-step}
-use Rattle.run.specs.laws.Removal.{Goes, silently, asked}
+use Rattle.run.specs.laws.Invariant.{Holds, held, Invariant}
+use Rattle.run.specs.laws.LockStep.{Lock, lock-step}
 use Rattle.run.specs.Program.{Function, programOf, nodeBy, classIn, hasMeaning}
 use Rattle.run.specs.laws.Valuation.{Valuation, Below, Static, static-empty, Valid, valid-empty}
 use Rattle.run.specs.laws.Justified.{Justified, rewrite, oneSlot, doAt, Meant, meant, justified-meant, justified-same}
 use Rattle.run.specs.laws.Numbering.{After, blank, leads, ends, sets, Sound, number-sound}
-use Rattle.run.specs.laws.Step.{Succ, next, branch, goes-succ, step-do}
+use Rattle.run.specs.laws.Step.{Succ, next, branch, holds-succ, step-do}
 
 -- ---- the table before each place
 
@@ -61,6 +62,10 @@ module _ (S : Sections) (leaders : List ℕ) where
   unfolding numberFromWith
   length-numbered [] p t = refl
   length-numbered (x ∷ xs) p t = ap suc (length-numbered xs (suc p) _)
+
+-- the function with other cells
+abbrev pub withCells : Function → List Cell → Function
+withCells F code = record { cells = code; described = F .described; sections = F .sections }
 
 -- A world that answers nothing.
 mute : World
@@ -96,7 +101,7 @@ module _ (F : Function) (leaders : List ℕ) (N : Numberable F leaders) where
   result p = number S p (cell p .instruction) (table p)
 
   unfoldable pub numberedFunction : Function
-  numberedFunction = record { cells = numberCode S leaders (F .cells); described = F .described; sections = S }
+  numberedFunction = withCells F (numberCode S leaders (F .cells))
 
   pub numbered-at : (p : ℕ) → p < length (F .cells) → cellAt (numberedFunction .cells) p ≡ rewrite (cell p) (result p .instruction)
   unfolding numberedFunction numberCodeWith
@@ -147,34 +152,17 @@ module _ (F : Function) (leaders : List ℕ) (N : Numberable F leaders) where
         go false s = s
 
     -- what holds of the run before a place inside
-    abbrev Inv : ℕ → Words → Type 0
+    abbrev pub Inv : ℕ → Words → Type 0
     Inv q σ = q < length (F .cells) → (ρ : Valuation) × Valid W ρ (table q) σ
 
     inv-empty : (q : ℕ) (σ : Words) → (q < length (F .cells) → table q ≡ empty) → Inv q σ
     inv-empty q σ e h = rw (e h) (_, valid-empty σ)
 
-    holds-answered : (M : Node) (p : ℕ) (σ : Words) (R : List Event) (r : Reply) → ((j : Bool) → goto M p j < length (F .cells) → table (goto M p j) ≡ empty)
-        → Holds Inv (answered M p σ R r)
-    unfolding answered
-    holds-answered M p σ R (words w stored j) f = held (inv-empty _ _ (f j))
-    holds-answered M p σ R finish f = past
-
-    holds-perform : (M : Node) (p : ℕ) (σ : Words) (R : List Event) (A : Act) → ((j : Bool) → Goes A j → goto M p j < length (F .cells) → table (goto M p j) ≡ empty)
-        → Holds Inv (perform W M p σ R A)
-    unfolding perform
-    holds-perform M p σ R (silent w j) f = held (inv-empty _ _ (f j silently))
-    holds-perform M p σ R (ask e) f = holds-answered M p σ (e ∷ R) (W .reply (e ∷ R)) (λ j. f j asked)
-    holds-perform M p σ R (stop e w) f = past
-    holds-perform M p σ R fail f = past
-
     -- a step after which nothing is known, wherever it goes
     holds-empty : (p : ℕ) (σ : Words) (R : List Event) → p < length (F .cells)
         → ((q : ℕ) → Succ (class (cell p .instruction)) p (cell p .instruction) q → q < length (F .cells) → table q ≡ empty)
         → Holds Inv (doAt F W p σ R (cell p))
-    unfolding doAt
-    holds-empty p σ R h f =
-        rw (meant F W p σ R (cell p) (meant-at p σ R h))
-        (holds-perform _ p σ R _ (λ j g. f _ (goes-succ F W (class (cell p .instruction)) p (cell p) σ j g)))
+    holds-empty p σ R h f = holds-succ Inv F W p σ R (cell p) (meant F W p σ R (cell p) (meant-at p σ R h)) (λ q s τ. inv-empty q τ (f q s))
 
     to-branch : (p : ℕ) → p < length (F .cells) → (q : ℕ) → Succ (class (cell p .instruction)) p (cell p .instruction) q → q < length (F .cells)
         → (falls (class (cell p .instruction)) ≡ true → suc p < length (F .cells) → table (suc p) ≡ empty) → table q ≡ empty
@@ -196,39 +184,62 @@ module _ (F : Function) (leaders : List ℕ) (N : Numberable F leaders) where
         go true = (_, valid-empty _)
         go false = (ρ, v)
 
-    -- a cell does the same in both functions: they differ in their cells alone
-    do-numbered : (p : ℕ) (σ : Words) (R : List Event) (y : Cell) → doAt numberedFunction W p σ R y ≡ doAt F W p σ R y
-    unfolding numberedFunction doAt classIn hasMeaning nodeBy
-    do-numbered p σ R y = refl
+  -- the table before a place is true whenever the run comes there
+  pub invariant : (W : World) → Invariant W (programOf F W) (Inv W)
+  unfolding programOf
+  invariant W = record {
+    first = λ σ. inv-empty W 0 σ (λ h. table-first);
+    keeps = λ p σ R h i. rw (step-do F W p σ R h) (after-holds W p σ R h (sound-at W p σ R h (static-at W p h) .after (i h .0) (i h .1)));
+  }
 
-    step-numbered : (p : ℕ) (σ : Words) (R : List Event) → p < length (F .cells) → Inv p σ
-        → step W (programOf numberedFunction W) (at p σ R) ≡ step W (programOf F W) (at p σ R)
-    step-numbered p σ R h i =
-        let s = sound-at p σ R h (static-at p h) in
-        let j : Justified S (table p) (cell p .instruction) (result p .instruction) = s .justified in
-        let m = justified-meant F W p σ R (N .locals) (cell p) (meant-at p σ R h) (table p) _ j in
-        let inside : p < length (numberedFunction .cells) = rw numbered-long h in
-        step-do numberedFunction W p σ R inside
-        ∙ do-numbered p σ R _
-        ∙ rw (numbered-at p h) (justified-same F W p σ R (i h .0) (table p) (i h .1) (cell p) (meant-at p σ R h) _ j m)
-        ∙ sym (step-do F W p σ R h)
+  -- Code of the same length each of whose instructions is justified by the table before its place.
+  pub record JustifiedCode (code : List Cell) : Type 0 where
+    pub long : length code ≡ length (F .cells)
+    pub instruction : ℕ → Instruction
+    pub cells : (p : ℕ) → p < length (F .cells) → cellAt code p ≡ rewrite (cell p) (instruction p)
+    pub justified : (p : ℕ) → p < length (F .cells) → Justified S (table p) (cell p .instruction) (instruction p)
 
-    lock : Lock W (programOf F W) (programOf numberedFunction W) Inv
-    unfolding programOf
-    lock = record {
-      size= = numbered-long;
-      step= = step-numbered;
-      keeps = λ p σ R h i.
-          rw (step-do F W p σ R h) (after-holds p σ R h (sound-at p σ R h (static-at p h) .after (i h .0) (i h .1)));
-    }
+  module _ {code : List Cell} (J : JustifiedCode code) where
+    module _ (W : World) where
+      -- a cell does the same in both functions: they differ in their cells alone
+      do-same : (p : ℕ) (σ : Words) (R : List Event) (y : Cell) → doAt (withCells F code) W p σ R y ≡ doAt F W p σ R y
+      unfolding doAt classIn hasMeaning nodeBy
+      do-same p σ R y = refl
 
-  -- each instruction of the numbered function is a justified one, and its operands are not refused either; no world matters
+      pub step-same : (p : ℕ) (σ : Words) (R : List Event) → p < length (F .cells) → Inv W p σ
+          → step W (programOf (withCells F code) W) (at p σ R) ≡ step W (programOf F W) (at p σ R)
+      step-same p σ R h i =
+          let j = J .justified p h in
+          let m = justified-meant F W p σ R (N .locals) (cell p) (meant-at W p σ R h) (table p) _ j in
+          let inside : p < length code = rw (J .long) h in
+          step-do (withCells F code) W p σ R inside
+          ∙ do-same p σ R _
+          ∙ rw (J .cells p h) (justified-same F W p σ R (i h .0) (table p) (i h .1) (cell p) (meant-at W p σ R h) _ j m)
+          ∙ sym (step-do F W p σ R h)
+
+      lock : Lock W (programOf F W) (programOf (withCells F code) W) (Inv W)
+      unfolding programOf
+      lock = record { size= = J .long; step= = step-same; invariant = invariant W }
+
+    -- it runs as the function does, by the same places
+    pub justified-visits : SameVisits (programOf F) (programOf (withCells F code)) (λ f. f)
+    justified-visits = record { visits = λ W σ f. lock-step (lock W) f σ }
+
+    -- and its operands are not refused either; no world matters
+    pub justified-operands : (p : ℕ) → p < length (F .cells) → operandRefusal (S .locals) (S .tables) (cellAt code p) ≡ 0
+    justified-operands p h =
+        rw (J .cells p h) (justified-meant F mute p (λ t. 0) [] (N .locals) (cell p) (meant-at mute p (λ t. 0) [] h) (table p) _ (J .justified p h) .1)
+
+  -- the numbered code is such code
   pub numbered-justified : (p : ℕ) → p < length (F .cells) → Justified S (table p) (cell p .instruction) (result p .instruction)
   numbered-justified p h = sound-at mute p (λ t. 0) [] h (static-at mute p h) .justified
 
+  pub numbered-code : JustifiedCode (numberedFunction .cells)
+  numbered-code = record { long = numbered-long; instruction = λ p. result p .instruction; cells = numbered-at; justified = numbered-justified }
+
   pub numbered-operands : (p : ℕ) → p < length (F .cells) → operandRefusal (S .locals) (S .tables) (cellAt (numberedFunction .cells) p) ≡ 0
-  numbered-operands p h =
-      rw (numbered-at p h) (justified-meant F mute p (λ t. 0) [] (N .locals) (cell p) (meant-at mute p (λ t. 0) [] h) (table p) _ (numbered-justified p h) .1)
+  numbered-operands = justified-operands numbered-code
 
   pub numbering : SameVisits (programOf F) (programOf numberedFunction) (λ f. f)
-  numbering = record { visits = λ W σ f. lock-step (lock W) f σ (inv-empty W 0 σ (λ h. table-first)) }
+  unfolding numberedFunction
+  numbering = justified-visits numbered-code

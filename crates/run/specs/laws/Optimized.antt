@@ -34,11 +34,14 @@ use Rattle.pc_map.specs.laws.Moved.{target-moves}
 use Rattle.liveness.specs.Live.{isLast}
 use Rattle.answer.specs.Jump.{jumpRounds}
 use Rattle.answer.specs.Pass.{usefulPlaces}
-use Rattle.run.specs.Program.{Function, givenRanges, slotsOf}
+use Rattle.run.specs.Machine.{World}
+use Rattle.run.specs.Program.{Function, givenRanges, slotsOf, programOf}
 use Rattle.run.specs.laws.Frame.{In}
 use Rattle.run.specs.laws.Gives.{given-by-class}
 use Rattle.words.specs.laws.Truth.{left-true}
-use Rattle.run.specs.laws.Step.{Succ, next, branch}
+use Rattle.run.specs.laws.Invariant.{Invariant}
+use Rattle.run.specs.laws.Runnable.{Runnable}
+use Rattle.run.specs.laws.Step.{Succ, next, branch, closed-invariant}
 use Rattle.run.specs.laws.RelocatedRun.{relocated-op}
 use Rattle.run.specs.laws.Jumps.{Skips, rounds-long, rounds-flags, rounds-why}
 use Rattle.run.specs.laws.Removed.{passes, Dropped, store, skip, Removable}
@@ -156,6 +159,13 @@ module _ (G : Function) (leaders : List ℕ) (N : Removing G leaders) where
   onward p h r q (next f) = (h, λ l. places-next code p h (r .1 h) f l)
   onward p h r q (branch f) = (target-le p h, λ l. places-target code p h (r .1 h) f l)
 
+  runnable : Runnable G
+  runnable = record { described = N .described; operands = N .operands; targets = λ p h b. target-le p h }
+
+  -- no step leaves the places that matter
+  pub reach-invariant : (W : World) → Invariant W (programOf G W) (λ p σ. Reach p)
+  reach-invariant = closed-invariant G Reach runnable (omega arith, λ h. places-zero code (N .some-code)) onward
+
   -- a block's inner places do not branch
   pub inner : (p : ℕ) → p < n → isLast n leaders p ≡ false → branches (class (cell p .instruction)) ≡ false
   inner p h e = go (branches (class (cell p .instruction))) refl
@@ -239,14 +249,11 @@ module _ (G : Function) (leaders : List ℕ) (N : Removing G leaders) where
         (drops : (p : ℕ) → p < n → Reach p → isKept final p ≡ false → Dropped G final Reach live p) where
       pub removable : Removable G final Reach live
       removable = record {
-        described = N .described;
+        runs = runnable;
         flags = final-flags;
         long = final-long;
-        operands = N .operands;
         moved = moved;
-        first = (omega arith, λ h. places-zero code (N .some-code));
         within = λ p r. r .0;
-        onward = onward;
         reads = reads;
         flows = flows;
         drops = drops;

@@ -32,13 +32,15 @@ use Rattle.run.specs.Program.{Function}
 use Rattle.run.specs.Returned.{resultFunction}
 use Rattle.words.specs.laws.Truth.{left-true, right-true}
 use Rattle.run.specs.laws.Numbered.{Numberable, numberedFunction, numbered-long, numbered-at, table, numbering}
-use Rattle.run.specs.laws.Kept.{kept-visits}
+use Rattle.run.specs.laws.Kept.{kept-visits, kept-runnable}
+use Rattle.run.specs.laws.Runnable.{Runnable}
 use Rattle.run.specs.laws.Checked.{Well, numberable, removing, numbered-fields, retained-fields}
 
--- What a pass says that it rewrote runs as it did, by the same places, and may be given to the next pass.
+-- What a pass says that it rewrote runs as it did, by the same places, may be given to the next pass, and can be run.
 pub record Good (F : Function) (kept : List Retained) : Type 0 where
   pub places : SamePlaces F kept
   pub well : Well (resultFunction (F .sections) kept)
+  pub runs : Runnable (resultFunction (F .sections) kept)
 
 -- a check that is followed by a rewriting passed
 passed-check : (c : Check) (rest : Outcome) (kept : List Retained) → checked c rest ≡ rewritten kept → (c ≡ Passed) × (rest ≡ rewritten kept)
@@ -104,6 +106,7 @@ module _ (F : Function) (w : Well F) (worked : isWorkedOn (length (F .cells)) �
           fields = retained-fields keep code 0 (numbered-fields F w some-code few o b);
           constants = w .constants;
         };
+        runs = kept-runnable _ (leaders cells) (removing F w some-code few o b);
       }
 
   -- what a rewriting went through

@@ -1,37 +1,38 @@
 -- Removal over lists of cells: conditions on kept places and live slots, apart from how a pass finds them, under which the kept
 -- cells, relocated, run as all of them do.
 -- Assumes nothing.
-use mathlib.Core.Path.{_≡_, refl, sym, _∙_}
+use mathlib.Core.Path.{_≡_, refl, sym, ap, _∙_}
 use mathlib.Core.Logic.{_⊎_, inl, inr}
 use mathlib.Core.Bool.{Bool, true, false, false≢true}
 use mathlib.Core.List.{List, []}
 use Prim.Native.Nat.{ℕ, suc, _≤_, _<_}
 use native.Mathlib.Omega.{arith}
 use lib.ListN.{length, length-map}
-use borrow.Author.Tests.{lt-ltb, eq-eqb}
 use Rattle.instruction.specs.declared.Class.{Class}
 use Rattle.instruction.specs.declared.Class.the-variants.{Hint, LoadInt, LoadConst, Copy, CopyN, Unary, Binary, Jump, JumpIf, JumpIfNot, ForLoop, Return, Panic, Outside, Invalid}
+use Rattle.instruction.specs.Class.{classOf}
 use Rattle.instruction.specs.Instruction.{class}
 use Rattle.effects.specs.Shape.{Tables, Cell, cellAt}
 use Rattle.effects.specs.Effects.{allReads, rangeHas, anyOf}
-use Rattle.effects.specs.Check.{operandRefusal}
 use Rattle.flow.specs.Branch.{falls, branches, targetBy, target}
 use Rattle.flow.specs.laws.Flags.{Flags}
 use Rattle.pc_map.specs.Boundary.{isKept, boundary}
-use Rattle.pc_map.specs.laws.Boundaries.{boundary-zero, boundary-kept, boundary-dropped}
+use Rattle.pc_map.specs.laws.Boundaries.{boundary-zero, boundary-kept, boundary-dropped, boundary-mono}
 use Rattle.pc_map.specs.Relocate.{relocate, retainFrom}
-use Rattle.answer.specs.Clean.{retainedCell, cellsAfter}
+use Rattle.answer.specs.Clean.{retainedCell}
 use Rattle.run.specs.Machine.{Words, World, silent, goto}
+use Rattle.run.specs.laws.Invariant.{Invariant}
 use Rattle.run.specs.Visits.{notedAt, SameVisits}
 use Rattle.run.specs.laws.Visits.{noted-kept, noted-dropped}
 use Rattle.lines.specs.Lines.{placesOf}
 use Rattle.run.specs.laws.Removal.{Kept, Gone, Removal, removal}
-use Rattle.run.specs.Program.{Function, hasMeaning, classIn, nodeBy, actBy, givenRanges, perhapsSlots, slotsOf, programOf}
+use Rattle.run.specs.Program.{Function, classIn, nodeBy, actBy, givenRanges, perhapsSlots, slotsOf, programOf}
 use Rattle.run.specs.Returned.{resultFunction}
 use Rattle.run.specs.laws.Gives.{jump-gives}
-use Rattle.run.specs.laws.Step.{Succ, next, branch, goes-succ}
+use Rattle.run.specs.laws.Step.{Succ, goes-succ}
 use Rattle.run.specs.laws.Frame.{In, frame}
-use Rattle.run.specs.laws.RetainedCells.{kept-at, kept-long, kept-inside}
+use Rattle.run.specs.laws.RetainedCells.{kept-at, kept-long, kept-inside, kept-of}
+use Rattle.run.specs.laws.Runnable.{Runnable, runnable-class}
 use Rattle.run.specs.laws.RelocatedRun.{relocated-op, relocated-refusal, relocated-writes, relocated-act}
 
 -- a silent class that does not branch
@@ -91,18 +92,15 @@ module _ (F : Function) (keep : List ℕ) (reach : ℕ → Type 0) (live : ℕ �
     skip : classAt p ≡ Jump → p < targetBy Jump p (cell p .instruction) → boundary keep (targetBy Jump p (cell p .instruction)) ≡ boundary keep p
         → ((s : ℕ) → live (targetBy Jump p (cell p .instruction)) s → live p s) → Dropped p
 
-  -- What must hold of kept places and live slots, over a set of places that the run does not leave.
+  -- What must hold of kept places and live slots, at the reached places.
   pub record Removable : Type 0 where
-    pub described : length (F .cells) ≤ F .described
+    pub runs : Runnable F
     pub flags : Flags keep
     pub long : length (F .cells) ≡ length keep
-    pub operands : (p : ℕ) → p < length (F .cells) → operandRefusal (F .sections .locals) T (cell p) ≡ 0
     -- a kept branch goes to the boundary of its target
     pub moved : (p : ℕ) → p < length (F .cells) → isKept keep p ≡ true
         → targetBy (classAt p) (boundary keep p) (relocate keep p (cell p) .instruction) ≡ boundary keep (target p (cell p .instruction))
-    pub first : reach 0
     pub within : (p : ℕ) → reach p → p ≤ length (F .cells)
-    pub onward : (p : ℕ) → p < length (F .cells) → reach p → (q : ℕ) → Succ (classAt p) p (cell p .instruction) q → reach q
     pub reads : (p : ℕ) → p < length (F .cells) → reach p → isKept keep p ≡ true → (s : ℕ) → In s (slotsOf (allReads T (cell p))) → live p s
     pub flows : (p : ℕ) → p < length (F .cells) → reach p → isKept keep p ≡ true → (q : ℕ) → Succ (classAt p) p (cell p .instruction) q
         → (s : ℕ) → live q s → gives p s ≡ false → live p s
@@ -120,20 +118,33 @@ module _ (F : Function) (keep : List ℕ) (reach : ℕ → Type 0) (live : ℕ �
     unfolding resultFunction
     inside p h e = kept-inside keep (A .flags) (F .cells) (A .long) p h e
 
+    same-class : (p : ℕ) → class (relocate keep p (cell p) .instruction) ≡ classAt p
+    same-class p = ap classOf (relocated-op keep p (cell p) (classAt p))
+
+    -- What is retained can be run.
+    pub removed-runnable : Runnable F′
+    unfolding resultFunction
+    removed-runnable = record {
+      described = rw (length-map (retainFrom keep 0 (F .cells)) retainedCell) (omega arith);
+      operands = λ q h.
+          let (p, l, k, e) = kept-of keep (A .flags) (F .cells) (A .long) q h in
+          rw (← e, moved-cell p l k) (relocated-refusal keep p (cell p) T (F .sections .locals) (classAt p) refl ∙ A .runs .operands p l);
+      targets = λ q h b.
+          let (p, l, k, e) = kept-of keep (A .flags) (F .cells) (A .long) q h in
+          let branching : branches (classAt p) ≡ true = rw (← e, moved-cell p l k, same-class p) at b in
+          let up = boundary-mono keep (target p (cell p .instruction)) (length (F .cells)) (A .runs .targets p l branching) in
+          rw (← e, moved-cell p l k, same-class p, A .moved p l k, kept-long keep (A .flags) (F .cells) (A .long)) up;
+    }
+
     -- both cells have a meaning, and one class
     class-given : (p : ℕ) → p < length (F .cells) → classIn F p (cell p) ≡ classAt p
-    unfolding classIn hasMeaning
-    class-given p h = let d = A .described in rw (lt-ltb p (F .described) (omega arith), eq-eqb (operandRefusal (F .sections .locals) T (cell p)) 0 (A .operands p h))
+    class-given = runnable-class (A .runs)
 
     class-moved : (p : ℕ) → p < length (F .cells) → isKept keep p ≡ true → classIn F′ (boundary keep p) (relocate keep p (cell p)) ≡ classAt p
-    unfolding classIn hasMeaning resultFunction
     class-moved p h e =
-        let l : boundary keep p < length (retainFrom keep 0 (F .cells)) = rw kept-count at (inside p h e) in
-        let z : operandRefusal (F .sections .locals) T (relocate keep p (cell p)) ≡ 0 = relocated-refusal keep p (cell p) T (F .sections .locals) (classAt p) refl ∙ A .operands p h in
-        rw (lt-ltb (boundary keep p) (length (retainFrom keep 0 (F .cells))) l, eq-eqb (operandRefusal (F .sections .locals) T (relocate keep p (cell p))) 0 z, relocated-op keep p (cell p) (classAt p))
-      where
-        kept-count : length (cellsAfter (retainFrom keep 0 (F .cells))) ≡ length (retainFrom keep 0 (F .cells))
-        kept-count = length-map (retainFrom keep 0 (F .cells)) retainedCell
+        let here : classIn F′ (boundary keep p) (relocate keep p (cell p)) ≡ class (relocate keep p (cell p) .instruction) =
+        rw (moved-cell p h e) at (runnable-class removed-runnable (boundary keep p) (inside p h e)) in
+        here ∙ same-class p
 
     module _ (W : World) where
       goto-moved : (p : ℕ) → p < length (F .cells) → isKept keep p ≡ true → (j : Bool)
@@ -142,18 +153,17 @@ module _ (F : Function) (keep : List ℕ) (reach : ℕ → Type 0) (live : ℕ �
       goto-moved p h e true = rw (moved-cell p h e, class-moved p h e, class-given p h) (A .moved p h e)
       goto-moved p h e false = sym (boundary-kept keep p (rw (← A .long) h) e)
 
-      kept-place : (p : ℕ) → p < length (F .cells) → reach p → isKept keep p ≡ true → Kept reach live (boundary keep) (programOf F W) (programOf F′ W) p
+      kept-place : (p : ℕ) (σ : Words) → p < length (F .cells) → reach p → isKept keep p ≡ true → Kept live (boundary keep) (programOf F W) (programOf F′ W) p σ
       unfolding programOf nodeBy perhapsSlots resultFunction
-      kept-place p h r e = record {
+      kept-place p σ h r e = record {
         inside = inside p h e;
-        acts = λ σ σ′ ag.
+        acts = λ σ′ ag.
             rw (moved-cell p h e, class-moved p h e, class-given p h, relocated-act keep p (cell p) (F .sections) W σ′ (classAt p) refl)
             (frame (F .sections) W (cell p) σ σ′ (classAt p) refl (λ s i. ag s (A .reads p h r e s i)));
         gives= = λ s. rw (moved-cell p h e, relocated-writes keep p (cell p) T (classAt p) refl .given);
         perhaps= = rw (moved-cell p h e, relocated-writes keep p (cell p) T (classAt p) refl .perhaps);
         goto= = goto-moved p h e;
-        reach+ = λ σ j g. A .onward p h r _ (rw (class-given p h) (goes-succ F W (classAt p) p (cell p) σ j (rw (class-given p h) at g)));
-        live+ = λ σ j g. A .flows p h r e _ (rw (class-given p h) (goes-succ F W (classAt p) p (cell p) σ j (rw (class-given p h) at g)));
+        live+ = λ j g. A .flows p h r e _ (rw (class-given p h) (goes-succ F W (classAt p) p (cell p) σ j (rw (class-given p h) at g)));
       }
 
       -- the acts of what may be removed
@@ -179,43 +189,46 @@ module _ (F : Function) (keep : List ℕ) (reach : ℕ → Type 0) (live : ℕ �
       unfolding actBy
       jumping x σ k e = rw e (_, refl)
 
-      gone-place : (p : ℕ) → p < length (F .cells) → reach p → isKept keep p ≡ false → Dropped p → Gone reach live (boundary keep) (programOf F W) p
+      gone-place : (p : ℕ) (σ : Words) → p < length (F .cells) → isKept keep p ≡ false → Dropped p → Gone live (boundary keep) (programOf F W) p σ
       unfolding programOf nodeBy goto branches
-      gone-place p h r e (store k l+ dead) = record {
+      gone-place p σ h e (store k l+ dead) = record {
         jumps = false;
-        still = λ σ. rw (class-given p h) (passing (classAt p) (cell p) σ k);
+        still = rw (class-given p h) (passing (classAt p) (cell p) σ k);
         onward = omega arith;
         stays = boundary-dropped keep (A .flags) p (rw (← A .long) h) e;
-        reach+ = A .onward p h r _ (next (passing-falls (classAt p) k));
         live+ = l+;
         unread = dead;
       }
-      gone-place p h r e (skip k fwd b l+) = record {
+      gone-place p σ h e (skip k fwd b l+) = record {
         jumps = true;
-        still = λ σ. rw (class-given p h) (jumping (cell p) σ (classAt p) k);
+        still = rw (class-given p h) (jumping (cell p) σ (classAt p) k);
         onward = rw (class-given p h, k) fwd;
         stays = rw (class-given p h, k) b;
-        reach+ = rw (class-given p h) (A .onward p h r _ (branch (rw k refl)));
         live+ = rw (class-given p h, k) l+;
         unread = λ s m. jump-gives T (cell p) k s;
       }
 
-      module _ (f : ℕ → List ℕ) where
-        sound : Removal reach live (boundary keep) (programOf F W) (programOf F′ W) (notedAt (placesOf (retainFrom keep 0 (F .cells))) f) f
+      module _ {I : ℕ → Words → Type 0} (invariant : Invariant W (programOf F W) I) (reached : (p : ℕ) (σ : Words) → I p σ → reach p) (f : ℕ → List ℕ) where
+        abbrev noted : ℕ → List ℕ
+        noted = notedAt (placesOf (retainFrom keep 0 (F .cells))) f
+
+        sound : Removal live (boundary keep) I W (programOf F W) (programOf F′ W) noted f
         unfolding programOf resultFunction
         sound = record {
-          within = A .within;
+          invariant = invariant;
+          within = λ p σ i. A .within p (reached p σ i);
           first = boundary-zero keep;
           last = sym (kept-long keep (A .flags) (F .cells) (A .long));
-          place = λ p h r. which p h r (isKept keep p) refl;
+          place = λ p σ h i. which p σ h (reached p σ i) (isKept keep p) refl;
         }
           where
-            which : (p : ℕ) → p < length (F .cells) → reach p → (t : Bool) → isKept keep p ≡ t
-                → ((f (boundary keep p) ≡ notedAt (placesOf (retainFrom keep 0 (F .cells))) f p) × Kept reach live (boundary keep) (programOf F W) (programOf F′ W) p)
-                ⊎ ((notedAt (placesOf (retainFrom keep 0 (F .cells))) f p ≡ []) × Gone reach live (boundary keep) (programOf F W) p)
-            which p h r true e = inl (noted-kept keep (A .flags) f (F .cells) (A .long) p h e, kept-place p h r e)
-            which p h r false e = inr (noted-dropped keep (A .flags) f (F .cells) (A .long) p h e, gone-place p h r e (A .drops p h r e))
+            which : (p : ℕ) (σ : Words) → p < length (F .cells) → reach p → (t : Bool) → isKept keep p ≡ t
+                → ((f (boundary keep p) ≡ noted p) × Kept live (boundary keep) (programOf F W) (programOf F′ W) p σ)
+                ⊎ ((noted p ≡ []) × Gone live (boundary keep) (programOf F W) p σ)
+            which p σ h r true e = inl (noted-kept keep (A .flags) f (F .cells) (A .long) p h e, kept-place p σ h r e)
+            which p σ h r false e = inr (noted-dropped keep (A .flags) f (F .cells) (A .long) p h e, gone-place p σ h e (A .drops p h r e))
 
-    -- What is retained runs as the function did, by the same places.
-    pub removed : SameVisits (programOf F) (programOf F′) (notedAt (placesOf (retainFrom keep 0 (F .cells))))
-    removed = record { visits = λ W σ f. removal reach live (boundary keep) W _ _ _ _ (sound W f) σ (A .first) }
+    -- What is retained runs as the function did, by the same places, where an invariant keeps the run at reached places.
+    pub removed : {I : World → ℕ → Words → Type 0} → ((W : World) → Invariant W (programOf F W) (I W)) → ((W : World) (p : ℕ) (σ : Words) → I W p σ → reach p)
+        → SameVisits (programOf F) (programOf F′) (notedAt (placesOf (retainFrom keep 0 (F .cells))))
+    removed {I} invariant reached = record { visits = λ W σ f. removal (I W) live (boundary keep) W _ _ _ _ (sound W (invariant W) (reached W) f) σ }

@@ -5,6 +5,7 @@ use mathlib.Core.Bool.{Bool, true, false, cond}
 use mathlib.Core.List.{List, [], _∷_}
 use Prim.Native.Nat.{ℕ, zero, suc, _+_, _-_, _≤_, _<_}
 use native.Mathlib.Nat.{add-zero, zero-add}
+use native.Mathlib.Decide.{decLe}
 use native.Mathlib.Omega.{arith}
 use lib.ListN.{length, length-map}
 use Rattle.effects.specs.Shape.{Cell, cellAt}
@@ -59,6 +60,23 @@ retained-long keep b q (x ∷ xs) e = go (isKept keep q) refl (retained-long kee
     go true t r = let s = boundary-kept keep q (omega arith) t in omega arith
     go false t r = let s = boundary-dropped keep b q (omega arith) t in omega arith
 
+-- q is the boundary of a kept place before m
+abbrev pub KeptBelow : List ℕ → ℕ → ℕ → Type 0
+KeptBelow keep q m = (p : ℕ) × (p < m) × (isKept keep p ≡ true) × (boundary keep p ≡ q)
+
+kept-below : (keep : List ℕ) → Flags keep → (q m : ℕ) → m ≤ length keep → q < boundary keep m → KeptBelow keep q m
+kept-below keep b q zero h l = let z = boundary-zero keep in absurd (omega arith)
+kept-below keep b q (suc m) h l = go (isKept keep m) refl (kept-below keep b q m (omega arith))
+  where
+    later : KeptBelow keep q m → KeptBelow keep q (suc m)
+    later (p, l, k, e) = (p, omega arith, k, e)
+
+    go : (t : Bool) → isKept keep m ≡ t → (q < boundary keep m → KeptBelow keep q m) → KeptBelow keep q (suc m)
+    go true t ih =
+        let s = boundary-kept keep m (omega arith) t in
+        elim (decLe (boundary keep m) q) [ yes g ↦ (m, omega arith, t, omega arith) | no g ↦ later (ih (omega arith)) ]
+    go false t ih = let s = boundary-dropped keep b m (omega arith) t in later (ih (omega arith))
+
 module _ (keep : List ℕ) (b : Flags keep) (cells : List Cell) (long : length cells ≡ length keep) where
   -- a kept cell, relocated, stands at its boundary
   pub kept-at : (p : ℕ) → p < length cells → isKept keep p ≡ true → cellAt (cellsAfter (retainFrom keep 0 cells)) (boundary keep p) ≡ relocate keep p (cellAt cells p)
@@ -79,3 +97,7 @@ module _ (keep : List ℕ) (b : Flags keep) (cells : List Cell) (long : length c
       let s = boundary-kept keep p (omega arith) y in
       let u = boundary-mono keep (suc p) (length cells) (omega arith) in
       rw kept-long (omega arith)
+
+  -- a retained cell is a kept one, relocated
+  pub kept-of : (q : ℕ) → q < length (cellsAfter (retainFrom keep 0 cells)) → KeptBelow keep q (length cells)
+  kept-of q h = kept-below keep b q (length cells) (omega arith) (rw kept-long at h)
