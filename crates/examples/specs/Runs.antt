@@ -1,7 +1,7 @@
 -- Equal runs can be false: pairs of small functions of which they are refuted. One table, and one theorem for it.
 -- Assumes nothing.
 use mathlib.Core.Path.{_≡_, refl, sym, ap, _∙_}
-use mathlib.Core.Bool.{Bool, true, false, _&&_, _||_, not, true≢false, or-true}
+use mathlib.Core.Bool.{Bool, true, false, _&&_, _||_, not, true≢false, false≢true, or-true}
 use mathlib.Core.List.{List, [], _∷_, map}
 use mathlib.Core.Option.{Option, none, some}
 use Prim.Native.Nat.{ℕ, zero, suc, _≤_}
@@ -13,11 +13,12 @@ use Rattle.words.specs.laws.Truth.{left-true, right-true}
 use Rattle.instruction.specs.Opcode as op
 use Rattle.instruction.specs.Instruction.{plain, withImm32}
 use Rattle.unit.specs.Entry.{typeValue, kindSelectExecLayout, kindMapIterNext}
+use Rattle.unit.specs.Result.{Retained}
 use Rattle.effects.specs.Shape.{Cell, tablesOf}
 use Rattle.run.specs.System.{System, after}
 use Rattle.run.specs.Machine.{Words, Event, Way, byReturn, byPanic, byReply, byCode, words, World, State, step, wayOf, logOf, system, start, SameRuns}
 use Rattle.run.specs.Program.{Function, programOf}
-use Rattle.run.specs.Visits.{Noted, noted, visit, visiting, begin, notedAt, SameVisits}
+use Rattle.run.specs.Visits.{Noted, noted, visit, visiting, begin, notedAt, SameVisits, StandsFor, sameOpcode, loadInt as standsLoadInt, copy, jump, SamePlaces}
 use Rattle.examples.specs.Computed.{runs}
 use Rattle.examples.specs.Unit.{cell, loadInt, three, return}
 
@@ -272,3 +273,38 @@ other-place-differs s = let r = s .visits world zeros (λ q. q ∷ []) .logs 1 i
     go zero h e = let n : _≡_ {A = ℕ} 0 1 = ap (λ (x : Noted (List Event)). length (x .notes)) e in omega arith
     go (suc zero) h e = let n : _≡_ {A = ℕ} 1 0 = ap (λ (x : Noted (List Event)). length (x .content)) e in omega arith
     go (suc (suc j)) h e = omega arith
+
+-- ---- and so can that each retained instruction stands for its origin: a LoadConst that names another constant. No step reads its slot, so
+-- that places, records and ends alone are the same.
+
+abbrev loadConst : ℕ → Cell
+loadConst b = three op.LoadConst 0 b 0
+
+-- constant 0 is the integer 5
+abbrev constants : List ℕ
+constants = 2 ∷ 0 ∷ 0 ∷ 0 ∷ 0 ∷ 0 ∷ 0 ∷ 0 ∷ 5 ∷ 0 ∷ 0 ∷ 0 ∷ 0 ∷ 0 ∷ 0 ∷ 0 ∷ []
+
+abbrev loading : Function
+loading =
+    record {
+      cells = loadConst 0 ∷ return 1 1 ∷ [];
+      described = 2;
+      sections = record { locals = 10; types = replicate 10 typeValue; constants = constants; tables = tablesOf [] [] [] };
+    }
+
+abbrev retained : Cell → ℕ → Retained
+retained x p = record { instruction = x .instruction; metadata = x .metadata; place = p }
+
+-- constant 7 is missing
+abbrev loadingAnother : List Retained
+loadingAnother = retained (loadConst 7) 0 ∷ retained (return 1 1) 1 ∷ []
+
+pub other-constant-differs : SamePlaces loading loadingAnother → ⊥
+unfolding runs
+other-constant-differs s = go (s .stands 0 (omega arith))
+  where
+    go : StandsFor (loadConst 0 .instruction) (loadConst 7 .instruction) → ⊥
+    go (sameOpcode e c) = let z : _≡_ {A = ℕ} 7 0 = c refl in omega arith
+    go (standsLoadInt h e) = false≢true h
+    go (copy h e) = false≢true h
+    go (jump h e) = false≢true h

@@ -275,12 +275,12 @@ placed-function S before kept = rw (placed-cells before kept, placed-long before
 
 -- what good passes lead to from F
 module _ (F : Function) (cases : ℕ) where
-  -- the opcodes after a pass more
-  placed-opcodes : (before kept : List Retained) → Again cases (length before) kept → Rising (placesOf before)
-      → ((q : ℕ) → q < length before → StandsFor (cellAt (F .cells) (getD (placesOf before) q 0) .instruction .op) (cellAt (cellsAfter before) q .instruction .op))
-      → ((q : ℕ) → q < length kept → StandsFor (cellAt (cellsAfter before) (getD (placesOf kept) q 0) .instruction .op) (cellAt (cellsAfter kept) q .instruction .op))
-      → (q : ℕ) → q < length (placedBy before kept) → StandsFor (cellAt (F .cells) (getD (placesOf (placedBy before kept)) q 0) .instruction .op) (cellAt (cellsAfter (placedBy before kept)) q .instruction .op)
-  placed-opcodes before kept again rise f g q h =
+  -- what stands for an instruction after a pass more
+  placed-stands : (before kept : List Retained) → Again cases (length before) kept → Rising (placesOf before)
+      → ((q : ℕ) → q < length before → StandsFor (cellAt (F .cells) (getD (placesOf before) q 0) .instruction) (cellAt (cellsAfter before) q .instruction))
+      → ((q : ℕ) → q < length kept → StandsFor (cellAt (cellsAfter before) (getD (placesOf kept) q 0) .instruction) (cellAt (cellsAfter kept) q .instruction))
+      → (q : ℕ) → q < length (placedBy before kept) → StandsFor (cellAt (F .cells) (getD (placesOf (placedBy before kept)) q 0) .instruction) (cellAt (cellsAfter (placedBy before kept)) q .instruction)
+  placed-stands before kept again rise f g q h =
       let l : q < length kept = rw (placed-long before kept) at h in
       let m : q < length (placesOf kept) = rw (places-long kept) l in
       let i : getD (placesOf kept) q 0 < length before = rw (places-long before) at (inside before kept again rise q m) in
@@ -295,7 +295,7 @@ module _ (F : Function) (cases : ℕ) where
           visits = rw (placed-function (F .sections) before kept)
               (visits-noted (notedAt (placesOf (placedBy before kept))) (visits-trans (g .places .visits) (h .places .visits))
               (λ f p. noted-placed (placesOf before) rise (placesOf kept) (inside before kept again rise) f p ∙ rw (placed-places before kept)));
-          opcodes = placed-opcodes before kept again rise (g .places .opcodes) (h .places .opcodes);
+          stands = placed-stands before kept again rise (g .places .stands) (h .places .stands);
         };
         well = rw (placed-function (F .sections) before kept) (h .well);
         runs = rw (placed-function (F .sections) before kept) (h .runs);

@@ -10,8 +10,10 @@ use lib.ListN.{length, getD}
 use Rattle.words.specs.Lists.{isIn}
 use Rattle.instruction.specs.Opcode as op
 use Rattle.instruction.specs.declared.Class.{Class}
-use Rattle.instruction.specs.declared.Class.the-variants.{Unary, Binary, JumpIf, JumpIfNot}
-use Rattle.instruction.specs.Class.{classOf, numberOf}
+use Rattle.instruction.specs.declared.Class.the-variants.{LoadConst, Unary, Binary, JumpIf, JumpIfNot}
+use Rattle.instruction.specs.declared.Instruction.{Instruction}
+use Rattle.instruction.specs.Class.{numberOf}
+use Rattle.instruction.specs.Instruction.{class}
 use Rattle.unit.specs.Result.{Retained, readResult}
 use Rattle.lines.specs.Lines.{placesOf}
 use Rattle.effects.specs.Shape.{cellAt}
@@ -81,18 +83,19 @@ isOperator k = isIn (numberOf k) (numberOf Unary ∷ numberOf Binary ∷ [])
 abbrev pub isConditional : Class → Bool
 isConditional k = isIn (numberOf k) (numberOf JumpIf ∷ numberOf JumpIfNot ∷ [])
 
--- What the opcode of a retained instruction may be, of its origin's.
-pub data StandsFor (o : ℕ) : ℕ → Type 0 where
-  itself : StandsFor o o
-  loadInt : isOperator (classOf o) ≡ true → StandsFor o op.LoadInt
-  copy : isOperator (classOf o) ≡ true → StandsFor o op.Copy
-  jump : isConditional (classOf o) ≡ true → StandsFor o op.Jump
+-- What a retained instruction may be, of its origin: one of the same opcode, where a LoadConst names the same constant; LoadInt or Copy for a
+-- unary or binary one; or Jump for a conditional jump.
+pub data StandsFor (i j : Instruction) : Type 0 where
+  sameOpcode : j .op ≡ i .op → (class i ≡ LoadConst → j .b ≡ i .b) → StandsFor i j
+  loadInt : isOperator (class i) ≡ true → j .op ≡ op.LoadInt → StandsFor i j
+  copy : isOperator (class i) ≡ true → j .op ≡ op.Copy → StandsFor i j
+  jump : isConditional (class i) ≡ true → j .op ≡ op.Jump → StandsFor i j
 
 -- The run by places: the places that the run of what is retained visits, as old places, are those that the run of F visits, struck of those
--- not retained, in the same order; and each retained instruction has its origin's opcode, or one that may stand for it.
+-- not retained, in the same order; and each retained instruction stands for its origin.
 pub record SamePlaces (F : Function) (kept : List Retained) : Type 0 where
   pub visits : SameVisits (programOf F) (programOf (resultFunction (F .sections) kept)) (notedAt (placesOf kept))
-  pub opcodes : (q : ℕ) → q < length kept → StandsFor (cellAt (F .cells) (getD (placesOf kept) q 0) .instruction .op) (cellAt (cellsAfter kept) q .instruction .op)
+  pub stands : (q : ℕ) → q < length kept → StandsFor (cellAt (F .cells) (getD (placesOf kept) q 0) .instruction) (cellAt (cellsAfter kept) q .instruction)
 
 -- That, of a unit, an answer and the output after it. Unchanged returns the function given, and of a refusal nothing is claimed.
 unfoldable pub PreservesPlaces : List ℕ → Outcome → List ℕ → Type 0

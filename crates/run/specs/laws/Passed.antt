@@ -78,10 +78,10 @@ module _ (F : Function) (w : Well F) (worked : isWorkedOn (length (F .cells)) �
   retained true kept e = let z : _≡_ {A = ℕ} 0 1 = cc in absurd (omega arith)
   retained false kept e = let f : rewritten (retainFrom keep 0 code) ≡ rewritten kept = passed-check (relocationCheck keep code) (rewritten (retainFrom keep 0 code)) kept e .1 in cc
 
-  -- a kept instruction of the numbered code has its origin's opcode, or one that may stand for it
-  stands : Numberable F (leaders cells) → (k : ℕ) → k < length code → isKept keep (0 + k) ≡ true → StandsFor (cellAt cells (0 + k) .instruction .op) (cellAt code k .instruction .op)
+  -- a kept instruction of the numbered code stands for its origin
+  kept-stands : Numberable F (leaders cells) → (k : ℕ) → k < length code → isKept keep (0 + k) ≡ true → StandsFor (cellAt cells (0 + k) .instruction) (cellAt code k .instruction)
   unfolding numberedFunction
-  stands N k h e =
+  kept-stands N k h e =
       let first : 0 + k ≡ k = zero-add k in
       let l : k < length cells = rw (numbered-long F (leaders cells) N) at h in
       let here = numbered-at F (leaders cells) N k l in
@@ -97,7 +97,7 @@ module _ (F : Function) (w : Well F) (worked : isWorkedOn (length (F .cells)) �
       record {
         places = record {
           visits = visits-trans (numbering F (leaders cells) (numberable F w some-code few o b)) (kept-visits _ (leaders cells) (removing F w some-code few o b));
-          opcodes = stands-from keep (λ p. cellAt cells p .instruction .op) code 0 (stands (numberable F w some-code few o b));
+          stands = stands-from keep (λ p. cellAt cells p .instruction) code 0 (kept-stands (numberable F w some-code few o b));
         };
         well = record {
           locals = w .locals;
