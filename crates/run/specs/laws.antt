@@ -1,6 +1,7 @@
 pub mod System
 pub mod Machine
 pub mod Visits
+pub mod Visited
 pub mod Simulation
 pub mod Invariant
 pub mod LockStep

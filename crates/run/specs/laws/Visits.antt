@@ -71,7 +71,7 @@ module _ (W : World) (P : Program) (f g : ℕ → List ℕ) (same : (p : ℕ) �
   same-after zero x = refl
   same-after (suc k) x = rw (same-visit (x .content)) (same-after k (noteStep (system W P) (visit g) x))
 
-  same-noted : (T : System (Noted (List Event)) Way) (x : Noted State) (y : T .State) → Same (visiting W P f) x T y → Same (visiting W P g) x T y
+  pub same-noted : (T : System (Noted (List Event)) Way) (x : Noted State) (y : T .State) → Same (visiting W P f) x T y → Same (visiting W P g) x T y
   same-noted T x y s =
       record {
         logs = λ k. rw (← same-after k x) (s .logs k);
