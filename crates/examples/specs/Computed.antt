@@ -57,7 +57,7 @@ unfolding ofEffects1 effectsEffects.sureWrites effectsEffects.perhapsWrites effe
 ofEffects = tt
 
 unfoldable pub ofFlow : Unit {0}
-unfolding flowBranch.falls flowBranch.branches flowBranch.targetBy flowBranch.branchInside flowBranch.branchCheck flowBlock.endsBlock flowBlock.branchTargets flowBlock.blockEnds flowBlock.isLeader flowBlock.leaders flowReach.markAll flowReach.markIf flowReach.sweep flowReach.sweeps flowReach.reached flowLoop.successors flowLoop.reachedPlaces flowLoop.loopCheck flowLoop.loopEnds flowLoop.anchors
+unfolding flowBranch.falls flowBranch.branches flowBranch.targetBy flowBranch.branchInside flowBranch.branchCheckIn flowBlock.endsBlock flowBlock.branchTargets flowBlock.blockEnds flowBlock.isLeader flowBlock.leaders flowReach.markAll flowReach.markIf flowReach.sweep flowReach.sweeps flowReach.reached flowLoop.successors flowLoop.reachedPlaces flowLoop.loopCheck flowLoop.loopEnds flowLoop.anchors
 ofFlow = tt
 
 unfoldable ofValues1 : Unit {0}

@@ -76,6 +76,10 @@ target p i = targetBy (class i) p i
 unfoldable pub branchInside : ℕ → ℕ → Instruction → Bool
 branchInside n p i = cond (branches (class i)) (ltb (target p i) n) true
 
+-- refusal 8 over the places 0 to m - 1: as many as the cells, or one more where a branch may go to the end of the code
+unfoldable pub branchCheckIn : ℕ → List Cell → Check
+branchCheckIn m cells = lowest (λ p x. cond (branchInside m p (x .instruction)) 0 branchOutside) 0 cells
+
 -- refusal 8: "lowest branch leaving 0 to n − 1, unreachable ones too"
-unfoldable pub branchCheck : List Cell → Check
-branchCheck cells = lowest (λ p x. cond (branchInside (length cells) p (x .instruction)) 0 branchOutside) 0 cells
+abbrev pub branchCheck : List Cell → Check
+branchCheck cells = branchCheckIn (length cells) cells

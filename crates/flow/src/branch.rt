@@ -2,7 +2,7 @@
 ghost use mathlib.Core.Path.{_≡_};
 ghost use mathlib.Core.Bool.{true, cond};
 ghost use mathlib.Core.List.{List};
-ghost use Prim.Native.Nat.{ℕ, _^_, _≤_, _<_};
+ghost use Prim.Native.Nat.{ℕ, _^_, _<_};
 ghost use lib.ListN.{length};
 ghost use Rattle.unit.specs.Refusal.{branchOutside};
 ghost use Rattle.effects.specs.laws.Cells.{cellsBy};
@@ -95,10 +95,10 @@ pub fn target(p: usize, i: Instruction) -> u64
     p as u64 + 1
 }
 
-// The refusal of a branch at place p of n, or 0.
-fn branch_refusal(n: usize, p: usize, i: Instruction) -> u32
-    requires { ⌜ p < 2 ^ 32 ⌝ }
-    ensures { λ r. ⌜ r ≡ cond (branchInside n p i) 0 branchOutside ⌝ }
+// Refusal 8 of one instruction, at place p, or 0: a branch may go to the places below n, whatever n is.
+pub fn branch_refusal(n: usize, p: usize, i: Instruction) -> u32
+    requires place { ⌜ p < 2 ^ 32 ⌝ }
+    ensures refusal { λ r. ⌜ r ≡ cond (branchInside n p i) 0 branchOutside ⌝ }
 {
     if !ends_block(i.op) {
         return 0;

@@ -19,7 +19,7 @@ use Rattle.instruction.specs.Instruction.{class, ofWord, imm32, forLoopDistance
 use Rattle.unit.specs.Refusal.{branchOutside}
 use Rattle.effects.specs.declared.Check.the-variants.{Passed}
 use Rattle.effects.specs.laws.Cells.{cellsBy, cells-long}
-use Rattle.flow.specs.Branch.{branches, targetBy, target, branchInside, branchCheck}
+use Rattle.flow.specs.Branch.{branches, targetBy, target, branchInside, branchCheckIn, branchCheck}
 use Rattle.flow.specs.laws.Checking.{passed-at, all-passed}
 
 -- the target of what is no branch is the next place
@@ -106,7 +106,7 @@ BranchesInside words = (p : ℕ) → p < length words → branchInside (length w
 
 module _ (words metadata : List ℕ) where
   pub branches-inside : branchCheck (cellsBy words metadata) ≡ Passed → BranchesInside words
-  unfolding branchCheck
+  unfolding branchCheckIn
   branches-inside e p h =
       let zero : cond (branchInside (length (cellsBy words metadata)) p (ofWord (getD words p 0))) 0 branchOutside ≡ 0 = passed-at _ words metadata e p h in
       go (branchInside (length words) p (ofWord (getD words p 0))) (rw (cells-long words metadata) at zero)
@@ -116,7 +116,7 @@ module _ (words metadata : List ℕ) where
       go false z = absurd (omega arith)
 
   pub inside-branches : BranchesInside words → branchCheck (cellsBy words metadata) ≡ Passed
-  unfolding branchCheck
+  unfolding branchCheckIn
   inside-branches f =
       all-passed (λ p x. cond (branchInside (length (cellsBy words metadata)) p (x .instruction)) 0 branchOutside) words metadata (λ p h.
       let yes = f p h in

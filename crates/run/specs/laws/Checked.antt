@@ -26,7 +26,7 @@ use Rattle.effects.specs.declared.Check.the-variants.{Passed}
 use Rattle.effects.specs.Shape.{Sections, Cell, cellAt}
 use Rattle.effects.specs.Check.{operandCheck}
 use Rattle.effects.specs.laws.Sound.{lowest-passed, passed-at}
-use Rattle.flow.specs.Branch.{branches, targetBy, target, branchInside, branchCheck}
+use Rattle.flow.specs.Branch.{branches, targetBy, target, branchInside, branchCheckIn, branchCheck}
 use Rattle.flow.specs.Loop.{isLoopHint}
 use Rattle.flow.specs.Block.{endsBlock, branchTargets, blockEnds, isLeader, leaders}
 use Rattle.flow.specs.laws.Control.{isControl}
@@ -118,7 +118,7 @@ module _ (cells : List Cell) where
   -- refusal 8 did not happen
   pub target-inside : branchCheck cells ≡ Passed → (p : ℕ) → p < length cells → branches (class (cellAt cells p .instruction)) ≡ true
       → target p (cellAt cells p .instruction) < length cells
-  unfolding branchCheck branchInside
+  unfolding branchCheckIn branchInside
   target-inside e p h b =
       let z : cond (branchInside (length cells) p (cellAt cells p .instruction)) 0 branchOutside ≡ 0 =
       rw zero-add at (lowest-passed (λ p x. cond (branchInside (length cells) p (x .instruction)) 0 branchOutside) 0 cells e p h) in

@@ -9,7 +9,7 @@ use Rattle.unit.specs.Refusal.{branchOutside}
 use Rattle.effects.specs.Shape.{Cell}
 use Rattle.effects.specs.laws.Cells.{cellOf, cellsBy, cells-long}
 use Rattle.flow.specs.laws.Block.{no-branch}
-use Rattle.flow.specs.Branch.{branchInside, branchCheck}
+use Rattle.flow.specs.Branch.{branchInside, branchCheckIn}
 use Rattle.flow.specs.laws.BranchLaws.{inside-none}
 use Rattle.flow.specs.laws.Control.{isControl, ends-none, control-inside}
 use Rattle.flow.specs.laws.ControlSweep.{Swept, swept-first, swept-none, swept-later, swept-here}
@@ -17,7 +17,7 @@ use borrow.Author.Needs.{needs}
 use Rattle.flow.proofs.branch.check_branches.Statement.{statement}
 use Rattle.flow.proofs.branch.check_branches.Tie as tie
 
--- the test of `branchCheck`
+-- the test of `branchCheckIn`
 abbrev branchTest : ℕ → ℕ → Cell → ℕ
 branchTest n p x = cond (branchInside n p (x .instruction)) 0 branchOutside
 
@@ -61,7 +61,7 @@ tested : (c : tie.After-branch-refusal Inv-loop μ-loop) (metadata : List ℕ)
 tested c metadata = rw (cells-long, ← c .before .from-word .ensures) (c .branch-refusal .ensures)
 
 returns : tie.Need-returns Inv-loop μ-loop
-unfolding branchCheck
+unfolding branchCheckIn
 returns c =
     let b = c .before in
     let l = b .before .before .before .before in
@@ -74,7 +74,7 @@ loop-again c =
     (refl, λ metadata. swept-later (start (l .before) .pre .1) (idle _ metadata) (l .before .loop .inv .1 metadata) (l .loop-test .taken) (tested b metadata) (c .if1 .left))
 
 returns-2 : tie.Need-returns-2 Inv-loop μ-loop
-unfolding branchCheck
+unfolding branchCheckIn
 returns-2 c = λ metadata. swept-none (start (c .before) .pre .1) (idle _ metadata) (c .before .loop .inv .1 metadata) (c .loop-test .left)
 
 pub check-branches-spec : {M : Type 1} → statement M
