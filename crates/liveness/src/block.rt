@@ -8,10 +8,11 @@ ghost use Rattle.effects.specs.Shape.{tablesOf};
 ghost use Rattle.effects.specs.laws.Cells.{cellOf, cellsBy};
 ghost use Rattle.pc_map.specs.Boundary.{isKept};
 ghost use Rattle.use_def.specs.laws.Touched.{Fits};
-ghost use Rattle.liveness.specs.laws.SetMemory.{LayoutFits, codeWords, usesOf, preservedOf, liveOf};
+ghost use Rattle.liveness.specs.laws.SetMemory.{LayoutFits, BlockFits, codeWords, usesOf, preservedOf, liveOf};
 ghost use Rattle.words.specs.laws.Only.{At, Either, Only};
 ghost use Rattle.liveness.specs.laws.Through.{Placed, Summary};
 ghost use Rattle.liveness.specs.laws.Visit.{Rising, Summed};
+use crate::BlockSets;
 use crate::SetLayout;
 use effects::branching;
 use effects::single;
@@ -20,12 +21,10 @@ use instruction::opcode;
 use use_def::row;
 use use_def::touch;
 
-// A place more, before those that the two sets of w words are of. Most instructions name single slots, and their word tells all.
+// A place more, before those that the two sets are of. Most instructions name single slots, and their word tells all.
 fn summarize_place(
     memory: &mut [u64],
-    uses: usize,
-    preserved: usize,
-    w: usize,
+    sets: BlockSets,
     metadata: &[u8],
     keep: &[u32],
     functions: &[u8],
@@ -33,12 +32,23 @@ fn summarize_place(
     cases: &[u8],
     p: usize,
 )
-    requires { ⌜ (p < uses) × (uses + w ≤ preserved) × (preserved + w ≤ length (now memory)) × (metadataSize * p + metadataSize ≤ length (now metadata)) × (p < length (now keep)) × Fits w (tablesOf (now functions) (now externs) (now cases)) (cellOf (now metadata) p (getD (now memory) p 0)) × (0 < w) ⌝ }
-    ensures { λ _. ⌜ Placed (tablesOf (now (functions .entry)) (now (externs .entry)) (now (cases .entry))) (isKept (now (keep .entry)) p) (cellOf (now (metadata .entry)) p (getD (now (memory .entry)) p 0)) (midOf uses w (now (memory .entry))) (midOf preserved w (now (memory .entry))) (midOf uses w (now (memory .exit))) (midOf preserved w (now (memory .exit))) × Only (Either (At uses w) (At preserved w)) (now (memory .entry)) (now (memory .exit)) ⌝ }
+    requires fits { ⌜ BlockFits sets (tablesOf (now functions) (now externs) (now cases))
+        (now memory) (now metadata) (now keep) (p + 1) ⌝ }
+    ensures sets { λ _. ⌜ Placed (tablesOf (now (functions .entry)) (now (externs .entry)) (now (cases .entry)))
+        (isKept (now (keep .entry)) p) (cellOf (now (metadata .entry)) p (getD (now (memory .entry)) p 0))
+        (midOf (sets .uses) (sets .width) (now (memory .entry)))
+        (midOf (sets .preserved) (sets .width) (now (memory .entry)))
+        (midOf (sets .uses) (sets .width) (now (memory .exit)))
+        (midOf (sets .preserved) (sets .width) (now (memory .exit))) ⌝ }
+    ensures rest { λ _. ⌜ Only (Either (At (sets .uses) (sets .width)) (At (sets .preserved) (sets .width)))
+        (now (memory .entry)) (now (memory .exit)) ⌝ }
 {
     if keep[p] != 1 {
         return;
     }
+    let uses = sets.uses;
+    let preserved = sets.preserved;
+    let w = sets.width;
     let word = memory[p];
     let k = opcode::class_number((word % 256) as u8);
     if single::is_single(k) {
@@ -75,9 +85,7 @@ fn summarize_place(
 // The two sets of the places from start to end.
 fn summarize_block(
     memory: &mut [u64],
-    uses: usize,
-    preserved: usize,
-    w: usize,
+    sets: BlockSets,
     metadata: &[u8],
     keep: &[u32],
     functions: &[u8],
@@ -86,26 +94,27 @@ fn summarize_block(
     start: usize,
     end: usize,
 )
-    requires { ⌜ (end ≤ uses) × (uses + w ≤ preserved) × (preserved + w ≤ length (now memory)) × (start ≤ end) × (metadataSize * end ≤ length (now metadata)) × (end ≤ length (now keep)) × ((p : ℕ) → p < end → Fits w (tablesOf (now functions) (now externs) (now cases)) (cellOf (now metadata) p (getD (now memory) p 0))) × (0 < w) ⌝ }
-    ensures { λ _. ⌜ ((n : ℕ) → end ≤ n → n ≤ uses → Summary (tablesOf (now (functions .entry)) (now (externs .entry)) (now (cases .entry))) (now (keep .entry)) (cellsBy (midOf 0 n (now (memory .entry))) (now (metadata .entry))) (midOf uses w (now (memory .exit))) (midOf preserved w (now (memory .exit))) start (end - start)) × Only (Either (At uses w) (At preserved w)) (now (memory .entry)) (now (memory .exit)) ⌝ }
+    requires fits { ⌜ BlockFits sets (tablesOf (now functions) (now externs) (now cases))
+        (now memory) (now metadata) (now keep) end ⌝ }
+    requires places { ⌜ start ≤ end ⌝ }
+    ensures sets { λ _. ⌜ ((n : ℕ) → end ≤ n → n ≤ sets .uses
+        → Summary (tablesOf (now (functions .entry)) (now (externs .entry)) (now (cases .entry))) (now (keep .entry))
+        (cellsBy (midOf 0 n (now (memory .entry))) (now (metadata .entry)))
+        (midOf (sets .uses) (sets .width) (now (memory .exit)))
+        (midOf (sets .preserved) (sets .width) (now (memory .exit)))
+        start (end - start)) ⌝ }
+    ensures rest { λ _. ⌜ Only (Either (At (sets .uses) (sets .width)) (At (sets .preserved) (sets .width)))
+        (now (memory .entry)) (now (memory .exit)) ⌝ }
 {
+    let uses = sets.uses;
+    let preserved = sets.preserved;
+    let w = sets.width;
     row::fill(&mut memory[preserved..preserved + w], u64::MAX);
     row::fill(&mut memory[uses..uses + w], 0);
     let mut p = end;
     while p > start {
         p -= 1;
-        summarize_place(
-            memory,
-            uses,
-            preserved,
-            w,
-            metadata,
-            keep,
-            functions,
-            externs,
-            cases,
-            p,
-        );
+        summarize_place(memory, sets, metadata, keep, functions, externs, cases, p);
     }
 }
 
@@ -128,11 +137,16 @@ pub fn summarize(
         let at = sets.width * b;
         let start = starts[b] as usize;
         let end = starts[b + 1] as usize;
+        let uses = sets.uses + at;
+        let preserved = sets.preserved + at;
+        let own = BlockSets {
+            uses: uses,
+            preserved: preserved,
+            width: sets.width,
+        };
         summarize_block(
             memory,
-            sets.uses + at,
-            sets.preserved + at,
-            sets.width,
+            own,
             metadata,
             keep,
             functions,

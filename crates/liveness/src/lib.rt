@@ -1,7 +1,8 @@
 // Live slots, and stores that nothing reads.
 mod block;
-mod out;
+pub mod out;
 mod round;
+pub mod solve;
 pub mod stores;
 mod sweep;
 
@@ -15,4 +16,11 @@ pub struct SetLayout {
     pub uses: usize,
     pub preserved: usize,
     pub live: usize,
+}
+
+// Where the two sets of one block stand, and how many words each has.
+struct BlockSets {
+    uses: usize,
+    preserved: usize,
+    width: usize,
 }

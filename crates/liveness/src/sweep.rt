@@ -1,21 +1,18 @@
 // The sweep that drops dead stores, from the last place to the first.
 ghost use mathlib.Core.Path.{_≡_};
-ghost use mathlib.Core.List.{List};
-ghost use Prim.Native.Nat.{ℕ, _+_, _*_, _≤_, _<_};
+ghost use Prim.Native.Nat.{_+_, _*_, _≤_, _<_};
 ghost use lib.ListN.{length, getD};
-ghost use borrow.Rule.Slice.PartMut.{putMid};
 ghost use Rattle.instruction.specs.Instruction.{ofWord, class};
 ghost use Rattle.unit.specs.Size.{metadataSize};
 ghost use Rattle.effects.specs.Shape.{tablesOf};
-ghost use Rattle.effects.specs.laws.Cells.{cellOf, cellsBy};
+ghost use Rattle.effects.specs.laws.Cells.{cellOf};
 ghost use Rattle.effects.specs.laws.Form.{emptyRange};
 ghost use Rattle.effects.specs.laws.ByClass.{writesByClass};
 ghost use Rattle.pc_map.specs.Boundary.{isKept};
 ghost use Rattle.use_def.specs.laws.Touched.{Fits};
 ghost use Rattle.use_def.specs.laws.Free.{Spans, deadBy};
-ghost use Rattle.liveness.specs.Live.{Row, isLast};
-ghost use Rattle.liveness.specs.Dead.{sweepFrom};
-ghost use Rattle.liveness.specs.laws.SetMemory.{LayoutFits, Coded, Sweepable, codeWords, rowOf, liveOf, leadersOf, blocksOf, flagsOf};
+ghost use Rattle.liveness.specs.Live.{isLast};
+ghost use Rattle.liveness.specs.laws.SetMemory.{LayoutFits, Coded, Sweepable, rowOf, liveOf};
 ghost use Rattle.words.specs.laws.Only.{At, Only};
 ghost use Rattle.liveness.specs.laws.Sweeping.{Entered, Swept};
 ghost use Rattle.liveness.specs.laws.Sweep.{Sweeps};

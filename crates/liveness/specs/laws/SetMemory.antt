@@ -23,6 +23,7 @@ use Rattle.flow.specs.Branch.{branchInside}
 use Rattle.use_def.specs.laws.Touched.{Fits}
 use Rattle.use_def.specs.laws.Wordwise.{Moved}
 use Rattle.liveness.specs.declared.SetLayout.{SetLayout}
+use Rattle.liveness.specs.declared.BlockSets.{BlockSets}
 use Rattle.words.specs.laws.Only.{At, Either, Only, only-both, only-more, mid-mid, same-mid, put-mid}
 use Rattle.liveness.specs.laws.Out.{OutOf}
 use Rattle.liveness.specs.laws.Shown.{rowAt, row-before}
@@ -48,6 +49,16 @@ pub record LayoutFits (s : SetLayout) (room : ℕ) : Type 0 where
 
 pub row-inside : (s : SetLayout) (room : ℕ) → LayoutFits s room → s .row + s .width ≤ room
 row-inside s room l = omega (arith, l .uses, l .preserved, l .live, l .end)
+
+-- the two sets of a block stand behind the code and have a bit for each slot that is named at a place below `end`
+pub record BlockFits (s : BlockSets) (T : Tables) (memory metadata keep : List ℕ) (end : ℕ) : Type 0 where
+  pub code : end ≤ s .uses
+  pub apart : s .uses + s .width ≤ s .preserved
+  pub room : s .preserved + s .width ≤ length memory
+  pub entries : metadataSize * end ≤ length metadata
+  pub flags : end ≤ length keep
+  pub fits : (p : ℕ) → p < end → Fits (s .width) T (cellOf metadata p (getD memory p 0))
+  pub some : 0 < s .width
 
 abbrev pub codeWords : SetLayout → List ℕ → List ℕ
 codeWords s m = midOf 0 (s .code) m

@@ -1,9 +1,9 @@
--- From the walks over lent memory to the definition: what they leave of the kept places is `deadStores`.
+-- From the walks over lent memory to the definitions: the rows that they find are `liveRows`, and what they leave of the kept places is `deadStores`.
 -- Assumes nothing.
 use mathlib.Core.Path.{_≡_, refl, sym, ap, _∙_}
 use mathlib.Core.Bool.{Bool, true, false, cond}
 use mathlib.Core.List.{List}
-use mathlib.Core.Option.{none, some}
+use mathlib.Core.Option.{Option, none, some}
 use Prim.Native.Nat.{ℕ, _+_, _*_, _/_, _≤_, _<_}
 use native.Mathlib.Omega.{arith}
 use lib.Dec.{eqb}
@@ -23,9 +23,20 @@ use Rattle.liveness.specs.laws.Rows.{no-bit, start-wide}
 use Rattle.liveness.specs.laws.Shown.{rowAt, Shown, row-before}
 use Rattle.liveness.specs.laws.Visit.{Summed}
 use Rattle.liveness.specs.laws.Rounding.{Around}
-use Rattle.liveness.specs.laws.Solving.{Found, Solved}
+use Rattle.liveness.specs.laws.Solving.{Found}
 use Rattle.liveness.specs.laws.Sweep.{Grounds, sections}
 use Rattle.liveness.specs.laws.Droppable.{Droppable, enough-words, reads-within}
+
+-- ---- by the rows that are found, dead stores are dropped; where none are, they are skipped
+
+module _ (S : Sections) (leaders keep : List ℕ) (cells : List Cell) where
+  pub skipped : liveRows S leaders keep cells ≡ none → keep ≡ deadStores S leaders keep cells
+  unfolding deadStores withoutDead
+  skipped e = rw e
+
+  pub dropped : (rows : List Row) → liveRows S leaders keep cells ≡ some rows → sweepFrom S (length cells) leaders keep rows 0 cells .keep ≡ deadStores S leaders keep cells
+  unfolding deadStores withoutDead
+  dropped rows e = rw e
 
 -- ---- words of 0 show rows without any slot
 
@@ -113,31 +124,23 @@ module _ {T : Tables} {n count : ℕ} {words metadata types leaders blocks start
     keep-flags = d .keep-flags;
   }
 
-  -- ---- dead stores are skipped, or dropped
+  -- ---- within both limits, rows are sought
 
-  pub no-words : w ≡ 0 → keep ≡ deadStores S leaders keep cells
-  unfolding deadStores withoutDead liveRows
+  abbrev answer : Option (List Row)
+  answer = liveRows S leaders keep cells
+
+  pub no-words : w ≡ 0 → answer ≡ none
+  unfolding liveRows
   no-words e = rw (← ew, e)
 
-  pub too-many : maxSetWords < w * count → keep ≡ deadStores S leaders keep cells
-  unfolding deadStores withoutDead liveRows
+  pub too-many : maxSetWords < w * count → answer ≡ none
+  unfolding liveRows
   too-many h = rw (← d .total, ← ew, lt-leb (w * count) maxSetWords h) (go (eqb w 0))
     where
-      go : (t : Bool) → keep ≡ withoutDead S leaders keep cells (cond t none none)
+      go : (t : Bool) → cond {A = Option (List Row)} t none none ≡ none
       go true = refl
       go false = refl
 
-  module _ (some-words : 0 < w) (few : w * count ≤ maxSetWords) where
-    same-rows : liveRows S leaders keep cells ≡ solveIn S (length cells) leaders keep limit cells first
-    unfolding liveRows
-    same-rows = rw (← d .total, ← ew, ne-eqb w 0 (λ e. omega arith), le-leb (w * count) maxSetWords few)
-
-    -- rows are found and the stores that are dead by them are dropped, or the rounds ran out
-    pub dropped : (r : Bool) (live keep′ : List ℕ) → Solved S leaders keep cells w limit first live r → (r ≡ false → keep′ ≡ keep)
-        → (r ≡ true → (rows : List Row) → Grounds S leaders keep cells rows w blocks live → keep′ ≡ sweepFrom S (length cells) leaders keep rows 0 cells .keep)
-        → keep′ ≡ deadStores S leaders keep cells
-    unfolding deadStores withoutDead
-    dropped true live keep′ s left swept =
-        let f = s .yes refl in
-        swept refl (f .found) (grounds-found live f) ∙ rw (same-rows, f .solved)
-    dropped false live keep′ s left swept = left refl ∙ rw (same-rows, s .no refl)
+  pub same-rows : 0 < w → w * count ≤ maxSetWords → answer ≡ solveIn S (length cells) leaders keep limit cells first
+  unfolding liveRows
+  same-rows words few = rw (← d .total, ← ew, ne-eqb w 0 (λ e. omega arith), le-leb (w * count) maxSetWords few)

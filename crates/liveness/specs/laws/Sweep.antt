@@ -38,7 +38,7 @@ use Rattle.liveness.specs.laws.SetMemory.{codeWords, liveOf, leadersOf, 
 use Rattle.liveness.specs.declared.SetLayout.{SetLayout}
 
 -- a row before an instruction, of one after it that a set holds
-before-holds : (T : Tables) (x : Cell) (s : ℕ) (r : Row) (l l′ : List ℕ) → length r ≡ s → Within s (allReads T x) → Holds l r → Before T x l l′ → Holds l′ (liveBefore T x r)
+pub before-holds : (T : Tables) (x : Cell) (s : ℕ) (r : Row) (l l′ : List ℕ) → length r ≡ s → Within s (allReads T x) → Holds l r → Before T x l l′ → Holds l′ (liveBefore T x r)
 before-holds T x s r l l′ e w h b t = elim (decLe s t) [
   | yes g ↦
       b t ∙ rw (not-touched s t (allReads T x) w g, h t, bit-past r t (rw e g), bit-past (liveBefore T x r) t (rw (before-long T x r, e) g))

@@ -1,8 +1,9 @@
--- Dead stores in lent memory: what each walk asks, and what all leave of the flags of kept places.
+-- Live rows and dead stores in lent memory: what each walk asks, and what all of them leave.
 -- Assumes nothing.
-use mathlib.Core.Path.{_≡_, refl, sym, ap, _∙_}
-use mathlib.Core.Bool.{Bool, true, false, false≢true}
+use mathlib.Core.Path.{_≡_, sym, ap, _∙_}
+use mathlib.Core.Bool.{Bool, true, false}
 use mathlib.Core.List.{List}
+use mathlib.Core.Option.{Option, none, some}
 use Prim.Native.Nat.{ℕ, _+_, _*_, _-_, _/_, _≤_, _<_}
 use native.Mathlib.Nat.{zero-add, mul-pos}
 use native.Mathlib.Omega.{arith}
@@ -16,15 +17,15 @@ use Rattle.effects.specs.Shape.{Tables, Sections, Cell}
 use Rattle.effects.specs.laws.Cells.{cellOf, cellsBy}
 use Rattle.use_def.specs.laws.Touched.{Fits}
 use Rattle.liveness.specs.declared.SetLayout.{SetLayout}
-use Rattle.liveness.specs.Live.{Row, noRow, maxLivenessWork}
-use Rattle.liveness.specs.Dead.{sweepFrom, deadStores}
+use Rattle.liveness.specs.Live.{Row, noRow, maxLivenessWork, liveRows}
+use Rattle.liveness.specs.Dead.{deadStores}
 use Rattle.liveness.specs.laws.Visit.{Rising, Summed}
 use Rattle.liveness.specs.laws.SetMemory.{LayoutFits, laidOut, laid-out, codeWords, usesOf, preservedOf, liveOf, leadersOf, blocksOf, flagsOf, Coded, Ready, Sweepable}
 use Rattle.liveness.specs.laws.Rounding.{Around}
 use Rattle.liveness.specs.laws.Solving.{Solved}
-use Rattle.liveness.specs.laws.Sweep.{Grounds, sections}
+use Rattle.liveness.specs.laws.Sweep.{Grounds, Sweeps, sections}
 use Rattle.liveness.specs.laws.Droppable.{Droppable, few-words, room-words, few-blocks, some-blocks, fits-at, typed-at, held-at, block-row, starts-rise}
-use Rattle.liveness.specs.laws.Stores.{around-start, dropped}
+use Rattle.liveness.specs.laws.Stores.{around-start, grounds-found, same-rows, dropped}
 
 abbrev pub startsOf : ℕ → List ℕ → List ℕ
 startsOf n t = midOf (startsAt n) (n + 1) t
@@ -33,7 +34,7 @@ startsOf n t = midOf (startsAt n) (n + 1) t
 abbrev pub Known : Tables → ℕ → ℕ → List ℕ → List ℕ → List ℕ → List ℕ → Type 0
 Known T n count memory metadata types table = Droppable T n count (midOf 0 n memory) metadata types (leadersOf n table) (blocksOf n table) (startsOf n table) (flagsOf n table)
 
--- dead stores are not skipped, and there is room
+-- the sets are within their limit, and there is room for them
 pub record Workable (s : SetLayout) (T : Tables) (memory metadata types table : List ℕ) : Type 0 where
   pub known : Known T (s .code) (s .count) memory metadata types table
   pub width : s .width ≡ setWords (length types)
@@ -44,16 +45,33 @@ pub record Workable (s : SetLayout) (T : Tables) (memory metadata types table : 
 
 pub workable : {T : Tables} {n count : ℕ} {memory metadata types table : List ℕ} (d : Known T n count memory metadata types table) {w : ℕ} (ew : w ≡ setWords (length types))
     (s : SetLayout) → s ≡ laidOut n w count → 0 < w → w * count ≤ maxSetWords → setsRoom n (length types) ≤ length memory → keepAt n + n ≤ length table → Workable s T memory metadata types table
-workable {n = n} {count = count} {memory = memory} d {w} ew s e some few room long =
+workable {n = n} {count = count} {memory = memory} d {w} ew s e words few room long =
     rw e
     (record {
       known = d;
       width = ew;
-      some = some;
+      some = words;
       few = few;
-      laid = laid-out n w count (length memory) (room-words d ew (length memory) room some few);
+      laid = laid-out n w count (length memory) (room-words d ew (length memory) room words few);
       long-table = omega arith;
     })
+
+-- the live rows of the code in memory, by the leaders and the flags of kept places in the table
+abbrev pub rowsBy : Tables → ℕ → List ℕ → List ℕ → List ℕ → List ℕ → List ℕ → Option (List Row)
+rowsBy T n memory metadata types table constants = liveRows (sections (length types) types constants T) (leadersOf n table) (flagsOf n table) (cellsBy (midOf 0 n memory) metadata)
+
+-- they were found and stand in the sets of live slots: all that a sweep asks for and goes by
+pub record RowsIn (s : SetLayout) (T : Tables) (memory metadata types table constants : List ℕ) : Type 0 where
+  pub workable : Workable s T memory metadata types table
+  pub rows : List Row
+  pub found : rowsBy T (s .code) memory metadata types table constants ≡ some rows
+  pub grounds : Grounds (sections (length types) types constants T) (leadersOf (s .code) table) (flagsOf (s .code) table) (cellsBy (codeWords s memory) metadata) rows (s .width) (blocksOf (s .code) table) (liveOf s memory)
+
+-- what the sweep that drops dead stores leaves of the table
+pub rows-swept : {s : SetLayout} {T : Tables} {memory metadata types table constants : List ℕ} → RowsIn s T memory metadata types table constants → (memory′ table′ : List ℕ) → Sweeps s memory metadata types T table memory′ table′
+    → table′ ≡ putMid (keepAt (s .code)) (s .code) table (deadStores (sections (length types) types constants T) (leadersOf (s .code) table) (flagsOf (s .code) table) (cellsBy (codeWords s memory) metadata))
+rows-swept {s = s} {types = types} {table = table} {constants = constants} f memory′ table′ h =
+    h .1 ∙ ap (putMid (keepAt (s .code)) (s .code) table) (h .0 (length types) constants (f .rows) (f .grounds) ∙ dropped _ _ _ _ (f .rows) (f .found))
 
 -- a region written as it is
 pub put-itself : (a k : ℕ) (table ys : List ℕ) → midOf a k table ≡ ys → table ≡ putMid a k table ys
@@ -107,7 +125,10 @@ module _ {s : SetLayout} {T : Tables} {memory metadata types table : List ℕ} (
     pub fits-in : (p : ℕ) → p < n → Fits (s .width) T (cellOf metadata p (getD m p 0))
     fits-in p h = rw (word-at p h) (fits-at (g .known) (g .width) p h)
 
-    coded : Coded s m blocks
+    pub still-workable : Workable s T m metadata types table
+    still-workable = record { known = rw same (g .known); width = g .width; some = g .some; few = g .few; laid = rw long (g .laid); long-table = g .long-table }
+
+    pub coded : Coded s m blocks
     coded = record {
       laid = rw long (g .laid);
       most = g .known .most;
@@ -187,18 +208,11 @@ module _ {s : SetLayout} {T : Tables} {memory metadata types table : List ℕ} (
   abbrev all : List ℕ → Sections
   all constants = sections (length types) types constants T
 
-  abbrev pub stores : List ℕ → List ℕ
-  stores constants = deadStores (all constants) leaders keep cells
-
-  -- what `solve` tells of memory before and after it, and `sweep` of the table after it
+  -- what `solve` tells of memory before and after it
   abbrev Rounds : List ℕ → List ℕ → List ℕ → List ℕ → Bool → Type 0
   Rounds m m′ blocks′ starts′ r = (S : Sections) (leaders keep metadata : List ℕ) (rows : List Row)
       → Around S leaders keep (cellsBy (codeWords s m) metadata) (s .width) (s .count) rows blocks′ starts′ (usesOf s m) (preservedOf s m) (liveOf s m)
       → Solved S leaders keep (cellsBy (codeWords s m) metadata) (s .width) (maxLivenessWork / size) rows (liveOf s m′) r
-
-  abbrev Sweeps : List ℕ → List ℕ → Type 0
-  Sweeps m table′ = (locals : ℕ) (constants : List ℕ) (rows : List Row) → Grounds (sections locals types constants T) leaders keep (cellsBy (codeWords s m) metadata) rows (s .width) blocks (liveOf s m)
-      → flagsOf n table′ ≡ sweepFrom (sections locals types constants T) (length (cellsBy (codeWords s m) metadata)) leaders keep rows 0 (cellsBy (codeWords s m) metadata) .keep
 
   module _ (m m′ blocks′ starts′ : List ℕ) (b : Begun m) (eb : blocks′ ≡ blocks) (es : starts′ ≡ starts) (r : Bool) (rounds : Rounds m m′ blocks′ starts′ r) (constants : List ℕ) where
     solved : Solved (all constants) leaders keep cells (s .width) (maxLivenessWork / size) (replicate (s .count) (noRow (all constants) (length cells) leaders keep)) (liveOf s m′) r
@@ -206,16 +220,16 @@ module _ {s : SetLayout} {T : Tables} {memory metadata types table : List ℕ} (
         let uses : length (usesOf s m) ≡ size = let l = g .laid in mid-long m (s .uses) size (rw (b .long) (omega (arith, l .preserved, l .live, l .end))) in
         (rw (b .same, eb, es) at rounds) (all constants) leaders keep metadata _ (around-start (g .known) (g .width) constants (usesOf s m) (preservedOf s m) (liveOf s m) (b .empty) uses (b .summed))
 
-    -- no rows were found
-    pub stores-left : r ≡ false → table ≡ putMid (keepAt n) n table (stores constants)
-    stores-left e =
-        let kept : keep ≡ stores constants = dropped (g .known) (g .width) constants (g .some) (g .few) r (liveOf s m′) keep solved (λ f. refl) (λ f. absurd (false≢true (sym e ∙ f))) in
-        put-itself (keepAt n) n table (stores constants) kept
+    pub rows-none : r ≡ false → rowsBy T n memory metadata types table constants ≡ none
+    rows-none e = same-rows (g .known) (g .width) constants (g .some) (g .few) ∙ solved .no e
 
-    -- the dead stores by those that were found
-    pub stores-swept : r ≡ true → (table′ : List ℕ) → codeWords s m′ ≡ codeWords s m → Sweeps m′ table′ → table′ ≡ putMid (keepAt n) n table (flagsOf n table′) → table′ ≡ putMid (keepAt n) n table (stores constants)
-    stores-swept e table′ code sweeps put =
+    pub rows-found : r ≡ true → length m′ ≡ length m → codeWords s m′ ≡ codeWords s m → RowsIn s T m′ metadata types table constants
+    rows-found e long code =
+        let f = solved .yes e in
         let same : codeWords s m′ ≡ codeWords s memory = code ∙ b .same in
-        let kept : flagsOf n table′ ≡ stores constants =
-        dropped (g .known) (g .width) constants (g .some) (g .few) r (liveOf s m′) (flagsOf n table′) solved (λ f. absurd (false≢true (sym f ∙ e))) (λ f rows. (rw same at sweeps) (length types) constants rows) in
-        put ∙ ap (putMid (keepAt n) n table) kept
+        record {
+          workable = still-workable m′ (long ∙ b .long) same;
+          rows = f .found;
+          found = rw same (same-rows (g .known) (g .width) constants (g .some) (g .few) ∙ f .solved);
+          grounds = rw same (grounds-found (g .known) (g .width) constants (liveOf s m′) f);
+        }

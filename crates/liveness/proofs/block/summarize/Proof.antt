@@ -35,17 +35,17 @@ cast-start c = omega (arith, c .shared-slice-known7 .given (c .before .before .b
 cast-end : tie.Need-cast-end Inv-loop μ-loop
 cast-end c = omega (arith, c .shared-slice-known8 .given (c .before .before .before .before .before .loop .b + 1))
 
-add-summarize-block : tie.Need-add-summarize-block Inv-loop μ-loop
-add-summarize-block c =
+add-uses : tie.Need-add-uses Inv-loop μ-loop
+add-uses c =
+    let s = c .before .before .before .before .before .before .before .before .before .before .before .before .before .before in
+    let l = s .pre .0 in
+    omega (arith, row-before (s .args .sets .width) (c .before .before .before .before .before .before .loop .b) (s .args .sets .count) (omega arith), l .preserved, l .live, l .end)
+
+add-preserved : tie.Need-add-preserved Inv-loop μ-loop
+add-preserved c =
     let s = c .before .before .before .before .before .before .before .before .before .before .before .before .before .before .before in
     let l = s .pre .0 in
-    omega (arith, row-before (s .args .sets .width) (c .before .before .before .before .before .before .before .loop .b) (s .args .sets .count) (omega arith), l .preserved, l .live, l .end)
-
-add-summarize-block-2 : tie.Need-add-summarize-block-2 Inv-loop μ-loop
-add-summarize-block-2 c =
-    let s = c .before .before .before .before .before .before .before .before .before .before .before .before .before .before .before .before in
-    let l = s .pre .0 in
-    omega (arith, row-before (s .args .sets .width) (c .before .before .before .before .before .before .before .before .loop .b) (s .args .sets .count) (omega arith), l .live, l .end)
+    omega (arith, row-before (s .args .sets .width) (c .before .before .before .before .before .before .before .loop .b) (s .args .sets .count) (omega arith), l .live, l .end)
 
 summarize-block-requires : tie.Need-summarize-block-requires Inv-loop μ-loop
 summarize-block-requires c κs =
@@ -55,14 +55,16 @@ summarize-block-requires c κs =
     let below : l .b < s .args .sets .count = omega arith in
     let rise = s .pre .2 (l .b) below in
     let room = row-before (s .args .sets .width) (l .b) (s .args .sets .count) below in (
-      omega (arith, rise .1, d .row, d .uses),
-      omega (arith, room, d .preserved),
-      rw (l .inv .1) (omega (arith, room, d .live, d .end)),
+      record {
+        code = omega (arith, rise .1, d .row, d .uses);
+        apart = omega (arith, room, d .preserved);
+        room = rw (l .inv .1) (omega (arith, room, d .live, d .end));
+        entries = omega (arith, rise .1);
+        flags = rw (s .pre .4) (rise .1);
+        fits = λ p h. let q : p < s .args .sets .code = omega (arith, rise .1) in rw (same-word (s .args .sets) _ _ _ (l .inv .2) (past-sums (s .args .sets) _ d) p q) (s .pre .5 p q);
+        some = s .pre .6;
+      },
       omega (arith, rise .0),
-      omega (arith, rise .1),
-      rw (s .pre .4) (rise .1),
-      λ p h. let q : p < s .args .sets .code = omega (arith, rise .1) in rw (same-word (s .args .sets) _ _ _ (l .inv .2) (past-sums (s .args .sets) _ d) p q) (s .pre .5 p q),
-      s .pre .6,
     )
 
 loop-again : tie.Need-loop-again Inv-loop μ-loop
@@ -111,8 +113,8 @@ summarize-spec =
     (λ c. search needs)
     (λ c. search needs)
     cast-end
-    add-summarize-block
-    add-summarize-block-2
+    add-uses
+    add-preserved
     summarize-block-requires
     (λ c. search needs)
     (λ c. search needs)

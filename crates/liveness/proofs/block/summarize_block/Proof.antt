@@ -15,12 +15,12 @@ use Rattle.liveness.proofs.block.summarize_block.Statement.{statement}
 use Rattle.liveness.proofs.block.summarize_block.Tie as tie
 
 abbrev Inv-loop : tie.InvT-loop
-Inv-loop memory₀ uses preserved w metadata keep functions externs cases start end p₀ memory p =
-    (start ≤ p) × (p ≤ end) × (length memory ≡ length memory₀) × Only (Either (At uses w) (At preserved w)) memory₀ memory
-    × ((n : ℕ) → end ≤ n → n ≤ uses → Summary (tablesOf functions externs cases) keep (cellsBy (midOf 0 n memory₀) metadata) (midOf uses w memory) (midOf preserved w memory) p (end - p))
+Inv-loop memory₀ sets metadata keep functions externs cases start end uses preserved w p₀ memory p =
+    (start ≤ p) × (p ≤ end) × (length memory ≡ length memory₀) × Only (Either (At (sets .uses) (sets .width)) (At (sets .preserved) (sets .width))) memory₀ memory
+    × ((n : ℕ) → end ≤ n → n ≤ sets .uses → Summary (tablesOf functions externs cases) keep (cellsBy (midOf 0 n memory₀) metadata) (midOf (sets .uses) (sets .width) memory) (midOf (sets .preserved) (sets .width) memory) p (end - p))
 
 abbrev μ-loop : tie.MeasureT-loop
-μ-loop memory₀ uses preserved w metadata keep functions externs cases start end p₀ memory p = p - start
+μ-loop memory₀ sets metadata keep functions externs cases start end uses preserved w p₀ memory p = p - start
 
 loop-holds : tie.Need-loop-holds Inv-loop μ-loop
 loop-holds c =
@@ -29,11 +29,11 @@ loop-holds c =
     let u = c .before .before .fill2 in
     let T : Tables = tablesOf (s .args .functions .now) (s .args .externs .now) (s .args .cases .now) in
     let m = s .args .memory .now in
-    let x = both-lent m (s .args .uses) (s .args .preserved) (s .args .w) (u .last .0) (v .last .0) _ (s .pre .1) (s .pre .2) refl (v .kept .0) (u .kept .0) in
-    let long : length (midOf (s .args .uses) (s .args .w) m) ≡ s .args .w = mid-long m (s .args .uses) (s .args .w) (omega arith) in
+    let x = both-lent m (s .args .sets .uses) (s .args .sets .preserved) (s .args .sets .width) (u .last .0) (v .last .0) _ (s .pre .0 .apart) (s .pre .0 .room) refl (v .kept .0) (u .kept .0) in
+    let long : length (midOf (s .args .sets .uses) (s .args .sets .width) m) ≡ s .args .sets .width = mid-long m (s .args .sets .uses) (s .args .sets .width) (omega arith) in
     let none = rw (x .was, long) at (u .ensures) in
-    let all = rw (lent-long m (s .args .preserved) (s .args .w) (s .pre .2)) at (v .ensures) in
-    (s .pre .3, omega arith, refl, only-none _ _, λ n h g. summary-begin T (s .args .keep .now) _ (s .args .w) _ _ _ _ _ refl (omega arith) (x .low ∙ none) (x .high ∙ all) (rw (x .low) (rw (x .was, long) at (u .kept .0))))
+    let all = rw (lent-long m (s .args .sets .preserved) (s .args .sets .width) (s .pre .0 .room)) at (v .ensures) in
+    (s .pre .1, omega arith, refl, only-none _ _, λ n h g. summary-begin T (s .args .keep .now) _ (s .args .sets .width) _ _ _ _ _ refl (omega arith) (x .low ∙ none) (x .high ∙ all) (rw (x .low) (rw (x .was, long) at (u .kept .0))))
 
 summarize-place-requires : tie.Need-summarize-place-requires Inv-loop μ-loop
 summarize-place-requires c κs =
@@ -42,10 +42,19 @@ summarize-place-requires c κs =
     let u = c .before .before .before .before .before .fill2 in
     let l = c .before .before .loop in
     let m = s .args .memory .now in
-    let x = both-lent m (s .args .uses) (s .args .preserved) (s .args .w) (u .last .0) (v .last .0) _ (s .pre .1) (s .pre .2) refl (v .kept .0) (u .kept .0) in
+    let x = both-lent m (s .args .sets .uses) (s .args .sets .preserved) (s .args .sets .width) (u .last .0) (v .last .0) _ (s .pre .0 .apart) (s .pre .0 .room) refl (v .kept .0) (u .kept .0) in
     let o = only-both _ _ _ _ (x .only) (l .inv .3) in
-    let same = o .same (l .p - 1) (⊎-elim (λ i. omega (arith, i .0)) (λ i. omega (arith, i .0))) in
-    (omega arith, s .pre .1, rw (o .long) (s .pre .2), omega arith, omega arith, rw same (s .pre .6 (l .p - 1) (omega arith)), s .pre .7)
+    let f = s .pre .0 in
+    let q : l .p - 1 + 1 ≤ s .args .end = omega arith in
+    record {
+      code = omega (arith, f .code);
+      apart = f .apart;
+      room = rw (o .long) (f .room);
+      entries = omega (arith, f .entries);
+      flags = omega (arith, f .flags);
+      fits = λ p h. rw (o .same p (⊎-elim (λ i. omega (arith, i .0, f .code)) (λ i. omega (arith, i .0, f .code, f .apart)))) (f .fits p (omega arith));
+      some = f .some;
+    }
 
 loop-again : tie.Need-loop-again Inv-loop μ-loop
 loop-again c =
@@ -56,20 +65,20 @@ loop-again c =
     let y = c .before .before .summarize-place in
     let T : Tables = tablesOf (s .args .functions .now) (s .args .externs .now) (s .args .cases .now) in
     let m = s .args .memory .now in
-    let x = both-lent m (s .args .uses) (s .args .preserved) (s .args .w) (u .last .0) (v .last .0) _ (s .pre .1) (s .pre .2) refl (v .kept .0) (u .kept .0) in
-    let m₂ = putMid (s .args .uses) (s .args .uses + s .args .w - s .args .uses) (putMid (s .args .preserved) (s .args .preserved + s .args .w - s .args .preserved) m (v .last .0)) (u .last .0) in
+    let x = both-lent m (s .args .sets .uses) (s .args .sets .preserved) (s .args .sets .width) (u .last .0) (v .last .0) _ (s .pre .0 .apart) (s .pre .0 .room) refl (v .kept .0) (u .kept .0) in
+    let m₂ = putMid (s .args .sets .uses) (s .args .sets .uses + s .args .sets .width - s .args .sets .uses) (putMid (s .args .sets .preserved) (s .args .sets .preserved + s .args .sets .width - s .args .sets .preserved) m (v .last .0)) (u .last .0) in
     let q : l .p ≡ suc (l .p - 1) = omega arith in
     let word = getD (l .memory) (l .p - 1) 0 in
     let same = l .inv .3 .same (l .p - 1) (⊎-elim (λ i. omega (arith, i .0)) (λ i. omega (arith, i .0))) in
-    let room : s .args .uses + s .args .w ≤ length (l .memory) = rw (l .inv .2, x .only .long) (omega arith) in
-    let long : length (midOf (s .args .uses) (s .args .w) (y .last .0)) ≡ length (midOf (s .args .uses) (s .args .w) (l .memory)) = mid-long (y .last .0) (s .args .uses) (s .args .w) (rw (y .kept .0) room) ∙ sym (mid-long (l .memory) (s .args .uses) (s .args .w) room) in (
+    let room : s .args .sets .uses + s .args .sets .width ≤ length (l .memory) = rw (l .inv .2, x .only .long) (omega arith) in
+    let long : length (midOf (s .args .sets .uses) (s .args .sets .width) (y .last .0)) ≡ length (midOf (s .args .sets .uses) (s .args .sets .width) (l .memory)) = mid-long (y .last .0) (s .args .sets .uses) (s .args .sets .width) (rw (y .kept .0) room) ∙ sym (mid-long (l .memory) (s .args .sets .uses) (s .args .sets .width) room) in (
       omega arith,
       omega arith,
       y .kept .0 ∙ l .inv .2,
       only-both _ _ _ _ (l .inv .3) (y .ensures .1),
       λ n h g.
           let within : n ≤ length m₂ = rw (x .only .long) (omega arith) in
-          summary-turn T (s .args .keep .now) (cellsBy (midOf 0 n m₂) (s .args .metadata .now)) (cellOf (s .args .metadata .now) (l .p - 1) word) (midOf (s .args .uses) (s .args .w) (l .memory)) (midOf (s .args .preserved) (s .args .w) (l .memory)) (midOf (s .args .uses) (s .args .w) (y .last .0)) (midOf (s .args .preserved) (s .args .w) (y .last .0)) (l .p) (l .p - 1) _ q (l .inv .1) (cell-in m₂ (s .args .metadata .now) n (l .p - 1) word within (omega arith) same) (l .inv .4 n h g) long (y .ensures .0),
+          summary-turn T (s .args .keep .now) (cellsBy (midOf 0 n m₂) (s .args .metadata .now)) (cellOf (s .args .metadata .now) (l .p - 1) word) (midOf (s .args .sets .uses) (s .args .sets .width) (l .memory)) (midOf (s .args .sets .preserved) (s .args .sets .width) (l .memory)) (midOf (s .args .sets .uses) (s .args .sets .width) (y .last .0)) (midOf (s .args .sets .preserved) (s .args .sets .width) (y .last .0)) (l .p) (l .p - 1) _ q (l .inv .1) (cell-in m₂ (s .args .metadata .now) n (l .p - 1) word within (omega arith) same) (l .inv .4 n h g) long (y .ensures .0),
     )
 
 same-length : tie.Need-same-length Inv-loop μ-loop
@@ -77,7 +86,7 @@ same-length c =
     let s = c .before .before .before .before .before .before .before .before .before .before .before .before .before .before .before .before in
     let v = c .before .before .before .before .before .before .before .before .fill in
     let u = c .before .before .before .before .fill2 in
-    c .before .loop .inv .2 ∙ both-lent (s .args .memory .now) (s .args .uses) (s .args .preserved) (s .args .w) (u .last .0) (v .last .0) _ (s .pre .1) (s .pre .2) refl (v .kept .0) (u .kept .0) .only .long
+    c .before .loop .inv .2 ∙ both-lent (s .args .memory .now) (s .args .sets .uses) (s .args .sets .preserved) (s .args .sets .width) (u .last .0) (v .last .0) _ (s .pre .0 .apart) (s .pre .0 .room) refl (v .kept .0) (u .kept .0) .only .long
 
 returns : tie.Need-returns Inv-loop μ-loop
 returns c =
@@ -86,7 +95,7 @@ returns c =
     let u = c .before .before .before .before .fill2 in
     let l = c .before .loop in
     let m = s .args .memory .now in
-    let x = both-lent m (s .args .uses) (s .args .preserved) (s .args .w) (u .last .0) (v .last .0) _ (s .pre .1) (s .pre .2) refl (v .kept .0) (u .kept .0) in
+    let x = both-lent m (s .args .sets .uses) (s .args .sets .preserved) (s .args .sets .width) (u .last .0) (v .last .0) _ (s .pre .0 .apart) (s .pre .0 .room) refl (v .kept .0) (u .kept .0) in
     let end : l .p ≡ s .args .start = omega arith in (
       λ n h g.
           let code = same-mid _ m _ (x .only) 0 n (omega arith) (λ j i. ⊎-elim (λ k. omega (arith, i .1, k .0)) (λ k. omega (arith, i .1, k .0))) in
