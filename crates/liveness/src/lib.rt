@@ -4,7 +4,7 @@ pub mod out;
 mod round;
 pub mod solve;
 pub mod stores;
-mod sweep;
+pub mod sweep;
 
 // Where sets of slots lie in one buffer of words: behind the code's words one set, and then, for each of the blocks, the set that
 // it uses, the set that it preserves, and the set that is live at its start.

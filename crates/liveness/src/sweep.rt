@@ -38,7 +38,7 @@ fn is_last(leaders: &[u32], p: usize) -> bool
 }
 
 // What is live after place p, of what is live before the next one.
-fn enter_place(memory: &mut [u64], sets: SetLayout, blocks: &[u32], leaders: &[u32], p: usize)
+pub fn enter_place(memory: &mut [u64], sets: SetLayout, blocks: &[u32], leaders: &[u32], p: usize)
     requires { ⌜ Coded sets (now memory) (now blocks) × (p < sets .code) × (length (now leaders) ≡ sets .code) ⌝ }
     ensures { λ _. ⌜ Entered (isLast (length (now (leaders .entry))) (now (leaders .entry)) p) (sets .width) (liveOf sets (now (memory .entry))) (now (blocks .entry)) (sets .code) p (ofWord (getD (now (memory .entry)) p 0)) (rowOf sets (now (memory .entry))) (rowOf sets (now (memory .exit))) × Only (At (sets .row) (sets .width)) (now (memory .entry)) (now (memory .exit)) ⌝ }
 {
