@@ -8,13 +8,19 @@ use Rattle.words.specs.Lists.{tabulate}
 use Rattle.instruction.specs.Instruction.{instructionAt}
 use Rattle.unit.specs.declared.Counts.{Counts}
 use Rattle.unit.specs.declared.Layout.{Layout}
-use Rattle.unit.specs.declared.Layout.the-variants.{Unit, Refused}
+use Rattle.unit.specs.declared.Layout.the-variants.{Unit}
+use Rattle.unit.specs.declared.Layout.the-variants as layout
 use Rattle.unit.specs.Refusal.{shortBuffer, metadataCount, typeCount}
 use Rattle.unit.specs.Size.{outputRoom, work32Room, work64Room}
 use Rattle.unit.specs.declared.Line.{Line}
 use Rattle.unit.specs.Entry.{metadataAt, linesIn}
 use Rattle.unit.specs.Layout.{headerOf, codeOf, metadataOf, typesOf, constantsOf, functionsOf, externsOf, casesOf, linesOf, layoutOf}
+use Rattle.effects.specs.declared.Check.{Check}
+use Rattle.effects.specs.declared.Check.the-variants.{Passed, Refused}
 use Rattle.effects.specs.Shape.{Sections, Cell, tablesOf}
+use Rattle.answer.specs.declared.Admission.{Admission}
+use Rattle.answer.specs.declared.Admission.the-variants.{Admitted, Unchanged}
+use Rattle.answer.specs.declared.Admission.the-variants as variant
 use Rattle.answer.specs.Pass.{Outcome, unchanged, refused, isWorkedOn, optimized, linesAfter}
 
 -- the function of a unit: its cells, and the sections that stay
@@ -53,32 +59,44 @@ roomFor c l =
 unfoldable pub isSkipped : Counts → Bool
 isSkipped c = not (isWorkedOn (c .instructions)) || eqb (c .defer) 1
 
--- The rows of document 01's table up to refusal 4, from the last upward: each is what its test says, or else the rows below it.
--- Whether the lent buffers are long enough is all that they ask of those, so that one pass and the cleaning share the rows.
+-- The rows of document 01's table before any work, from the last upward: each is what its test says, or else the rows below it. Whether
+-- the lent buffers are long enough is all that they ask of those, so that one pass and the cleaning share the rows.
 
 -- "refused 3, place 0: m is not n", "refused 4, place 0: number of types is not s"
-unfoldable pub afterRoom : List ℕ → Outcome
-afterRoom u =
-    let c = headerOf u .counts in
-    let worked = optimized (sectionsOf u) (cellsOf u) in
-    let typed = cond (eqb (c .types) (c .locals)) worked (refused typeCount 0) in
-    cond (eqb (c .metadata) (c .instructions)) typed (refused metadataCount 0)
+unfoldable pub countCheck : Counts → Check
+countCheck c =
+    let typed = cond (eqb (c .types) (c .locals)) Passed (Refused typeCount 0) in
+    cond (eqb (c .metadata) (c .instructions)) typed (Refused metadataCount 0)
+
+-- what passes a check is admitted
+unfoldable pub admittedBy : Check → Admission
+admittedBy Passed = Admitted
+admittedBy (Refused k p) = variant.Refused k p
 
 -- "refused 2, place 0: a lent buffer shorter than stated"
-unfoldable pub afterSkipped : Bool → List ℕ → Outcome
-afterSkipped room u = let rest = afterRoom u in cond room rest (refused shortBuffer 0)
+unfoldable pub afterSkipped : Bool → Counts → Admission
+afterSkipped room c = let rest = admittedBy (countCheck c) in cond room rest (variant.Refused shortBuffer 0)
 
 -- "unchanged: n under 2, above 65,536, or defer"
-unfoldable pub afterLayout : Bool → List ℕ → Outcome
-afterLayout room u = let rest = afterSkipped room u in cond (isSkipped (headerOf u .counts)) unchanged rest
+unfoldable pub afterLayout : Bool → Counts → Admission
+afterLayout room c = let rest = afterSkipped room c in cond (isSkipped c) Unchanged rest
 
--- the rows of the unit's own bytes: "refused 1, place 0: unit not as above", and refusal 13
-unfoldable pub laidOut : Layout → Outcome → Outcome
+-- the rows of the unit's own bytes: "refused 1, place 0: unit not as above", and refusals 11 and 13
+unfoldable pub laidOut : Layout → Admission → Admission
 laidOut (Unit h) rest = rest
-laidOut (Refused k p) rest = refused k p
+laidOut (layout.Refused k p) rest = variant.Refused k p
+
+unfoldable pub admission : Bool → List ℕ → Admission
+admission room u = let rest = afterLayout room (headerOf u .counts) in laidOut (layoutOf u) rest
+
+-- what is admitted is worked on
+unfoldable pub afterAdmission : Admission → Outcome → Outcome
+afterAdmission Admitted worked = worked
+afterAdmission Unchanged worked = unchanged
+afterAdmission (variant.Refused k p) worked = refused k p
 
 unfoldable pub answerWith : Bool → List ℕ → Outcome
-answerWith room u = let rest = afterLayout room u in laidOut (layoutOf u) rest
+answerWith room u = let worked = optimized (sectionsOf u) (cellsOf u) in afterAdmission (admission room u) worked
 
 unfoldable pub passAnswer : List ℕ → Lent → Outcome
 passAnswer u l = answerWith (roomFor (headerOf u .counts) l) u

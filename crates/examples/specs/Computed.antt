@@ -89,7 +89,7 @@ unfolding answerJump.isIdle answerJump.dropIdle answerJump.jumpRounds answerPass
 ofAnswer1 = tt
 
 unfoldable pub ofAnswer : Unit {0}
-unfolding ofAnswer1 answerAnswer.roomFor answerAnswer.isSkipped answerAnswer.afterRoom answerAnswer.afterSkipped answerAnswer.afterLayout answerAnswer.laidOut answerAnswer.answerWith answerAnswer.passAnswer answerClean.placedBy answerClean.afterPass answerClean.cleanFrom answerClean.cleanedFirst answerClean.spareFor answerClean.cleanAnswer answerClean.linesPast answerClean.linesFrom answerClean.linesFirst answerClean.cleanLines
+unfolding ofAnswer1 answerAnswer.roomFor answerAnswer.isSkipped answerAnswer.countCheck answerAnswer.admittedBy answerAnswer.afterSkipped answerAnswer.afterLayout answerAnswer.laidOut answerAnswer.admission answerAnswer.afterAdmission answerAnswer.answerWith answerAnswer.passAnswer answerClean.placedBy answerClean.afterPass answerClean.cleanFrom answerClean.cleanedFirst answerClean.spareFor answerClean.cleanAnswer answerClean.linesPast answerClean.linesFrom answerClean.linesFirst answerClean.cleanLines
 ofAnswer = tt
 
 unfoldable ofRun1 : Unit {0}

@@ -26,12 +26,16 @@ use Rattle.unit.specs.Size.{instructionSize, metadataSize, constantSize, result
 use Rattle.unit.specs.declared.Layout.{Layout}
 use Rattle.unit.specs.declared.Layout.the-variants.{Unit as LaidUnit, Refused as LaidRefused}
 use Rattle.unit.specs.Refusal.{shortBuffer, metadataCount, typeCount}
+use Rattle.effects.specs.declared.Check.the-variants.{Passed, Refused}
 use Rattle.effects.specs.Shape.{Sections, Cell, cellAt, noCell}
 use Rattle.values.specs.declared.Atom.{Atom}
 use Rattle.values.specs.declared.Atom.the-variants.{Integer, Float}
 use Rattle.values.specs.Number.{constantAtom}
 use Rattle.answer.specs.Pass.{Outcome, unchanged, refused, rewritten, outputAfter, isWorkedOn, optimized, pass}
-use Rattle.answer.specs.Answer.{Lent, cellsOf, sectionsOf, roomFor, isSkipped, afterRoom, afterSkipped, afterLayout, laidOut, answerWith, passAnswer}
+use Rattle.answer.specs.declared.Admission.{Admission}
+use Rattle.answer.specs.declared.Admission.the-variants.{Admitted, Unchanged}
+use Rattle.answer.specs.declared.Admission.the-variants as variant
+use Rattle.answer.specs.Answer.{Lent, cellsOf, sectionsOf, roomFor, isSkipped, countCheck, admittedBy, afterSkipped, afterLayout, laidOut, admission, afterAdmission, answerWith, passAnswer}
 use Rattle.answer.specs.Clean.{retainedCell, cellsAfter, placedBy, afterPass, cleanFrom, cleanedFirst, spareFor, cleanAnswer, linesPast, linesFrom, linesFirst, cleanLines}
 use Rattle.run.specs.laws.Machine.{same-runs-refl}
 use Rattle.run.specs.Visits.{notedAt, StandsFor, PreservesPlaces}
@@ -156,27 +160,7 @@ module _ (F : Function) (cases : ℕ) where
 
 -- ---- one pass
 
--- the answer before a unit's code is worked on
-outcome-kept : (t : Bool) (o r : Outcome) (kept : List Retained) → ((kept : List Retained) → r ≡ rewritten kept → ⊥) → cond t o r ≡ rewritten kept → (t ≡ true) × (o ≡ rewritten kept)
-outcome-kept true o r kept n e = (refl, e)
-outcome-kept false o r kept n e = absurd (n kept e)
-
-left-kept : (t : Bool) (o : Outcome) (kept : List Retained) → cond t unchanged o ≡ rewritten kept → (t ≡ false) × (o ≡ rewritten kept)
-left-kept true o kept e = let z : _≡_ {A = ℕ} 0 1 = cc in absurd (omega arith)
-left-kept false o kept e = (refl, e)
-
-not-refused : (k p : ℕ) (kept : List Retained) → refused k p ≡ rewritten kept → ⊥
-not-refused k p kept e = let z : _≡_ {A = ℕ} 0 1 = cc in omega arith
-
-laid-kept : (u : List ℕ) (o : Outcome) (kept : List Retained) → laidOut (layoutOf u) o ≡ rewritten kept → (isUnit u ≡ true) × (o ≡ rewritten kept) × (linesRise u ≡ true)
-unfolding laidOut
-laid-kept u o kept = go (layoutOf u) refl
-  where
-    go : (y : Layout) → layoutOf u ≡ y → laidOut y o ≡ rewritten kept → (isUnit u ≡ true) × (o ≡ rewritten kept) × (linesRise u ≡ true)
-    go (LaidUnit h) q e = let l = layout-unit u h q in (l .0, e, l .2)
-    go (LaidRefused k p) q e = absurd (not-refused k p kept e)
-
--- What a rewritten unit went through, whatever room it was lent.
+-- What an admitted unit went through, whatever room it was lent.
 pub record Worked (u : List ℕ) (room : Bool) : Type 0 where
   pub laid : isUnit u ≡ true
   pub rise : linesRise u ≡ true
@@ -186,30 +170,60 @@ pub record Worked (u : List ℕ) (room : Bool) : Type 0 where
   pub described : headerOf u .counts .metadata ≡ headerOf u .counts .instructions
   pub typed : headerOf u .counts .types ≡ headerOf u .counts .locals
 
-pub answer-optimized : (u : List ℕ) (room : Bool) (kept : List Retained) → answerWith room u ≡ rewritten kept → Worked u room × (optimized (sectionsOf u) (cellsOf u) ≡ rewritten kept)
-unfolding answerWith afterLayout afterSkipped afterRoom isSkipped
-answer-optimized u room kept e =
-    let laid = laid-kept u _ kept e in
-    let worked = left-kept (not (isWorkedOn (headerOf u .counts .instructions)) || eqb (headerOf u .counts .defer) 1) _ kept (laid .1) in
-    let lent = outcome-kept room _ (refused shortBuffer 0) kept (not-refused shortBuffer 0) (worked .1) in
-    let described = outcome-kept (eqb (headerOf u .counts .metadata) (headerOf u .counts .instructions)) _ (refused metadataCount 0) kept (not-refused metadataCount 0) (lent .1) in
-    let typed = outcome-kept (eqb (headerOf u .counts .types) (headerOf u .counts .locals)) _ (refused typeCount 0) kept (not-refused typeCount 0) (described .1) in
-    let on = go (isWorkedOn (headerOf u .counts .instructions)) _ (worked .0) in (
-      record {
-        laid = laid .0;
-        rise = laid .2;
-        worked = rw (cells-long u) on;
-        few = worked-size (headerOf u .counts .instructions) on .1;
-        lent = lent .0;
-        described = eqb-true (headerOf u .counts .metadata) (headerOf u .counts .instructions) (described .0);
-        typed = eqb-true (headerOf u .counts .types) (headerOf u .counts .locals) (typed .0);
-      },
-      typed .1,
-    )
+-- the rows that let it pass, one by one
+not-admitted : (k p : ℕ) → variant.Refused k p ≡ Admitted → ⊥
+not-admitted k p e = let z : _≡_ {A = ℕ} 0 1 = cc in omega arith
+
+laid-admitted : (u : List ℕ) (rest : Admission) → laidOut (layoutOf u) rest ≡ Admitted → (isUnit u ≡ true) × (rest ≡ Admitted) × (linesRise u ≡ true)
+unfolding laidOut
+laid-admitted u rest = go (layoutOf u) refl
   where
-    go : (s t : Bool) → (not s || t) ≡ false → s ≡ true
-    go true t e = refl
-    go false t e = absurd (true≢false e)
+    go : (y : Layout) → layoutOf u ≡ y → laidOut y rest ≡ Admitted → (isUnit u ≡ true) × (rest ≡ Admitted) × (linesRise u ≡ true)
+    go (LaidUnit h) q e = let l = layout-unit u h q in (l .0, e, l .2)
+    go (LaidRefused k p) q e = absurd (not-admitted k p e)
+
+worked-admitted : (s t : Bool) (rest : Admission) → cond (not s || t) Unchanged rest ≡ Admitted → (s ≡ true) × (rest ≡ Admitted)
+worked-admitted true true rest e = let z : _≡_ {A = ℕ} 0 1 = cc in absurd (omega arith)
+worked-admitted true false rest e = (refl, e)
+worked-admitted false t rest e = let z : _≡_ {A = ℕ} 0 1 = cc in absurd (omega arith)
+
+lent-admitted : (room : Bool) (rest : Admission) → cond room rest (variant.Refused shortBuffer 0) ≡ Admitted → (room ≡ true) × (rest ≡ Admitted)
+lent-admitted true rest e = (refl, e)
+lent-admitted false rest e = absurd (not-admitted shortBuffer 0 e)
+
+counts-admitted : (s t : Bool) → admittedBy (cond s (cond t Passed (Refused typeCount 0)) (Refused metadataCount 0)) ≡ Admitted → (s ≡ true) × (t ≡ true)
+unfolding admittedBy
+counts-admitted true true e = (refl, refl)
+counts-admitted true false e = absurd (not-admitted typeCount 0 e)
+counts-admitted false t e = absurd (not-admitted metadataCount 0 e)
+
+pub admitted-worked : (u : List ℕ) (room : Bool) → admission room u ≡ Admitted → Worked u room
+unfolding admission afterLayout afterSkipped countCheck isSkipped
+admitted-worked u room e =
+    let c = headerOf u .counts in
+    let laid = laid-admitted u _ e in
+    let worked = worked-admitted (isWorkedOn (c .instructions)) (eqb (c .defer) 1) _ (laid .1) in
+    let lent = lent-admitted room _ (worked .1) in
+    let counts = counts-admitted (eqb (c .metadata) (c .instructions)) (eqb (c .types) (c .locals)) (lent .1) in
+    record {
+      laid = laid .0;
+      rise = laid .2;
+      worked = rw (cells-long u) (worked .0);
+      few = worked-size (c .instructions) (worked .0) .1;
+      lent = lent .0;
+      described = eqb-true (c .metadata) (c .instructions) (counts .0);
+      typed = eqb-true (c .types) (c .locals) (counts .1);
+    }
+
+-- a rewritten unit was admitted
+pub answer-optimized : (u : List ℕ) (room : Bool) (kept : List Retained) → answerWith room u ≡ rewritten kept → Worked u room × (optimized (sectionsOf u) (cellsOf u) ≡ rewritten kept)
+unfolding answerWith afterAdmission
+answer-optimized u room kept = go (admission room u) refl
+  where
+    go : (a : Admission) → admission room u ≡ a → afterAdmission a (optimized (sectionsOf u) (cellsOf u)) ≡ rewritten kept → Worked u room × (optimized (sectionsOf u) (cellsOf u) ≡ rewritten kept)
+    go Admitted q e = (admitted-worked u room q, e)
+    go Unchanged q e = let z : _≡_ {A = ℕ} 0 1 = cc in absurd (omega arith)
+    go (variant.Refused k p) q e = let z : _≡_ {A = ℕ} 0 1 = cc in absurd (omega arith)
 
 pub answer-worked : (u : List ℕ) (room : Bool) (kept : List Retained) → answerWith room u ≡ rewritten kept → Worked u room
 answer-worked u room kept e = answer-optimized u room kept e .0

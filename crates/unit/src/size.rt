@@ -62,7 +62,7 @@ pub fn set_words(s: usize) -> usize
     (s + 63) / 64
 }
 
-fn lesser(a: usize, b: usize) -> usize
+pub fn lesser(a: usize, b: usize) -> usize
     ensures { λ r. ⌜ r ≡ min a b ⌝ }
 {
     if a < b { a } else { b }

@@ -89,12 +89,15 @@ module _ {F : Function} {kept : List Retained} (same : SamePlaces F kept) (W : W
           go false e i = absurd (false≢true i)
       struck false m p i = absurd (false≢true i)
 
+  -- What holds of each retained place whose old place the given run visits holds of each place that the returned run visits.
+  pub visited-kept : (T : ℕ → Type 0) → ((q : ℕ) → q < length kept → Visited W (programOf F W) (start σ) (old q) → T q)
+      → (q : ℕ) → Visited W returned (start σ) q → T q
+  unfolding programOf resultFunction
+  visited-kept T given q v = given q (rw (length-map kept retainedCell) at (visited-inside v)) (visited-old v)
+
   -- What passes from an instruction to one that stands for it, and holds of each instruction that the given run visits, holds of each that the
   -- returned run visits.
   pub visited-hold : (T : Instruction → Type 0) → ((i j : Instruction) → StandsFor i j → T i → T j)
       → ((p : ℕ) → Visited W (programOf F W) (start σ) p → T (cellAt (F .cells) p .instruction))
       → (q : ℕ) → Visited W returned (start σ) q → T (cellAt (cellsAfter kept) q .instruction)
-  unfolding programOf resultFunction
-  visited-hold T passes given q v =
-      let inside : q < length kept = rw (length-map kept retainedCell) at (visited-inside v) in
-      passes _ _ (same .stands q inside) (given (old q) (visited-old v))
+  visited-hold T passes given = visited-kept (λ q. T (cellAt (cellsAfter kept) q .instruction)) (λ q h v. passes _ _ (same .stands q h) (given (old q) v))
