@@ -10,7 +10,7 @@ use Rattle.unit.specs.Entry.{metadataAt, goodMetadata}
 use Rattle.unit.specs.laws.Region.{keepAt, loopEndsIn}
 use Rattle.unit.specs.Size.{metadataSize, caseSize, work32Room, setsRoom, maxInstructions, maxLocalSlots}
 use Rattle.effects.specs.Check.{operandRefusal}
-use Rattle.effects.specs.Shape.{Sections, Tables, tablesOf}
+use Rattle.effects.specs.Shape.{Sections}
 use Rattle.effects.specs.laws.Cells.{cellOf, cellsBy}
 use Rattle.flow.specs.laws.BranchLaws.{BranchesInside}
 use Rattle.flow.specs.laws.Flags.{Flags}
@@ -20,24 +20,21 @@ use Rattle.liveness.specs.Dead.{deadStores}
 use Rattle.answer.specs.Pass.{keptPlaces, usefulPlaces}
 use Rattle.removal.specs.laws.Jumping.{mapOf, endsIn}
 
--- the sections that stay; "number of types is not s" was refused
-abbrev pub sectionsIn : List ℕ → List ℕ → List ℕ → List ℕ → List ℕ → Sections
-sectionsIn types constants functions externs cases = record { locals = length types; types = types; constants = constants; tables = tablesOf functions externs cases }
-
--- what `retain` is given: checked code, its leaders, and the reached places
-pub record Retainable (T : Tables) (n : ℕ) (words metadata types leads marks : List ℕ) (room32 room64 : ℕ) : Type 0 where
+-- what `retain` is given: checked code, its leaders, and the reached places; "number of types is not s" was refused
+pub record Retainable (S : Sections) (n : ℕ) (words metadata leads marks : List ℕ) (room32 room64 : ℕ) : Type 0 where
   pub some : 1 < n
   pub few : n ≤ maxInstructions
-  pub slots : length types ≤ maxLocalSlots
+  pub typed : length (S .types) ≡ S .locals
+  pub slots : S .locals ≤ maxLocalSlots
   pub entries : length metadata ≡ metadataSize * n
-  pub good : (p : ℕ) → p < n → goodMetadata (length (T .cases) / caseSize) (metadataAt metadata p) ≡ true
+  pub good : (p : ℕ) → p < n → goodMetadata (length (S .tables .cases) / caseSize) (metadataAt metadata p) ≡ true
   pub flags : Flags leads
   pub one : Marked leads 0
   pub marked : Flags marks
-  pub operands : (p : ℕ) → p < n → operandRefusal (length types) T (cellOf metadata p (getD words p 0)) ≡ 0
+  pub operands : (p : ℕ) → p < n → operandRefusal (S .locals) (S .tables) (cellOf metadata p (getD words p 0)) ≡ 0
   pub inside : BranchesInside words
   pub long32 : work32Room n ≤ room32
-  pub long64 : setsRoom n (length types) ≤ room64
+  pub long64 : setsRoom n (S .locals) ≤ room64
 
 -- what is left after plain hints: the useful places, and the loop ends
 pub record Useful (words metadata work work′ : List ℕ) : Type 0 where
@@ -45,16 +42,16 @@ pub record Useful (words metadata work work′ : List ℕ) : Type 0 where
   pub ends : endsIn (length words) work′ ≡ anchors (midOf 0 (length words) work) (cellsBy words metadata)
 
 -- after dead stores
-pub record Stored (n : ℕ) (metadata types constants functions externs cases work32 work64 work32′ work64′ : List ℕ) : Type 0 where
+pub record Stored (S : Sections) (n : ℕ) (metadata work32 work64 work32′ work64′ : List ℕ) : Type 0 where
   pub keep : midOf (keepAt n) n work32′
-      ≡ deadStores (sectionsIn types constants functions externs cases) (midOf 0 n work32) (midOf (keepAt n) n work32) (cellsBy (midOf 0 n work64) metadata)
+      ≡ deadStores S (midOf 0 n work32) (midOf (keepAt n) n work32) (cellsBy (midOf 0 n work64) metadata)
   pub ends : midOf (keepAt n + loopEndsIn n) n work32′ ≡ midOf (keepAt n + loopEndsIn n) n work32
   pub code : midOf 0 n work64′ ≡ midOf 0 n work64
 
 -- what it leaves: the retained places and their map; the code as it was
-pub record Retains (n : ℕ) (metadata types constants functions externs cases work32 work64 work32′ work64′ : List ℕ) : Type 0 where
+pub record Retains (S : Sections) (n : ℕ) (metadata work32 work64 work32′ work64′ : List ℕ) : Type 0 where
   pub keep : midOf (keepAt n) n work32′
-      ≡ keptPlaces (sectionsIn types constants functions externs cases) (midOf 0 n work32) (midOf (keepAt n) n work32) (cellsBy (midOf 0 n work64) metadata)
+      ≡ keptPlaces S (midOf 0 n work32) (midOf (keepAt n) n work32) (cellsBy (midOf 0 n work64) metadata)
   pub flags : Flags (midOf (keepAt n) n work32′)
   pub bounds : midOf (keepAt n + n) (n + 1) work32′ ≡ mapOf (midOf (keepAt n) n work32′)
   pub code : midOf 0 n work64′ ≡ midOf 0 n work64

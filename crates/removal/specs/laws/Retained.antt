@@ -11,7 +11,7 @@ use Rattle.words.specs.laws.Only.{mid-mid, back-within, back-before, back-after
 use Rattle.words.specs.laws.Regions.{mid-long, put-long, mid-put}
 use Rattle.unit.specs.laws.Region.{startsAt, keepAt, loopEndsIn, listIn}
 use Rattle.unit.specs.Size.{setsRoom}
-use Rattle.effects.specs.Shape.{Tables, Cell, tablesOf}
+use Rattle.effects.specs.Shape.{Sections, Cell}
 use Rattle.effects.specs.laws.Cells.{cellsBy, cells-long}
 use Rattle.flow.specs.laws.Blocks.{Numbered, numbered-start}
 use Rattle.flow.specs.laws.Flags.{Flags}
@@ -23,7 +23,7 @@ use Rattle.liveness.specs.laws.Droppable.{Droppable}
 use Rattle.liveness.specs.laws.Sweep.{dead-long}
 use Rattle.run.specs.laws.Optimized.{useful-long}
 use Rattle.answer.specs.Pass.{usefulPlaces}
-use Rattle.removal.specs.laws.KeptWork.{sectionsIn, Useful, Stored, Retainable}
+use Rattle.removal.specs.laws.KeptWork.{Useful, Stored, Retainable}
 
 mark-long : (l qs : List ℕ) → length (markAll l qs) ≡ length l
 unfolding markAll
@@ -55,8 +55,8 @@ hints-useful words metadata work work₁ keep k e room a u =
     }
 
 -- ---- dead stores
-module _ (T : Tables) (n : ℕ) (words metadata types work32 : List ℕ) (room64 : ℕ)
-    (d : Retainable T n words metadata types (midOf 0 n work32) (midOf (keepAt n) n work32) (length work32) room64) (long : length words ≡ n) where
+module _ (S : Sections) (n : ℕ) (words metadata work32 : List ℕ) (room64 : ℕ)
+    (d : Retainable S n words metadata (midOf 0 n work32) (midOf (keepAt n) n work32) (length work32) room64) (long : length words ≡ n) where
   room : keepAt n + n ≤ length work32
   room = omega (arith, d .long32)
 
@@ -102,12 +102,12 @@ module _ (T : Tables) (n : ℕ) (words metadata types work32 : List ℕ) (room64
     leads-long : length (midOf 0 n work32) ≡ n
     leads-long = mid-long work32 0 n (omega (arith, room))
 
-    pub stores-known : Droppable T n count words metadata types (midOf 0 n (midOf 0 (keepAt n + n) now)) (midOf n n (midOf 0 (keepAt n + n) now))
+    pub stores-known : Droppable (S .tables) n count words metadata (S .types) (midOf 0 n (midOf 0 (keepAt n + n) now)) (midOf n n (midOf 0 (keepAt n + n) now))
         (midOf (startsAt n) (n + 1) (midOf 0 (keepAt n + n) now)) (midOf (keepAt n) n (midOf 0 (keepAt n + n) now))
     stores-known = rw (leads-now, part-now n n (omega arith), part-now (startsAt n) (n + 1) (omega arith), keep-now) (record {
       some = omega (arith, d .some);
       most = d .few;
-      few = d .slots;
+      few = rw (d .typed) (d .slots);
       entries = omega (arith, d .entries);
       long-words = long;
       long-leaders = leads-long;
@@ -121,7 +121,7 @@ module _ (T : Tables) (n : ℕ) (words metadata types work32 : List ℕ) (room64
       numbers = rw leads-long at (numbers .numbers);
       places = λ b h. numbered-start (midOf 0 n work32) (midOf n n blocked) _ (midOf (startsAt n) (n + 1) blocked) count (d .flags) numbers b (rw (← numbers .counted) h);
       good = d .good;
-      operands = d .operands;
+      operands = rw (d .typed) (d .operands);
       inside = rw long at (d .inside);
     })
 
@@ -129,13 +129,13 @@ module _ (T : Tables) (n : ℕ) (words metadata types work32 : List ℕ) (room64
     stores-room = rw (mid-long now 0 (keepAt n + n) (omega (arith, same, room))) (omega arith)
 
     -- and what dead stores leave then
-    module _ (work64 work64′ stored : List ℕ) (constants functions externs cases : List ℕ) (code : words ≡ midOf 0 n work64) (tables : T ≡ tablesOf functions externs cases)
-        (kept : stored ≡ putMid (keepAt n) n (midOf 0 (keepAt n + n) now) (deadStores (sectionsIn types constants functions externs cases) (midOf 0 n (midOf 0 (keepAt n + n) now)) (midOf (keepAt n) n (midOf 0 (keepAt n + n) now)) (cellsBy words metadata)))
+    module _ (work64 work64′ stored : List ℕ) (code : words ≡ midOf 0 n work64)
+        (kept : stored ≡ putMid (keepAt n) n (midOf 0 (keepAt n + n) now) (deadStores S (midOf 0 n (midOf 0 (keepAt n + n) now)) (midOf (keepAt n) n (midOf 0 (keepAt n + n) now)) (cellsBy words metadata)))
         (still : midOf 0 n work64′ ≡ midOf 0 n work64) where
       abbrev dead : List ℕ
-      dead = deadStores (sectionsIn types constants functions externs cases) (midOf 0 n work32) (midOf (keepAt n) n work32) (cellsBy words metadata)
+      dead = deadStores S (midOf 0 n work32) (midOf (keepAt n) n work32) (cellsBy words metadata)
 
-      pub stores-stored : Stored n metadata types constants functions externs cases work32 work64 (putMid 0 (keepAt n + n) now stored) work64′
+      pub stores-stored : Stored S n metadata work32 work64 (putMid 0 (keepAt n + n) now stored) work64′
       stores-stored =
           let whole : length (midOf 0 (keepAt n + n) now) ≡ keepAt n + n = mid-long now 0 (keepAt n + n) (omega (arith, same, room)) in
           let cells : length (cellsBy words metadata) ≡ n = cells-long words metadata ∙ long in
@@ -150,7 +150,7 @@ module _ (T : Tables) (n : ℕ) (words metadata types work32 : List ℕ) (room64
                 ∙ back-within now 0 (keepAt n + n) stored outer size-stored (keepAt n) n (omega arith)
                 ∙ ap (λ (l : List ℕ). midOf (keepAt n) n l) at
                 ∙ mid-put (midOf 0 (keepAt n + n) now) (keepAt n) n dead size-dead inner
-                ∙ ap (λ (l : List ℕ). deadStores (sectionsIn types constants functions externs cases) (midOf 0 n work32) (midOf (keepAt n) n work32) (cellsBy l metadata)) code;
+                ∙ ap (λ (l : List ℕ). deadStores S (midOf 0 n work32) (midOf (keepAt n) n work32) (cellsBy l metadata)) code;
             ends =
                 back-after now 0 (keepAt n + n) stored outer size-stored (keepAt n + loopEndsIn n) n (omega arith) (omega (arith, same, d .long32))
                 ∙ back-after work32 0 (keepAt n) blocked fits size (keepAt n + loopEndsIn n) n (omega arith) (omega (arith, d .long32));
@@ -158,13 +158,13 @@ module _ (T : Tables) (n : ℕ) (words metadata types work32 : List ℕ) (room64
           }
 
 -- the same, with the parts' lengths as the code has them
-module _ (T : Tables) (n k j : ℕ) (words metadata types work32 : List ℕ) (room64 : ℕ) (e : k ≡ keepAt n) (f : j ≡ keepAt n + n)
-    (d : Retainable T n words metadata types (midOf 0 n work32) (midOf (keepAt n) n work32) (length work32) room64) (long : length words ≡ n)
+module _ (S : Sections) (n k j : ℕ) (words metadata work32 : List ℕ) (room64 : ℕ) (e : k ≡ keepAt n) (f : j ≡ keepAt n + n)
+    (d : Retainable S n words metadata (midOf 0 n work32) (midOf (keepAt n) n work32) (length work32) room64) (long : length words ≡ n)
     (count : ℕ) (blocked : List ℕ) (size : length blocked ≡ length (midOf 0 k work32))
     (b : Numbered (midOf 0 n (midOf 0 k work32)) (midOf n n blocked) (midOf (startsAt n) (n + 1) (midOf 0 k work32)) (midOf (startsAt n) (n + 1) blocked) count)
     (o : blocked ≡ putMid n (2 * n + 1) (midOf 0 k work32) (midOf n (2 * n + 1) blocked)) where
   size′ : length blocked ≡ keepAt n
-  size′ = rw e at size ∙ front-long T n words metadata types work32 room64 d long
+  size′ = rw e at size ∙ front-long S n words metadata work32 room64 d long
 
   b′ : Numbered (midOf 0 n (midOf 0 (keepAt n) work32)) (midOf n n blocked) (midOf (startsAt n) (n + 1) (midOf 0 (keepAt n) work32)) (midOf (startsAt n) (n + 1) blocked) count
   b′ = rw e at b
@@ -172,16 +172,16 @@ module _ (T : Tables) (n k j : ℕ) (words metadata types work32 : List ℕ) (ro
   o′ : blocked ≡ putMid n (2 * n + 1) (midOf 0 (keepAt n) work32) (midOf n (2 * n + 1) blocked)
   o′ = rw e at o
 
-  pub stores-asks : Droppable T n count words metadata types (midOf 0 n (midOf 0 j (putMid 0 k work32 blocked))) (midOf n n (midOf 0 j (putMid 0 k work32 blocked)))
+  pub stores-asks : Droppable (S .tables) n count words metadata (S .types) (midOf 0 n (midOf 0 j (putMid 0 k work32 blocked))) (midOf n n (midOf 0 j (putMid 0 k work32 blocked)))
       (midOf (startsAt n) (n + 1) (midOf 0 j (putMid 0 k work32 blocked))) (midOf (keepAt n) n (midOf 0 j (putMid 0 k work32 blocked)))
-      × (setsRoom n (length types) ≤ room64)
+      × (setsRoom n (length (S .types)) ≤ room64)
       × (keepAt n + n ≤ length (midOf 0 j (putMid 0 k work32 blocked)))
-  stores-asks = rw (e, f) (stores-known T n words metadata types work32 room64 d long count blocked size′ b′ o′, d .long64, stores-room T n words metadata types work32 room64 d long count blocked size′ b′ o′)
+  stores-asks = rw (e, f) (stores-known S n words metadata work32 room64 d long count blocked size′ b′ o′, rw (d .typed) (d .long64), stores-room S n words metadata work32 room64 d long count blocked size′ b′ o′)
 
-  pub stores-leave : (work64 work64′ stored constants functions externs cases : List ℕ) → words ≡ midOf 0 n work64 → T ≡ tablesOf functions externs cases
+  pub stores-leave : (work64 work64′ stored : List ℕ) → words ≡ midOf 0 n work64
       → stored
       ≡ putMid (keepAt n) n (midOf 0 j (putMid 0 k work32 blocked))
-      (deadStores (sectionsIn types constants functions externs cases) (midOf 0 n (midOf 0 j (putMid 0 k work32 blocked))) (midOf (keepAt n) n (midOf 0 j (putMid 0 k work32 blocked))) (cellsBy words metadata))
-      → midOf 0 n work64′ ≡ midOf 0 n work64 → Stored n metadata types constants functions externs cases work32 work64 (putMid 0 j (putMid 0 k work32 blocked) stored) work64′
-  stores-leave work64 work64′ stored constants functions externs cases w t kept still =
-      rw (e, f) (stores-stored T n words metadata types work32 room64 d long count blocked size′ b′ o′ work64 work64′ stored constants functions externs cases w t (rw (e, f) at kept) still)
+      (deadStores S (midOf 0 n (midOf 0 j (putMid 0 k work32 blocked))) (midOf (keepAt n) n (midOf 0 j (putMid 0 k work32 blocked))) (cellsBy words metadata))
+      → midOf 0 n work64′ ≡ midOf 0 n work64 → Stored S n metadata work32 work64 (putMid 0 j (putMid 0 k work32 blocked) stored) work64′
+  stores-leave work64 work64′ stored w kept still =
+      rw (e, f) (stores-stored S n words metadata work32 room64 d long count blocked size′ b′ o′ work64 work64′ stored w (rw (e, f) at kept) still)

@@ -14,7 +14,7 @@ use Rattle.words.specs.laws.Only.{mid-mid, back-within, back-before}
 use Rattle.words.specs.laws.Regions.{mid-long, put-long, drop-behind}
 use Rattle.unit.specs.laws.Region.{keepAt, loopEndsIn, listIn}
 use Rattle.unit.specs.Size.{metadataSize, maxInstructions}
-use Rattle.effects.specs.Shape.{Tables, Sections, Cell, tablesOf}
+use Rattle.effects.specs.Shape.{Sections, Cell}
 use Rattle.effects.specs.laws.Cells.{cellsBy, cells-long}
 use Rattle.flow.specs.laws.Control.{Controls}
 use Rattle.flow.specs.laws.Flags.{Flags}
@@ -27,11 +27,11 @@ use Rattle.run.specs.laws.Optimized.{useful-flags, useful-long}
 use Rattle.answer.specs.Jump.{jumpRounds}
 use Rattle.answer.specs.Pass.{keptPlaces, usefulPlaces}
 use Rattle.removal.specs.laws.Jumping.{Rounds, endsIn, mapOf}
-use Rattle.removal.specs.laws.KeptWork.{sectionsIn, Useful, Stored, Retainable, Retains}
+use Rattle.removal.specs.laws.KeptWork.{Useful, Stored, Retainable, Retains}
 
 -- what dropping hints asks, with the parts' lengths as the code has them
-pub hints-asks : {T : Tables} {types leads marks : List ℕ} (n k at count m : ℕ) (metadata work32 work64 : List ℕ) → k ≡ n → m ≡ count
-    → Retainable T n (midOf 0 n work64) metadata types leads marks (length work32) at → at + count ≤ length work64 → Controls (midOf 0 n work64) (midOf at count work64) n
+pub hints-asks : {S : Sections} {leads marks : List ℕ} (n k at count m : ℕ) (metadata work32 work64 : List ℕ) → k ≡ n → m ≡ count
+    → Retainable S n (midOf 0 n work64) metadata leads marks (length work32) at → at + count ≤ length work64 → Controls (midOf 0 n work64) (midOf at count work64) n
     → (length (midOf 0 k work64) ≤ maxInstructions)
     × (metadataSize * length (midOf 0 k work64) ≤ length metadata)
     × (listIn (length (midOf 0 k work64)) ≤ length (midOf (keepAt n) (length work32 - keepAt n) work32))
@@ -42,8 +42,8 @@ hints-asks n k at count m metadata work32 work64 e f d room c =
     rw (e, f, size, rest) (d .few, omega (arith, d .entries), omega (arith, d .long32), c)
 
 -- the part of the 64-bit work before that list, which dead stores are dropped in, is as long as `at` says
-module _ (n k : ℕ) (metadata types functions externs cases work32 work64 hinted : List ℕ) (at l : ℕ) (e : k ≡ n) (f : l ≡ at) (within : at ≤ length work64)
-    (d : Retainable (tablesOf functions externs cases) n (midOf 0 n work64) metadata types (midOf 0 n work32) (midOf (keepAt n) n work32) (length work32) at)
+module _ (S : Sections) (n k : ℕ) (metadata work32 work64 hinted : List ℕ) (at l : ℕ) (e : k ≡ n) (f : l ≡ at) (within : at ≤ length work64)
+    (d : Retainable S n (midOf 0 n work64) metadata (midOf 0 n work32) (midOf (keepAt n) n work32) (length work32) at)
     (size : length hinted ≡ length (midOf (keepAt n) (length work32 - keepAt n) work32)) (u : Useful (midOf 0 k work64) metadata (midOf (keepAt n) (length work32 - keepAt n) work32) hinted) where
   abbrev words : List ℕ
   words = midOf 0 n work64
@@ -105,11 +105,12 @@ module _ (n k : ℕ) (metadata types functions externs cases work32 work64 hinte
       back-within work32 (keepAt n) rest hinted fits hinted-long (loopEndsIn n) n (omega (arith, d .long32))
       ∙ (rw code-long at (useful .ends)) ∙ ap (λ (l : List ℕ). anchors l cells) part-marks
 
-  pub hints-retainable : Retainable (tablesOf functions externs cases) n (midOf 0 n (midOf 0 l work64)) metadata types (midOf 0 n (putMid (keepAt n) (length work32 - keepAt n) work32 hinted))
+  pub hints-retainable : Retainable S n (midOf 0 n (midOf 0 l work64)) metadata (midOf 0 n (putMid (keepAt n) (length work32 - keepAt n) work32 hinted))
       (midOf (keepAt n) n (putMid (keepAt n) (length work32 - keepAt n) work32 hinted)) (length (putMid (keepAt n) (length work32 - keepAt n) work32 hinted)) (length (midOf 0 l work64))
   hints-retainable = rw (leads₁, keep₁, long₁, front-code, front-long) (record {
     some = d .some;
     few = d .few;
+    typed = d .typed;
     slots = d .slots;
     entries = d .entries;
     good = d .good;
@@ -124,33 +125,29 @@ module _ (n k : ℕ) (metadata types functions externs cases work32 work64 hinte
 
   -- after dead stores
   module _ (work32′ front : List ℕ) (long32 : length work32′ ≡ length (putMid (keepAt n) (length work32 - keepAt n) work32 hinted)) (long64 : length front ≡ length (midOf 0 l work64))
-      (st : (constants : List ℕ) → Stored n metadata types constants functions externs cases (putMid (keepAt n) (length work32 - keepAt n) work32 hinted) (midOf 0 l work64) work32′ front) where
+      (st : Stored S n metadata (putMid (keepAt n) (length work32 - keepAt n) work32 hinted) (midOf 0 l work64) work32′ front) where
     abbrev work64′ : List ℕ
     work64′ = putMid 0 l work64 front
 
-    module _ (constants : List ℕ) where
-      abbrev S : Sections
-      S = sectionsIn types constants functions externs cases
+    abbrev dead : List ℕ
+    dead = deadStores S (midOf 0 n work32) (usefulPlaces marks cells) cells
 
-      abbrev dead : List ℕ
-      dead = deadStores S (midOf 0 n work32) (usefulPlaces marks cells) cells
+    keep₂ : midOf (keepAt n) n work32′ ≡ deadStores S (midOf 0 n work32) (usefulPlaces marks cells) cells
+    keep₂ = st .keep ∙ rw (leads₁, keep₁, front-code)
 
-      keep₂ : midOf (keepAt n) n work32′ ≡ deadStores S (midOf 0 n work32) (usefulPlaces marks cells) cells
-      keep₂ = st constants .keep ∙ rw (leads₁, keep₁, front-code)
+    dead-size : length dead ≡ n
+    dead-size = dead-long S (midOf 0 n work32) (usefulPlaces marks cells) cells (useful-long marks cells) ∙ cells-size
 
-      dead-size : length dead ≡ n
-      dead-size = dead-long S (midOf 0 n work32) (usefulPlaces marks cells) cells (useful-long marks cells) ∙ cells-size
-
-      dead-ok : Flags dead
-      dead-ok = dead-flags S (midOf 0 n work32) (usefulPlaces marks cells) cells (useful-flags marks cells (d .marked))
+    dead-ok : Flags dead
+    dead-ok = dead-flags S (midOf 0 n work32) (usefulPlaces marks cells) cells (useful-flags marks cells (d .marked))
 
     ends₂ : midOf (keepAt n + loopEndsIn n) n work32′ ≡ anchors marks cells
-    ends₂ = st [] .ends ∙ ends₁
+    ends₂ = st .ends ∙ ends₁
 
     code₂ : midOf 0 n work64′ ≡ midOf 0 n work64
     code₂ =
         back-within work64 0 l front (omega (arith, f, within)) (long64 ∙ front-long ∙ sym f) 0 n (omega (arith, f, d .long64))
-        ∙ st [] .code ∙ front-code
+        ∙ st .code ∙ front-code
 
     -- what lies behind the part is as it was
     pub behind-same : drop at (putMid 0 l work64 front) ≡ drop at work64
@@ -190,7 +187,7 @@ module _ (n k : ℕ) (metadata types functions externs cases work32 work64 hinte
     jumps-asks count m g c = (
       record { few = rw code-size (d .few); long = rw (code-size, rest-long) many; inside = rw same-code (d .inside) },
       rw (code-size, same-code, behind-same, g) c,
-      rw (code-size, part-keep, keep₂ []) (dead-ok []),
+      rw (code-size, part-keep, keep₂) dead-ok,
     )
 
     module _ (jumped : List ℕ) (jumped-size : length jumped ≡ length (midOf (keepAt n) (length work32′ - keepAt n) work32′))
@@ -199,13 +196,13 @@ module _ (n k : ℕ) (metadata types functions externs cases work32 work64 hinte
         ≡ jumpRounds 16 (endsIn (length (midOf 0 k (putMid 0 l work64 front))) (midOf (keepAt n) (length work32′ - keepAt n) work32′)) (cellsBy (midOf 0 k (putMid 0 l work64 front)) metadata)
         (midOf 0 (length (midOf 0 k (putMid 0 l work64 front))) (midOf (keepAt n) (length work32′ - keepAt n) work32′))
         → jumped ≡ putMid 0 (loopEndsIn (length (midOf 0 k (putMid 0 l work64 front)))) (midOf (keepAt n) (length work32′ - keepAt n) work32′) (keep ++ mapOf keep)) where
-      pub jumps-retained : (constants : List ℕ) → Retains n metadata types constants functions externs cases work32 work64 (putMid (keepAt n) (length work32′ - keepAt n) work32′ jumped) (putMid 0 l work64 front)
+      pub jumps-retained : Retains S n metadata work32 work64 (putMid (keepAt n) (length work32′ - keepAt n) work32′ jumped) (putMid 0 l work64 front)
       unfolding keptPlaces
-      jumps-retained constants =
-          let keep : List ℕ = jumpRounds 16 (anchors marks cells) cells (dead constants) in
-          let keep-size : length keep ≡ n = rounds-long (anchors marks cells) cells 16 (dead constants) (dead-size constants ∙ sym cells-size) ∙ cells-size in
+      jumps-retained =
+          let keep : List ℕ = jumpRounds 16 (anchors marks cells) cells dead in
+          let keep-size : length keep ≡ n = rounds-long (anchors marks cells) cells 16 dead (dead-size ∙ sym cells-size) ∙ cells-size in
           let is : jumped ≡ putMid 0 (loopEndsIn n) (midOf (keepAt n) rest₂ work32′) (keep ++ mapOf keep) =
-          j metadata keep (rw (code-size, part-ends, same-code, part-keep, keep₂ constants)) ∙ ap (λ (m : ℕ). putMid 0 (loopEndsIn m) (midOf (keepAt n) rest₂ work32′) (keep ++ mapOf keep)) code-size in
+          j metadata keep (rw (code-size, part-ends, same-code, part-keep, keep₂)) ∙ ap (λ (m : ℕ). putMid 0 (loopEndsIn m) (midOf (keepAt n) rest₂ work32′) (keep ++ mapOf keep)) code-size in
           let map-size : length (mapOf keep) ≡ n + 1 = length-tabulate (length keep + 1) (boundary keep) ∙ ap (λ (m : ℕ). m + 1) keep-size in
           let both : length (keep ++ mapOf keep) ≡ loopEndsIn n = length-append keep (mapOf keep) ∙ omega (arith, keep-size, map-size) in
           let inner : 0 + loopEndsIn n ≤ length (midOf (keepAt n) rest₂ work32′) = omega (arith, rest-long, many) in
@@ -226,7 +223,7 @@ module _ (n k : ℕ) (metadata types functions externs cases work32 work64 hinte
           ∙ ap (λ (m : ℕ). take m (mapOf keep)) (sym map-size) ∙ take-length (mapOf keep) in
           record {
             keep = at;
-            flags = rw at (rounds-flags (anchors marks cells) cells 16 (dead constants) (dead-ok constants));
+            flags = rw at (rounds-flags (anchors marks cells) cells 16 dead dead-ok);
             bounds = bounds ∙ ap mapOf (sym at);
             code = code₂;
           }
