@@ -15,9 +15,8 @@ ghost use Rattle.clean.specs.laws.Ready.{Ready, laterOutcome};
 ghost use Rattle.clean.specs.laws.Later.{Placeable};
 use crate::buffer;
 use optimize::Answer;
-use optimize::parts;
+use optimize::function;
 use unit::result;
-use unit::section;
 use unit::size;
 
 // The pass on the code and metadata of a result, and the unit's other sections.
@@ -34,14 +33,10 @@ fn work(
 {
     let metadata = result::metadata_at(k);
     let places = result::places_at(k);
-    parts::optimize(
+    function::optimize(
+        unit,
         &from[size::RESULT_HEADER..metadata],
         &from[metadata..places],
-        section::types(unit),
-        section::constants(unit),
-        section::functions(unit),
-        section::externs(unit),
-        section::cases(unit),
         to,
         work32,
         work64,

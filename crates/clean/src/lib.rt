@@ -1,16 +1,17 @@
 // The cleaning: up to three passes. Each reads the code of the pass before from one spare buffer and writes to the other.
 ghost use mathlib.Core.Path.{_≡_};
-ghost use mathlib.Core.Bool.{true, false, _&&_};
+ghost use mathlib.Core.Bool.{_&&_};
 ghost use mathlib.Core.List.{[]};
-ghost use Prim.Native.Nat.{_^_, _≤_, _<_};
+ghost use Prim.Native.Nat.{_≤_};
 ghost use lib.ListN.{length};
 ghost use borrow.Rule.Slice.PartMut.{midOf};
-ghost use Rattle.unit.specs.declared.Layout.the-variants.{Unit};
-ghost use Rattle.unit.specs.Layout.{headerOf, isUnit, layoutOf};
+ghost use Rattle.unit.specs.Layout.{headerOf};
 ghost use Rattle.unit.specs.Result.{resultBytes};
 ghost use Rattle.unit.specs.Size.{resultSize, maxInstructions};
-ghost use Rattle.answer.specs.Answer.{lentOf, sectionsOf, isSkipped, roomFor, afterRoom};
+ghost use Rattle.answer.specs.Pass.{optimized};
+ghost use Rattle.answer.specs.Answer.{lentOf, cellsOf, sectionsOf, roomFor};
 ghost use Rattle.answer.specs.Clean.{cleanFrom, cleanedFirst, spareFor, cleanAnswer};
+ghost use Rattle.run.specs.Given.{Worked};
 ghost use Rattle.run.specs.Contract.{CleanContract, buffers, spares};
 ghost use Rattle.run.specs.laws.Reading.{retainedIn};
 ghost use Rattle.clean.specs.laws.Ready.{Ready};
@@ -20,11 +21,9 @@ ghost use Rattle.clean.specs.CleanAnswer.{cleanedOf, AnswersCleaned};
 mod buffer;
 mod later;
 
+use answer::Admission;
 use optimize::Answer;
 use optimize::pass;
-use unit::Counts;
-use unit::Layout;
-use unit::refusal;
 use unit::size;
 use words::fill;
 
@@ -92,7 +91,7 @@ fn second_pass(
     }
 }
 
-// The first pass, on the unit; refusals 3 and 4 come before it.
+// The first pass, on a unit that was admitted.
 fn first_pass(
     unit: &[u8],
     out: &mut [u8],
@@ -100,12 +99,14 @@ fn first_pass(
     work64: &mut [u64],
     first: &mut [u8],
     second: &mut [u8],
-    c: Counts,
 ) -> Cleaned
-    requires { ⌜ (isUnit (now unit) ≡ true) × (c ≡ headerOf (now unit) .counts) × (isSkipped c ≡ false) × ((roomFor c (lentOf (length (now out)) (length (now work32)) (length (now work64))) && spareFor c (length (now first)) (length (now second))) ≡ true) ⌝ }
-    ensures { λ r. ⌜ AnswersCleaned (cleanedFirst (sectionsOf (now (unit .entry))) (afterRoom (now (unit .entry)))) r (now (out .entry)) (now (out .exit)) ⌝ }
+    requires admitted { ⌜ Worked (now unit) (roomFor (headerOf (now unit) .counts)
+        (lentOf (length (now out)) (length (now work32)) (length (now work64)))
+        && spareFor (headerOf (now unit) .counts) (length (now first)) (length (now second))) ⌝ }
+    ensures answers { λ r. ⌜ AnswersCleaned (cleanedFirst (sectionsOf (now (unit .entry)))
+        (optimized (sectionsOf (now (unit .entry))) (cellsOf (now (unit .entry))))) r (now (out .entry)) (now (out .exit)) ⌝ }
 {
-    match pass::counted(unit, first, work32, work64, c) {
+    match pass::work(unit, first, work32, work64) {
         Answer::Unchanged => Cleaned {
             answer: Answer::Unchanged,
             passes: 1,
@@ -120,45 +121,7 @@ fn first_pass(
     }
 }
 
-// Is each spare buffer as long as stated?
-fn has_spare(c: Counts, first: usize, second: usize) -> bool
-    requires { ⌜ (c .instructions ≤ maxInstructions) × (c .lines < 2 ^ 32) ⌝ }
-    ensures { λ r. ⌜ r ≡ spareFor c first second ⌝ }
-{
-    let room = size::output_room(c.instructions, c.lines);
-    (room <= first) & (room <= second)
-}
-
-// Unchanged as it is too small, too large or defers, or a buffer is too short.
-fn laid(
-    unit: &[u8],
-    out: &mut [u8],
-    work32: &mut [u32],
-    work64: &mut [u64],
-    first: &mut [u8],
-    second: &mut [u8],
-    c: Counts,
-) -> Cleaned
-    requires { ⌜ (layoutOf (now unit) ≡ Unit (headerOf (now unit))) × (c ≡ headerOf (now unit) .counts) ⌝ }
-    ensures { λ r. ⌜ AnswersCleaned (cleanAnswer (now (unit .entry)) (lentOf (length (now (out .entry))) (length (now (work32 .entry))) (length (now (work64 .entry)))) (length (now (first .entry))) (length (now (second .entry)))) r (now (out .entry)) (now (out .exit)) ⌝ }
-{
-    if pass::is_skipped(c) {
-        return Cleaned {
-            answer: Answer::Unchanged,
-            passes: 1,
-        };
-    }
-    if !(pass::has_room(c, out.len(), work32.len(), work64.len())
-        & has_spare(c, first.len(), second.len())) {
-        return Cleaned {
-            answer: Answer::Refused(refusal::SHORT_BUFFER, 0),
-            passes: 1,
-        };
-    }
-    first_pass(unit, out, work32, work64, first, second, c)
-}
-
-// The answer, the lent memory left as it comes, and the result without lines.
+// The answer, the lent memory left as it comes, and the result without lines. Each spare buffer is as long as the output.
 fn answer(
     unit: &[u8],
     out: &mut [u8],
@@ -167,14 +130,21 @@ fn answer(
     first: &mut [u8],
     second: &mut [u8],
 ) -> Cleaned
-    ensures { λ r. ⌜ AnswersCleaned (cleanAnswer (now (unit .entry)) (lentOf (length (now (out .entry))) (length (now (work32 .entry))) (length (now (work64 .entry)))) (length (now (first .entry))) (length (now (second .entry)))) r (now (out .entry)) (now (out .exit)) ⌝ }
+    ensures answers { λ r. ⌜ AnswersCleaned (cleanAnswer (now (unit .entry))
+        (lentOf (length (now (out .entry))) (length (now (work32 .entry))) (length (now (work64 .entry))))
+        (length (now (first .entry))) (length (now (second .entry)))) r (now (out .entry)) (now (out .exit)) ⌝ }
 {
-    match parse::check(unit) {
-        Layout::Refused(k, p) => Cleaned {
+    let shortest = size::lesser(out.len(), size::lesser(first.len(), second.len()));
+    match admit::admit(unit, shortest, work32.len(), work64.len()) {
+        Admission::Unchanged => Cleaned {
+            answer: Answer::Unchanged,
+            passes: 1,
+        },
+        Admission::Refused(k, p) => Cleaned {
             answer: Answer::Refused(k, p),
             passes: 1,
         },
-        Layout::Unit(h) => laid(unit, out, work32, work64, first, second, h.counts),
+        Admission::Admitted => first_pass(unit, out, work32, work64, first, second),
     }
 }
 

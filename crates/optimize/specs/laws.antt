@@ -1,10 +1,10 @@
-pub mod Parts
+pub mod Given
 pub mod Whole
 pub mod Steps
-pub mod KeptListing
 pub mod NumberedWords
-pub mod Chain
 pub mod Concluded
+pub mod Decided
+pub mod Chain
 pub mod Loading
 pub mod Outcomes
 pub mod Lines

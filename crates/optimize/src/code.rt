@@ -5,7 +5,7 @@ ghost use Prim.Native.Nat.{_*_, _≤_};
 ghost use lib.Dec.{eqb};
 ghost use lib.ListN.{length};
 ghost use Rattle.unit.specs.Size.{instructionSize};
-ghost use Rattle.optimize.specs.laws.Parts.{wordsIn, sameWords};
+ghost use Rattle.optimize.specs.laws.Given.{wordsIn, sameWords};
 
 // The words of the code's bytes.
 pub fn load(code: &[u8], words: &mut [u64])

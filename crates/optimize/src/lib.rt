@@ -1,6 +1,6 @@
-// One pass over a function: `optimize_function`.
+// One pass over a function: `optimize_function`. What it makes of the function is found out first, and then written.
 mod code;
-pub mod parts;
+pub mod function;
 pub mod pass;
 
 // What a pass answers: unchanged, refused with number and place, or rewritten to so many instructions.

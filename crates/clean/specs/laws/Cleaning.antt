@@ -94,11 +94,10 @@ module _ {u from : List ℕ} {k t work32 work64 : ℕ} (r : Ready u from k t wor
 
     pub next-ready : Next u from to₁ k m work32 work64
     next-ready =
-        let room = r .room .out-room in
+        let room = r .out-room in
         rw (← made .long)
         (record {
-          ready = written-ready (casesIn u) kept to to₁ put (later .0) u k (length from) work32 work64 (r .laid) (r .typed) refl (r .few) (later .1) (omega (arith, long))
-              (record { out-room = r .long; room32 = r .room .room32; room64 = r .room .room64 });
+          ready = written-ready (casesIn u) kept to to₁ put (later .0) u k (length from) work32 work64 (r .laid) (r .typed) refl (r .few) (later .1) (omega (arith, long)) (r .long) (r .room);
           fewer = later .1;
         })
 

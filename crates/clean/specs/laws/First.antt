@@ -1,37 +1,37 @@
 -- The first pass, on the unit, and the answers before it.
 -- Assumes nothing.
 use mathlib.Core.Path.{_≡_, refl, sym, ap, _∙_}
-use mathlib.Core.Bool.{Bool, true, false, cond, _&&_}
+use mathlib.Core.Bool.{Bool, true, false, _&&_}
 use mathlib.Core.List.{List, []}
-use Prim.Native.Nat.{ℕ, _*_, _≤_, _<_}
+use Prim.Native.Nat.{ℕ, _*_, _≤_, _<_, min}
+use native.Mathlib.Decide.{decLe}
 use native.Mathlib.Omega.{arith}
-use lib.Dec.{eqb, leb}
+use lib.Dec.{leb}
 use lib.ListN.{length}
-use borrow.Author.Tests.{eqb-true}
+use borrow.Author.Tests.{le-leb, lt-leb}
 use borrow.Rule.Slice.PartMut.{putMid}
 use Rattle.words.specs.Bytes.{Bytes}
 use Rattle.words.specs.laws.Bytes.{bytes-mid}
 use Rattle.unit.specs.declared.Counts.{Counts}
-use Rattle.unit.specs.declared.Layout.the-variants.{Unit, Refused as NoUnit}
-use Rattle.unit.specs.Layout.{headerOf, metadataOf, isUnit, layoutOf}
-use Rattle.unit.specs.Refusal.{shortBuffer, metadataCount, typeCount}
+use Rattle.unit.specs.Layout.{headerOf, metadataOf}
 use Rattle.unit.specs.Result.{Retained, resultBytes}
-use Rattle.unit.specs.Size.{metadataSize, outputRoom, work32Room, work64Room, resultSize, maxInstructions}
+use Rattle.unit.specs.Size.{metadataSize, outputRoom, work32Room, work64Room, resultSize}
 use Rattle.words.specs.laws.Truth.{left-true, right-true}
 use Rattle.effects.specs.Shape.{Sections}
-use Rattle.answer.specs.Answer.{Lent, lentOf, cellsOf, sectionsOf, roomFor, isSkipped, afterRoom, afterSkipped, afterLayout, laidOut, answerWith}
+use Rattle.answer.specs.declared.Admission.the-variants.{Admitted}
+use Rattle.answer.specs.declared.Admission.the-variants as variant
+use Rattle.answer.specs.Answer.{Lent, lentOf, cellsOf, sectionsOf, roomFor, admission}
 use Rattle.answer.specs.Clean.{Cleaned as Cleaning, cleanFrom, cleanedFirst, spareFor, cleanAnswer}
-use Rattle.answer.specs.Pass.{Outcome, unchanged, refused, rewritten, optimized, outputAfter}
-use Rattle.run.specs.Given.{given-well, cell-at, cells-long, metadata-fields}
+use Rattle.answer.specs.Pass.{Outcome, unchanged, optimized, outputAfter}
+use Rattle.run.specs.Given.{Worked, worked-well, cell-at, cells-long, metadata-fields}
 use Rattle.run.specs.Returned.{givenFunction}
 use Rattle.optimize.specs.declared.Answer.{Answer}
 use Rattle.optimize.specs.declared.Answer.the-variants.{Unchanged, Refused, Rewritten}
 use Rattle.optimize.specs.PassAnswer.{Answers, answerOf}
-use Rattle.optimize.specs.laws.Whole.{given-unit, room-for}
-use Rattle.optimize.specs.laws.Whole as whole
+use Rattle.optimize.specs.laws.Whole.{given-unit, room-out, room-work, answer-refused, answer-unchanged, answer-admitted}
 use Rattle.run.specs.laws.Reading.{AllFit, retainedIn}
 use Rattle.run.specs.laws.Fitting.{AllSound, Again, optimized-again, again-fits}
-use Rattle.clean.specs.laws.Ready.{Ready, casesIn, worked-on, written-back, written-ready}
+use Rattle.clean.specs.laws.Ready.{Ready, casesIn, written-back, written-ready}
 use Rattle.optimize.specs.laws.Outcomes.{To, outcome-unchanged, outcome-refused, outcome-rewritten}
 use Rattle.clean.specs.laws.Cleaning.{stopped}
 use Rattle.clean.specs.CleanAnswer.{cleanedOf, AnswersCleaned}
@@ -47,27 +47,50 @@ unaltered-answers out = (refl, refl)
 -- ---- before the first pass
 
 module _ (u : List ℕ) (l : Lent) (first second : ℕ) where
-  pub clean-refused : (k p : ℕ) → layoutOf u ≡ NoUnit k p → cleanAnswer u l first second ≡ stopped k p 1
-  unfolding cleanAnswer cleanedFirst answerWith laidOut
-  clean-refused k p e = rw e
+  abbrev lent : Bool
+  lent = roomFor (headerOf u .counts) l && spareFor (headerOf u .counts) first second
 
-  module _ (laid : layoutOf u ≡ Unit (headerOf u)) where
-    pub clean-skipped : isSkipped (headerOf u .counts) ≡ true → cleanAnswer u l first second ≡ unaltered
-    unfolding cleanAnswer cleanedFirst answerWith laidOut afterLayout
-    clean-skipped e = rw (laid, e)
+  pub clean-refused : (k p : ℕ) → admission (roomFor (headerOf u .counts) l && spareFor (headerOf u .counts) first second) u ≡ variant.Refused k p → cleanAnswer u l first second ≡ stopped k p 1
+  unfolding cleanAnswer cleanedFirst
+  clean-refused k p e = rw (answer-refused u lent k p e)
 
-    pub clean-short : isSkipped (headerOf u .counts) ≡ false → (roomFor (headerOf u .counts) l && spareFor (headerOf u .counts) first second) ≡ false → cleanAnswer u l first second ≡ stopped shortBuffer 0 1
-    unfolding cleanAnswer cleanedFirst answerWith laidOut afterLayout afterSkipped
-    clean-short e f = rw (laid, e, f)
+  pub clean-unchanged : admission (roomFor (headerOf u .counts) l && spareFor (headerOf u .counts) first second) u ≡ variant.Unchanged → cleanAnswer u l first second ≡ unaltered
+  unfolding cleanAnswer cleanedFirst
+  clean-unchanged e = rw (answer-unchanged u lent e)
 
-    pub clean-first : isSkipped (headerOf u .counts) ≡ false → (roomFor (headerOf u .counts) l && spareFor (headerOf u .counts) first second) ≡ true
-        → cleanAnswer u l first second ≡ cleanedFirst (sectionsOf u) (afterRoom u)
-    unfolding cleanAnswer answerWith laidOut afterLayout afterSkipped
-    clean-first e f = rw (laid, e, f)
+  pub clean-admitted : admission (roomFor (headerOf u .counts) l && spareFor (headerOf u .counts) first second) u ≡ Admitted → cleanAnswer u l first second ≡ cleanedFirst (sectionsOf u) (optimized (sectionsOf u) (cellsOf u))
+  unfolding cleanAnswer
+  clean-admitted e = rw (answer-admitted u lent e)
 
-pub spare-test : (c : Counts) (room first second : ℕ) → room ≡ outputRoom (c .instructions) (c .lines) → (leb room first && leb room second) ≡ spareFor c first second
-unfolding spareFor
-spare-test c room first second e = rw e
+-- room in the shortest of three buffers is room in each
+leb-min : (m a b : ℕ) → leb m (min a b) ≡ (leb m a && leb m b)
+leb-min m a b = elim (decLe m a) [
+  | yes h ↦ rw (le-leb m a h) (elim (decLe m b) [
+    | yes k ↦ rw (le-leb m b k) (le-leb m (min a b) (omega arith))
+    | no k ↦ rw (lt-leb m b (omega arith)) (lt-leb m (min a b) (omega arith))
+  ])
+  | no h ↦ rw (lt-leb m a (omega arith)) (lt-leb m (min a b) (omega arith))
+]
+
+shared : (a b c p q : Bool) → (a && (b && c) && p && q) ≡ (a && p && q && (b && c))
+shared true true true true true = refl
+shared true true true true false = refl
+shared true true true false q = refl
+shared true true false true true = refl
+shared true true false true false = refl
+shared true true false false q = refl
+shared true false c true true = refl
+shared true false c true false = refl
+shared true false c false q = refl
+shared false b c p q = refl
+
+pub room-shortest : (h : Counts) (out work32 work64 first second m : ℕ) → m ≡ min out (min first second)
+    → roomFor h (lentOf m work32 work64) ≡ (roomFor h (lentOf out work32 work64) && spareFor h first second)
+unfolding roomFor spareFor
+room-shortest h out work32 work64 first second m e =
+    let asked = outputRoom (h .instructions) (h .lines) in
+    rw (e, leb-min asked out (min first second), leb-min asked first second)
+    (shared (leb asked out) (leb asked first) (leb asked second) (leb (work32Room (h .instructions)) work32) (leb (work64Room (h .instructions) (h .locals)) work64))
 
 -- a spare buffer is as long as the output
 room-in : (h : Counts) (out work32 work64 to : ℕ) → roomFor h (lentOf out work32 work64) ≡ true → leb (outputRoom (h .instructions) (h .lines)) to ≡ true → roomFor h (lentOf to work32 work64) ≡ true
@@ -91,27 +114,11 @@ room-first h out work32 work64 first second e =
 
 -- ---- the first pass
 
--- refusals 3 and 4 are past
-counted : (u : List ℕ) (kept : List Retained) → afterRoom u ≡ rewritten kept
-    → (headerOf u .counts .metadata ≡ headerOf u .counts .instructions) × (headerOf u .counts .types ≡ headerOf u .counts .locals) × (optimized (sectionsOf u) (cellsOf u) ≡ rewritten kept)
-unfolding afterRoom
-counted u kept e = go (eqb (c .metadata) (c .instructions)) refl (eqb (c .types) (c .locals)) refl e
-  where
-    c : Counts
-    c = headerOf u .counts
+-- the same unit, whatever room it was lent
+pub worked-lent : {u : List ℕ} {room : Bool} (room′ : Bool) → Worked u room → room′ ≡ true → Worked u room′
+worked-lent room′ w e = record { laid = w .laid; rise = w .rise; worked = w .worked; few = w .few; lent = e; described = w .described; typed = w .typed }
 
-    o : Outcome
-    o = optimized (sectionsOf u) (cellsOf u)
-
-    go : (s : Bool) → eqb (c .metadata) (c .instructions) ≡ s → (t : Bool) → eqb (c .types) (c .locals) ≡ t
-        → cond s (cond t o (refused typeCount 0)) (refused metadataCount 0) ≡ rewritten kept
-        → (c .metadata ≡ c .instructions) × (c .types ≡ c .locals) × (o ≡ rewritten kept)
-    go true f true g e = (eqb-true (c .metadata) (c .instructions) f, eqb-true (c .types) (c .locals) g, e)
-    go true f false g e = let z : _≡_ {A = ℕ} 0 1 = cc in absurd (omega arith)
-    go false f t g e = let z : _≡_ {A = ℕ} 0 1 = cc in absurd (omega arith)
-
-module _ (u : List ℕ) (b : Bytes u) (out work32 work64 first second : ℕ) (laid : isUnit u ≡ true) (worked : isSkipped (headerOf u .counts) ≡ false)
-    (room : (roomFor (headerOf u .counts) (lentOf out work32 work64) && spareFor (headerOf u .counts) first second) ≡ true) where
+module _ (u : List ℕ) (b : Bytes u) (out work32 work64 first second : ℕ) (w : Worked u (roomFor (headerOf u .counts) (lentOf out work32 work64) && spareFor (headerOf u .counts) first second)) where
   abbrev n : ℕ
   n = headerOf u .counts .instructions
 
@@ -119,62 +126,55 @@ module _ (u : List ℕ) (b : Bytes u) (out work32 work64 first second : ℕ) (la
   S = sectionsOf u
 
   abbrev o : Outcome
-  o = afterRoom u
+  o = optimized (sectionsOf u) (cellsOf u)
 
-  module _ (to to₁ : List ℕ) (a : Answer) (w : Answers o a to to₁) where
+  rooms : (roomFor (headerOf u .counts) (lentOf out work32 work64) ≡ true) × (roomFor (headerOf u .counts) (lentOf first work32 work64) ≡ true) × (roomFor (headerOf u .counts) (lentOf second work32 work64) ≡ true)
+  rooms = room-first (headerOf u .counts) out work32 work64 first second (w .lent)
+
+  pub first-worked : Worked u (roomFor (headerOf u .counts) (lentOf first work32 work64))
+  first-worked = worked-lent _ w (rooms .1)
+
+  module _ (to to₁ : List ℕ) (a : Answer) (r : Answers o a to to₁) where
     pub first-unchanged : a ≡ Unchanged → cleanedFirst S o ≡ unaltered
     unfolding cleanedFirst
-    first-unchanged e = ap (cleanedFirst S) (outcome-unchanged o (sym e ∙ w .0))
+    first-unchanged e = ap (cleanedFirst S) (outcome-unchanged o (sym e ∙ r .0))
 
     pub first-refused : (k p : ℕ) → a ≡ Refused k p → cleanedFirst S o ≡ stopped k p 1
     unfolding cleanedFirst
-    first-refused k p e = ap (cleanedFirst S) (outcome-refused o k p (sym e ∙ w .0))
+    first-refused k p e = ap (cleanedFirst S) (outcome-refused o k p (sym e ∙ r .0))
 
     module _ (long : length to ≡ first) (k : ℕ) (e : a ≡ Rewritten k) where
       made : To o k
-      made = outcome-rewritten o k (sym e ∙ w .0)
+      made = outcome-rewritten o k (sym e ∙ r .0)
 
       abbrev kept : List Retained
       kept = made .kept
 
       put : to₁ ≡ putMid 0 (resultSize (length kept) 0) to (resultBytes kept [])
       unfolding outputAfter
-      put = w .1 ∙ ap (λ (q : Outcome). outputAfter q [] to) (made .is)
-
-      counts : (headerOf u .counts .metadata ≡ n) × (headerOf u .counts .types ≡ headerOf u .counts .locals) × (optimized S (cellsOf u) ≡ rewritten kept)
-      counts = counted u kept (made .is)
-
-      rooms : (roomFor (headerOf u .counts) (lentOf out work32 work64) ≡ true) × (roomFor (headerOf u .counts) (lentOf first work32 work64) ≡ true) × (roomFor (headerOf u .counts) (lentOf second work32 work64) ≡ true)
-      rooms = room-first (headerOf u .counts) out work32 work64 first second room
-
-      sizes : (1 < n) × (n ≤ maxInstructions)
-      sizes = whole.worked-on (headerOf u .counts) worked
-
-      sound : AllSound (casesIn u) (cellsOf u)
-      sound p h =
-          let l : p < n = rw (cells-long u) at h in
-          let g = given-unit u (lentOf out work32 work64) laid worked (rooms .0) (counts .0) (counts .1) b in
-          rw (cell-at u p l)
-          (record { fits = metadata-fields (metadataOf u) p (bytes-mid (headerOf u .offsets .metadata) (metadataSize * headerOf u .counts .metadata) u b); good = g .good p l })
+      put = r .1 ∙ ap (λ (q : Outcome). outputAfter q [] to) (made .is)
 
       again : Again (casesIn u) n kept
-      unfolding givenFunction
-      again =
-          let w = given-well u b laid (counts .0) (counts .1) in
-          let on = worked-on n (sizes .0) (sizes .1) in
-          rw (cells-long u) at (optimized-again (givenFunction u) w (casesIn u) sound (rw (cells-long u) on) kept (counts .2))
+      unfolding givenFunction sectionsOf
+      again = rw (cells-long u) at (optimized-again (givenFunction u) (worked-well b w) (casesIn u) sound (w .worked) kept (made .is))
+        where
+          sound : AllSound (casesIn u) (cellsOf u)
+          sound p h =
+              let l : p < n = rw (cells-long u) at h in
+              rw (cell-at u p l)
+              (record { fits = metadata-fields (metadataOf u) p (bytes-mid (headerOf u .offsets .metadata) (metadataSize * headerOf u .counts .metadata) u b); good = given-unit b w .good p l })
 
       fits : AllFit (casesIn u) kept
-      fits = again-fits (casesIn u) n kept (sizes .1) again
+      fits = again-fits (casesIn u) n kept (w .few) again
 
       pub first-ready : Ready u to₁ k second work32 work64 × (resultSize k 0 ≤ out)
       first-ready =
-          let lent = room-for u (lentOf out work32 work64) laid worked (rooms .0) (counts .0) (counts .1) .out-room in
-          let spare = room-for u (lentOf first work32 work64) laid worked (rooms .1) (counts .0) (counts .1) .out-room in
+          let lent = room-out u out work32 work64 (rooms .0) in
+          let spare = room-out u first work32 work64 (rooms .1) in
+          let other = room-out u second work32 work64 (rooms .2) in
           let fewer = again .few in
           rw (← made .long) (
-            written-ready (casesIn u) kept to to₁ put fits u n second work32 work64 laid (counts .1) refl (sizes .1) fewer (omega (arith, long))
-                (room-for u (lentOf second work32 work64) laid worked (rooms .2) (counts .0) (counts .1)),
+            written-ready (casesIn u) kept to to₁ put fits u n second work32 work64 (w .laid) (w .typed) refl (w .few) fewer (omega (arith, long)) (omega arith) (room-work u out work32 work64 (rooms .0)),
             omega arith,
           )
 

@@ -17,7 +17,7 @@ use Rattle.answer.specs.Clean.{cellsAfter, placedBy}
 use Rattle.answer.specs.Pass.{Outcome, unchanged, refused, rewritten, optimized, outputAfter}
 use Rattle.optimize.specs.declared.Answer.{Answer}
 use Rattle.optimize.specs.declared.Answer.the-variants.{Unchanged, Refused, Rewritten}
-use Rattle.optimize.specs.laws.Parts.{answers-unchanged, answers-same}
+use Rattle.optimize.specs.laws.Given.{answers-unchanged, answers-same}
 use Rattle.optimize.specs.laws.Outcomes.{To, outcome-unchanged, outcome-refused, outcome-rewritten}
 use Rattle.optimize.specs.PassAnswer.{answerOf, Answers}
 use Rattle.run.specs.laws.Reading.{placesIn, retainedIn, retainedAt, place-back}
@@ -116,7 +116,7 @@ module _ {u from : List ℕ} {k t work32 work64 : ℕ} (r : Ready u from k t wor
             few = r .few;
             fewer = again .few;
             from-long = r .long;
-            to-long = let o = r .room .out-room in let f = again .few in written-long 0 kept to to₁ put (omega (arith, e));
+            to-long = let o = r .out-room in let f = again .few in written-long 0 kept to to₁ put (omega (arith, e));
             places = λ p l. rw (written-places 0 kept to to₁ put, place-back kept p l (small p l)) (again .places p l);
           })
 

@@ -19,7 +19,7 @@ use Rattle.words.specs.laws.Regions.{mid-long}
 use Rattle.instruction.specs.Instruction.{instructionAt}
 use Rattle.unit.specs.Entry.{metadataAt, goodMetadata}
 use Rattle.unit.specs.laws.UnitLaws.{unit-laid, result-long, result-header-long, code-bytes-long, metadata-bytes-all-long, place-bytes-long}
-use Rattle.unit.specs.Layout.{headerOf, typesOf, constantsOf, functionsOf, externsOf, casesOf, isUnit}
+use Rattle.unit.specs.Layout.{headerOf, constantsOf, casesOf, isUnit}
 use Rattle.unit.specs.Result.{Retained, retainedFrom, resultHeader, codeBytes, metadataBytesAll, placeBytes, lineBytesAll, resultBytes, resultMetadataAt, resultPlacesAt}
 use Rattle.unit.specs.Size.{placeSize, instructionSize, metadataSize, constantSize, caseSize, resultHeaderSize, resultSize, setWords, maxSetWords, maxInstructions}
 use Rattle.effects.specs.Shape.{Sections, cellAt, noCell}
@@ -30,19 +30,17 @@ use Rattle.run.specs.laws.Checked.{Well}
 use Rattle.run.specs.Given.{instruction-fields, constants-below, metadata-fields}
 use Rattle.run.specs.Program.{Function}
 use Rattle.run.specs.Returned.{resultFunction}
-use Rattle.removal.specs.laws.KeptWork.{sectionsIn}
-use Rattle.optimize.specs.laws.Parts.{Given, Room, cellsIn, cells-in}
+use Rattle.optimize.specs.laws.Given.{Given, WorkRoom, Workable, cellsIn, cells-in, outcomeIn}
 use Rattle.run.specs.laws.Reading.{AllFit, codeIn, metadataIn, placesIn, retainedIn, retainedAt, noRetained, metadata-in, places-in, metadata-back, retained-back}
 use Rattle.run.specs.laws.Fitting.{AllSound, Again, optimized-again, placed-long, placed-fits}
 use Rattle.clean.specs.laws.Placing.{composed}
 
 -- room for n instructions is room for fewer
-pub room-fewer : (k n s out work32 work64 : ℕ) → k ≤ n → Room n s out work32 work64 → Room k s out work32 work64
-room-fewer k n s out work32 work64 h r =
+room-fewer : (k n s work32 work64 : ℕ) → k ≤ n → WorkRoom n s work32 work64 → WorkRoom k s work32 work64
+room-fewer k n s work32 work64 h r =
     let rows : min k (maxSetWords / setWords s) ≤ min n (maxSetWords / setWords s) = omega arith in
     let sets : 3 * setWords s * min k (maxSetWords / setWords s) ≤ 3 * setWords s * min n (maxSetWords / setWords s) = mul-le-mul-left (3 * setWords s) rows in
     record {
-      out-room = let o = r .out-room in omega arith;
       room32 = let o = r .room32 in omega arith;
       room64 = let o = r .room64 in omega arith;
     }
@@ -59,7 +57,8 @@ pub record Ready (u from : List ℕ) (k to work32 work64 : ℕ) : Type 0 where
   pub long : resultSize k 0 ≤ length from
   pub good : (p : ℕ) → p < k → goodMetadata (casesIn u) (metadataAt (metadataIn k from) p) ≡ true
   pub whole : take (resultSize k 0) from ≡ resultBytes (retainedIn k from) []
-  pub room : Room k (length (typesOf u)) to work32 work64
+  pub out-room : resultSize k 0 ≤ to
+  pub room : WorkRoom k (sectionsOf u .locals) work32 work64
 
 -- "with old places in the given unit"
 unfoldable pub placedOutcome : List Retained → Outcome → Outcome
@@ -137,11 +136,8 @@ module _ {u from : List ℕ} {k to work32 work64 : ℕ} (r : Ready u from k to w
       let l : p < k = rw (before-long k from) at h in
       rw (before-at k from p l) (le-fits 4 (placesIn k from) (placeSize * p) (bytes-mid (resultPlacesAt k) (placeSize * k) from bf))
 
-  same-sections : sectionsIn (typesOf u) (constantsOf u) (functionsOf u) (externsOf u) (casesOf u) ≡ S
+  ready-given : 1 < k → Given k (codeIn k from) (metadataIn k from) (sectionsOf u)
   unfolding sectionsOf
-  same-sections = rw (unit-laid u (r .laid) .lengths .types ∙ r .typed)
-
-  ready-given : 1 < k → Given k (codeIn k from) (metadataIn k from) (sectionsIn (typesOf u) (constantsOf u) (functionsOf u) (externsOf u) (casesOf u))
   ready-given h =
       let long = r .long in
       let code : length (codeIn k from) ≡ instructionSize * k = mid-long from resultHeaderSize (instructionSize * k) (omega arith) in
@@ -150,21 +146,20 @@ module _ {u from : List ℕ} {k to work32 work64 : ℕ} (r : Ready u from k to w
         few = r .few;
         code-long = omega (arith, code);
         metadata-long = mid-long from (resultMetadataAt k) (metadataSize * k) (omega arith);
-        slots = rw (unit-laid u (r .laid) .lengths .types ∙ r .typed) (unit-laid u (r .laid) .locals);
-        typed = omega arith;
+        slots = unit-laid u (r .laid) .locals;
+        typed = unit-laid u (r .laid) .lengths .types ∙ r .typed;
         good = r .good;
         code-bytes = bytes-mid resultHeaderSize (instructionSize * k) from bf;
         constant-bytes = bytes-mid (headerOf u .offsets .constants) (constantSize * headerOf u .counts .constants) u bu;
       }
 
   -- the parts that were found are what a pass may be given
-  module _ (code metadata types constants functions externs cases : List ℕ) (e₁ : code ≡ codeIn k from) (e₂ : metadata ≡ metadataIn k from) (e₃ : types ≡ typesOf u)
-      (e₄ : constants ≡ constantsOf u) (e₅ : functions ≡ functionsOf u) (e₆ : externs ≡ externsOf u) (e₇ : cases ≡ casesOf u) where
-    pub later-given : 1 < k → Given k code metadata (sectionsIn types constants functions externs cases) × Room k (length types) to work32 work64
-    later-given h = rw (e₁, e₂, e₃, e₄, e₅, e₆, e₇) (ready-given h, r .room)
+  module _ (code metadata : List ℕ) (e₁ : code ≡ codeIn k from) (e₂ : metadata ≡ metadataIn k from) where
+    pub later-workable : 1 < k → Workable k u code metadata work32 work64
+    later-workable h = rw (e₁, e₂) (record { laid = r .laid; given = ready-given h; room = r .room })
 
-    pub later-answer : optimized (sectionsOf u) (cellsAfter (retainedIn k from)) ≡ optimized (sectionsIn types constants functions externs cases) (cellsIn k code metadata)
-    later-answer = rw (e₁, e₂, e₃, e₄, e₅, e₆, e₇, same-sections, cells-before k from bf)
+    pub later-outcome : optimized (sectionsOf u) (cellsAfter (retainedIn k from)) ≡ outcomeIn k u code metadata
+    later-outcome = rw (e₁, e₂, cells-before k from bf)
 
   -- "n under 2" is unchanged
   pub pass-small : k < 2 → pass S (cellsAfter before) ≡ unchanged
@@ -236,9 +231,9 @@ module _ (cases : ℕ) (kept : List Retained) (to to′ : List ℕ) (e : to′ �
 
     -- it may be given to the next pass
     pub written-ready : (u : List ℕ) (n out work32 work64 : ℕ) → isUnit u ≡ true → headerOf u .counts .types ≡ headerOf u .counts .locals → casesIn u ≡ cases
-        → n ≤ maxInstructions → length kept ≤ n → resultSize n 0 ≤ length to → Room n (length (typesOf u)) out work32 work64
+        → n ≤ maxInstructions → length kept ≤ n → resultSize n 0 ≤ length to → resultSize n 0 ≤ out → WorkRoom n (sectionsOf u .locals) work32 work64
         → Ready u to′ (length kept) out work32 work64
-    written-ready u n out work32 work64 laid typed c few fewer fits room =
+    written-ready u n out work32 work64 laid typed c few fewer fits out-room room =
         record {
           laid = laid;
           typed = typed;
@@ -246,7 +241,8 @@ module _ (cases : ℕ) (kept : List Retained) (to to′ : List ℕ) (e : to′ �
           long = written-long (omega arith);
           good = rw c written-good;
           whole = written-whole;
-          room = room-fewer j n (length (typesOf u)) out work32 work64 fewer room;
+          out-room = omega arith;
+          room = room-fewer j n (sectionsOf u .locals) work32 work64 fewer room;
         }
 
 -- ---- composed places

@@ -11,7 +11,7 @@ use borrow.Rule.Slice.PartMut.{midOf, postOf}
 use Rattle.words.specs.laws.Regions.{mid-long, put-long}
 use Rattle.instruction.specs.Instruction.{class, ofWord}
 use Rattle.unit.specs.Entry.{metadataAt, goodMetadata}
-use Rattle.unit.specs.laws.Region.{keepAt, listAt}
+use Rattle.unit.specs.laws.Region.{keepAt}
 use Rattle.unit.specs.Size.{metadataSize, caseSize, setsRoom, work64Room, maxInstructions, maxLocalSlots}
 use Rattle.unit.specs.laws.Size.{sets-fit}
 use Rattle.effects.specs.declared.Check.{Check}
@@ -25,15 +25,14 @@ use Rattle.flow.specs.laws.BranchLaws.{BranchesInside}
 use Rattle.flow.specs.laws.Leaders.{leaders-first, leaders-flags}
 use Rattle.flow.specs.Loop.{reachedPlaces, loopCheck}
 use Rattle.flow.specs.laws.Reached.{places-flags}
-use Rattle.pc_map.specs.Boundary.{boundary}
-use Rattle.pc_map.specs.laws.Listed.{keptList}
-use Rattle.answer.specs.Pass.{Outcome, refused, checked, removal}
+use Rattle.answer.specs.Pass.{Outcome, refused, checked}
 use Rattle.values.specs.laws.Named.{Named}
 use Rattle.run.specs.laws.Slots.{named-of}
-use Rattle.optimize.specs.laws.Parts.{Given, Room, Checked, wordsIn, words-long, wordsOf, cellsIn, numberedCode, reachedMarks, retainedPlaces, fromLoops, loops-removal}
-use Rattle.removal.specs.laws.KeptWork.{sectionsIn, Retainable, Retains}
+use Rattle.optimize.specs.laws.Given.{Given, WorkRoom, Checked, wordsIn, words-long, wordsOf, cellsIn, numberedCode, reachedMarks, retainedPlaces, fromLoops, loops-removal}
+use Rattle.removal.specs.laws.KeptWork.{Retainable, Retains}
 use Rattle.optimize.specs.laws.NumberedWords.{given-long, numbered-size, cells-back, numbered-operands, numbered-none, numbered-inside}
-use Rattle.optimize.specs.laws.Steps.{ListedControls, list-kept, Renumbered, Marks, Reached, Numberable, Finished}
+use Rattle.optimize.specs.laws.Steps.{controlsAt, ListedControls, list-kept, Renumbered, Marks, Reached, Numberable}
+use Rattle.optimize.specs.laws.Decided.{Finished, concluded}
 
 -- a check and what follows it
 pub checked-refused : (c : Check) (k p : ℕ) (rest : Outcome) → c ≡ Refused k p → checked c rest ≡ refused k p
@@ -45,17 +44,17 @@ unfolding checked
 checked-passed c rest e = rw e
 
 -- the room stays
-pub same-room : (n s out work32 work64 work32′ work64′ : ℕ) → Room n s out work32 work64 → work32′ ≡ work32 → work64′ ≡ work64 → Room n s out work32′ work64′
-same-room n s out work32 work64 work32′ work64′ r e f = rw (e, f) r
+pub same-room : (n s work32 work64 work32′ work64′ : ℕ) → WorkRoom n s work32 work64 → work32′ ≡ work32 → work64′ ≡ work64 → WorkRoom n s work32′ work64′
+same-room n s work32 work64 work32′ work64′ r e f = rw (e, f) r
 
 module _ (n : ℕ) (code metadata : List ℕ) (S : Sections) (g : Given n code metadata S) where
   abbrev cells : List Cell
   cells = cellsIn n code metadata
 
   -- the loaded code can be numbered
-  pub loaded-numberable : (out room32 : ℕ) (work64 : List ℕ) → Room n (S .locals) out room32 (length work64) → operandCheck (S .locals) (S .tables) cells ≡ Passed
+  pub loaded-numberable : (room32 : ℕ) (work64 : List ℕ) → WorkRoom n (S .locals) room32 (length work64) → operandCheck (S .locals) (S .tables) cells ≡ Passed
       → midOf 0 n work64 ≡ wordsIn n code → Numberable n (S .locals) room32 work64
-  loaded-numberable out room32 work64 r o e = record {
+  loaded-numberable room32 work64 r o e = record {
     some = g .some;
     few = g .few;
     slots = g .slots;
@@ -117,26 +116,26 @@ module _ (n : ℕ) (code metadata : List ℕ) (S : Sections) (g : Given n code m
         reached-answer = sym (d .answer ∙ ap (λ (j : ℕ). loopCheck (reachedPlaces (cellsBy (midOf 0 j work64) metadata)) (cellsBy (midOf 0 j work64) metadata)) e ∙ ap (λ (l : List Cell). loopCheck (reachedPlaces l) l) memory-cells)
 
     -- the retained places
-    module _ (out : ℕ) (work32 work64 : List ℕ) (r : Room n (S .locals) out (length work32) (length work64)) (m : Marks S cells n work32 work64) (typed : S .locals ≡ length (S .types)) where
-      pub marks-retainable : (at : ℕ) → setsRoom n (S .locals) ≤ at → Retainable (S .tables) n (midOf 0 n work64) metadata (S .types) (midOf 0 n work32) (midOf (keepAt n) n work32) (length work32) at
+    module _ (work32 work64 : List ℕ) (r : WorkRoom n (S .locals) (length work32) (length work64)) (m : Marks S cells n work32 work64) where
+      pub marks-retainable : (at : ℕ) → setsRoom n (S .locals) ≤ at → Retainable S n (midOf 0 n work64) metadata (midOf 0 n work32) (midOf (keepAt n) n work32) (length work32) at
       marks-retainable at sets = record {
         some = g .some;
         few = g .few;
-        slots = rw (← typed) (g .slots);
+        typed = g .typed;
+        slots = g .slots;
         entries = g .metadata-long;
         good = g .good;
         flags = rw (m .numbered .leads) (leaders-flags cells);
         one = rw (m .numbered .leads) (leaders-first cells (let h = g .some in rw (given-long n code metadata S g) (omega arith)));
         marked = rw (m .marks) (places-flags numbered);
-        operands = λ p h. rw (memory-at work32 work64 (m .numbered) p h, ← typed) (numbered-operands n code metadata S g c p h);
+        operands = λ p h. rw (memory-at work32 work64 (m .numbered) p h) (numbered-operands n code metadata S g c p h);
         inside = memory-inside work32 work64 (m .numbered);
         long32 = r .room32;
-        long64 = rw (← typed) sets;
+        long64 = sets;
       }
 
       -- what was retained of them
-      module _ {constants functions externs cases work32′ work64′ : List ℕ} (long32 : length work32′ ≡ length work32) (long64 : length work64′ ≡ length work64)
-          (same : S ≡ sectionsIn (S .types) constants functions externs cases) (d : Retains n metadata (S .types) constants functions externs cases work32 work64 work32′ work64′) where
+      module _ {work32′ work64′ : List ℕ} (long32 : length work32′ ≡ length work32) (long64 : length work64′ ≡ length work64) (d : Retains S n metadata work32 work64 work32′ work64′) where
         kept-code : midOf 0 n work64′ ≡ wordsOf numbered
         kept-code = d .code ∙ m .numbered .code
 
@@ -144,17 +143,14 @@ module _ (n : ℕ) (code metadata : List ℕ) (S : Sections) (g : Given n code m
         kept-cells = ap (λ (l : List ℕ). cellsBy l metadata) kept-code ∙ cells-back n code metadata S g c
 
         pub kept-places : midOf (keepAt n) n work32′ ≡ retainedPlaces S cells
-        kept-places = d .keep ∙ rw (← same, m .numbered .leads, m .marks, memory-cells work32 work64 (m .numbered))
+        kept-places = d .keep ∙ rw (m .numbered .leads, m .marks, memory-cells work32 work64 (m .numbered))
 
-        pub kept-finished : midOf (listAt n) (boundary (midOf (keepAt n) n work32′) n) work32′ ≡ keptList (midOf (keepAt n) n work32′) → Finished n code metadata out work32′ work64′
-        kept-finished list = record {
+        pub kept-finished : Finished n metadata work32′ work64′
+        kept-finished = record {
           few = g .few;
           mapped = record { flags = d .flags; small = rw keep-long (g .few); numbers = d .bounds };
-          list = list;
-          code-long = g .code-long;
           metadata-long = let e = g .metadata-long in omega arith;
           inside = rw (d .code) (memory-inside work32 work64 (m .numbered));
-          room = r .out-room;
           long32 = rw long32 (r .room32);
           long64 = omega (arith, r .room64, long64);
         }
@@ -162,7 +158,7 @@ module _ (n : ℕ) (code metadata : List ℕ) (S : Sections) (g : Given n code m
             keep-long : length (midOf (keepAt n) n work32′) ≡ n
             keep-long = mid-long work32′ (keepAt n) n (omega (arith, r .room32, long32))
 
-        pub kept-answer : fromLoops S cells ≡ removal cells (cellsBy (midOf 0 n work64′) metadata) (midOf (keepAt n) n work32′)
+        pub kept-answer : fromLoops S cells ≡ concluded n code metadata work32′ work64′
         kept-answer = loops-removal S cells ∙ rw (kept-cells, kept-places)
 
 -- ---- the code is loaded
@@ -183,7 +179,7 @@ module _ (n k : ℕ) (code work64 words : List ℕ) (e : k ≡ n) (room : n ≤ 
   load-long = put-long work64 0 k words size (omega arith)
 
 module _ (n : ℕ) (code metadata words : List ℕ) (S : Sections) (g : Given n code metadata S) (e : words ≡ wordsIn n code) where
-  pub operands-asks : (at room : ℕ) → at ≡ work64Room n (S .locals) - n → work64Room n (S .locals) ≤ room
+  pub operands-asks : (at room : ℕ) → at ≡ controlsAt n (S .locals) → work64Room n (S .locals) ≤ room
       → (n < 2 ^ 32) × (n ≤ at) × (at + n ≤ room) × (length metadata ≡ metadataSize * n) × (S .locals ≤ maxLocalSlots)
       × ((k : ℕ) → k < n → goodMetadata (length (S .tables .cases) / caseSize) (metadataAt metadata k) ≡ true)
   operands-asks at room f r =

@@ -4,40 +4,41 @@ use mathlib.Core.Path.{_≡_, refl, sym, ap, _∙_}
 use mathlib.Core.Logic.{inl, inr}
 use mathlib.Core.Bool.{Bool, true, false, _&&_}
 use mathlib.Core.List.{List, [], _∷_}
-use Prim.Native.Nat.{ℕ, suc, _+_, _*_, _^_, _≤_, _<_}
+use Prim.Native.Nat.{ℕ, zero, suc, _+_, _^_, _≤_, _<_}
 use native.Mathlib.Decide.{decLe}
 use native.Mathlib.Nat.{zero-add}
 use native.Mathlib.Omega.{arith}
 use lib.Dec.{eqb}
-use borrow.Rule.Slice.PartMut.{putMid}
-use lib.ListN.{length, getD, List·getD-eq-default}
+use lib.ListN.{length, getD, take, List·getD-eq-default}
 use borrow.Author.Tests.{eq-eqb, ne-eqb, eqb-true, eqb-false}
 use Rattle.words.specs.Bytes.{Bytes}
 use Rattle.words.specs.Lists.{mapFrom, sum}
 use Rattle.words.specs.laws.Lists.{getD-tabulate}
 use Rattle.instruction.specs.Instruction.{instructionAt, toWord}
 use Rattle.instruction.specs.laws.Instruction.{to-of, toWord-fits}
-use Rattle.unit.specs.Result.{resultBytes}
-use Rattle.unit.specs.Size.{metadataSize, resultSize}
 use Rattle.effects.specs.declared.Check.the-variants.{Passed, Refused}
 use Rattle.effects.specs.Shape.{Cell}
 use Rattle.effects.specs.laws.Cells.{cellOf, cellsBy, cells-long}
-use Rattle.flow.specs.laws.BranchLaws.{BranchesInside}
 use Rattle.flow.specs.laws.Flags.{Flags, flag, sum-whole, sum-most}
 use Rattle.pc_map.specs.Boundary.{boundary}
 use Rattle.pc_map.specs.laws.Boundaries.{Mapped, mapped-at}
-use Rattle.pc_map.specs.laws.Listed.{Listed, kept-many}
-use Rattle.pc_map.specs.laws.Movable.{Writable, writable}
 use Rattle.pc_map.specs.Relocate.{relocationCheck, retainFrom}
 use Rattle.pc_map.specs.laws.Retaining.{retain-all}
-use Rattle.answer.specs.Pass.{unchanged, refused, rewritten, checked, sameCode, allKept, removal, outputAfter}
+use Rattle.answer.specs.Pass.{checked, sameCode, allKept, removal}
 use Rattle.run.specs.Given.{instruction-fields}
-use Rattle.optimize.specs.declared.Answer.the-variants.{Rewritten}
-use Rattle.optimize.specs.laws.Parts.{wordsIn, words-long, sameWords, cellsIn}
-use Rattle.optimize.specs.PassAnswer.{Answers, answerOf}
+use Rattle.optimize.specs.declared.Answer.the-variants.{Unchanged, Rewritten}
+use Rattle.optimize.specs.declared.Answer.the-variants as answer
+use Rattle.optimize.specs.laws.Given.{wordsIn, words-long, sameWords, cellsIn}
+use Rattle.optimize.specs.PassAnswer.{answerOf}
 
-abbrev Words : List ℕ → Type 0
+abbrev pub Words : List ℕ → Type 0
 Words l = (i : ℕ) → getD l i 0 < 2 ^ 64
+
+pub words-front : (k : ℕ) (l : List ℕ) → Words l → Words (take k l)
+words-front zero l w i = omega arith
+words-front (suc k) [] w i = omega arith
+words-front (suc k) (x ∷ xs) w zero = w 0
+words-front (suc k) (x ∷ xs) w (suc i) = words-front k xs (λ i. w (suc i)) i
 
 -- ---- the same code
 
@@ -87,13 +88,14 @@ and-turned true false = refl
 and-turned false true = refl
 and-turned false false = refl
 
--- what is known of the code, of the retained places and of their map and list
-pub record Known (code words keep bounds kept : List ℕ) : Type 0 where
+-- what is known of the code, of the retained places and of their map
+pub record Known (code words keep bounds : List ℕ) : Type 0 where
   pub bytes : Bytes code
   pub fits : (i : ℕ) → getD words i 0 < 2 ^ 64
-  pub listed : Listed keep bounds kept (length words)
+  pub mapped : Mapped keep bounds
+  pub long : length keep ≡ length words
 
-module _ {code words keep bounds kept : List ℕ} (k : Known code words keep bounds kept) (metadata : List ℕ) where
+module _ {code words keep bounds : List ℕ} (k : Known code words keep bounds) (metadata : List ℕ) where
   abbrev given : List Cell
   given = cellsIn (length words) code metadata
 
@@ -105,35 +107,21 @@ module _ {code words keep bounds kept : List ℕ} (k : Known code words keep bou
 
   test : (sameCode given cells && allKept keep) ≡ same
   test =
-      rw (same-code (length words) code words metadata (k .bytes) (k .fits), ← all-kept keep bounds (k .listed .mapped) (length words) (k .listed .long))
+      rw (same-code (length words) code words metadata (k .bytes) (k .fits), ← all-kept keep bounds (k .mapped) (length words) (k .long))
       (and-turned (sameWords (wordsIn (length words) code) words) (eqb (getD bounds (length words) 0) (length words)))
 
-  pub conclude-unchanged : (eqb (getD bounds (length words) 0) (length words) && sameWords (wordsIn (length words) code) words) ≡ true → removal given cells keep ≡ unchanged
-  unfolding removal
+  pub conclude-unchanged : (eqb (getD bounds (length words) 0) (length words) && sameWords (wordsIn (length words) code) words) ≡ true → Unchanged ≡ answerOf (removal given cells keep)
+  unfolding removal answerOf
   conclude-unchanged e = rw (test ∙ e)
 
   module _ (other : (eqb (getD bounds (length words) 0) (length words) && sameWords (wordsIn (length words) code) words) ≡ false) where
-    pub conclude-refused : (k p : ℕ) → relocationCheck keep cells ≡ Refused k p → removal given cells keep ≡ refused k p
-    unfolding removal checked
+    pub conclude-refused : (k p : ℕ) → relocationCheck keep cells ≡ Refused k p → answer.Refused k p ≡ answerOf (removal given cells keep)
+    unfolding removal checked answerOf
     conclude-refused k p r = rw (test ∙ other, r)
 
-    conclude-rewritten : relocationCheck keep cells ≡ Passed → removal given cells keep ≡ rewritten (retainFrom keep 0 cells)
-    unfolding removal checked
-    conclude-rewritten r = rw (test ∙ other, r)
-
     retained-long : length (retainFrom keep 0 cells) ≡ boundary keep (length words)
-    retained-long = retain-all keep (k .listed .mapped .flags) cells (k .listed .long ∙ sym (cells-long words metadata)) ∙ ap (boundary keep) (cells-long words metadata)
+    retained-long = retain-all keep (k .mapped .flags) cells (k .long ∙ sym (cells-long words metadata)) ∙ ap (boundary keep) (cells-long words metadata)
 
-    pub conclude-answers : (out out′ : List ℕ) → relocationCheck keep cells ≡ Passed → out′ ≡ putMid 0 (resultSize (length kept) 0) out (resultBytes (retainFrom keep 0 cells) [])
-        → Answers (removal given cells keep) (Rewritten (getD bounds (length words) 0)) out out′
-    unfolding answerOf outputAfter
-    conclude-answers out out′ r e =
-        let l = k .listed in
-        let count : getD bounds (length words) 0 ≡ length (retainFrom keep 0 cells) = mapped-at keep bounds (l .mapped) (length words) (omega arith) ∙ sym retained-long in
-        let many : length kept ≡ length (retainFrom keep 0 cells) = ap length (l .list) ∙ kept-many keep (l .mapped .flags) ∙ ap (boundary keep) (l .long) ∙ sym retained-long in
-        rw (conclude-rewritten r) (ap Rewritten count, e ∙ ap (λ (k : ℕ). putMid 0 (resultSize k 0) out (resultBytes (retainFrom keep 0 cells) [])) many)
-
-  pub conclude-writable : (out : ℕ) → metadataSize * length words ≤ length metadata → BranchesInside words → relocationCheck keep cells ≡ Passed → resultSize (length words) 0 ≤ out → Writable words metadata bounds kept out
-  conclude-writable out entries inside r room =
-      let most = sum-most keep (k .listed .mapped .flags) (length words) in
-      writable words metadata keep bounds kept out (k .listed) entries inside r (omega arith)
+    pub conclude-rewritten : relocationCheck keep cells ≡ Passed → Rewritten (getD bounds (length words) 0) ≡ answerOf (removal given cells keep)
+    unfolding removal checked answerOf
+    conclude-rewritten r = rw (test ∙ other, r) (ap Rewritten (mapped-at keep bounds (k .mapped) (length words) (omega (arith, k .long)) ∙ sym retained-long))

@@ -32,6 +32,7 @@ use Rattle.run.specs.laws.MovedLines.{places-long, place-of}
 use Rattle.optimize.specs.declared.Answer.{Answer}
 use Rattle.optimize.specs.declared.Answer.the-variants.{Unchanged, Refused, Rewritten}
 use Rattle.optimize.specs.PassAnswer.{answerOf, Answers}
+use Rattle.optimize.specs.laws.Whole.{room-out}
 use Rattle.optimize.specs.laws.Outcomes.{To, outcome-unchanged, outcome-refused, outcome-rewritten}
 
 -- the unit's lines have room behind a result of k instructions
@@ -79,15 +80,6 @@ module _ (u : List ℕ) (b : Bytes u) {room : _} (kept : List Retained) (w : Wor
       let many : length (linesOf u) / lineSize ≡ headerOf u .counts .lines = omega arith in
       let shorter : length kept ≤ headerOf u .counts .instructions = rw (cells-long u) at (r .shorter) in
       record { laid = w .laid; few = r .few; room = rw many (omega arith); fits = rw many (lines-fit u b) }
-
--- the output's room, of the room that was lent
-pub room-out : (u : List ℕ) (out work32 work64 : ℕ) → roomFor (headerOf u .counts) (lentOf out work32 work64) ≡ true → outputRoom (headerOf u .counts .instructions) (headerOf u .counts .lines) ≤ out
-unfolding roomFor
-room-out u out work32 work64 e =
-    let c = headerOf u .counts in
-    let a = leb (outputRoom (c .instructions) (c .lines)) out in
-    let b = leb (work32Room (c .instructions)) work32 in
-    leb-true (outputRoom (c .instructions) (c .lines)) out (left-true a b (left-true _ (leb (work64Room (c .instructions) (c .locals)) work64) e))
 
 pub linable : (u : List ℕ) (o : Outcome) (out : ℕ) → ((kept : List Retained) → o ≡ rewritten kept → Addable u (length kept) out) → Linable u (answerOf o) out
 unfolding answerOf

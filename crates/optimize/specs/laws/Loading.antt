@@ -13,7 +13,7 @@ use Rattle.words.specs.Lists.{tabulate}
 use Rattle.words.specs.laws.Lists.{getD-tabulate}
 use Rattle.words.specs.laws.Tabulate.{tabulated-turn, tabulated-end}
 use Rattle.instruction.specs.Instruction.{instructionAt, toWord}
-use Rattle.optimize.specs.laws.Parts.{wordsIn, sameWords}
+use Rattle.optimize.specs.laws.Given.{wordsIn, sameWords}
 
 -- the first p words are the code's
 pub record Loaded (code words : List ℕ) (p : ℕ) : Type 0 where

@@ -23,7 +23,7 @@ use Rattle.run.specs.Program.{Function}
 use Rattle.run.specs.laws.Numbered.{Numberable, numberedFunction, numbered-at, numbered-long}
 use Rattle.run.specs.laws.Checked.{Well, numberable, removing, numbered-control, numbered-fields}
 use Rattle.run.specs.Given.{instruction-fields, constants-below}
-use Rattle.optimize.specs.laws.Parts.{cellsIn, cells-in, words-long, wordsIn, Given, Checked, numberedCode, wordsOf}
+use Rattle.optimize.specs.laws.Given.{cellsIn, cells-in, words-long, wordsIn, Given, Checked, numberedCode, wordsOf}
 
 word-at : (l : List Cell) (p : ℕ) → p < length l → getD (wordsOf l) p 0 ≡ toWord (cellAt l p .instruction)
 word-at [] p h = absurd (omega arith)
@@ -48,7 +48,7 @@ module _ (n : ℕ) (code metadata : List ℕ) (S : Sections) (g : Given n code m
   well = record {
     locals = g .slots;
     described = rw given-long (omega arith);
-    typed = g .typed;
+    typed = let e = g .typed in omega arith;
     fields = λ p h. rw (ap (λ (x : Cell). x .instruction) (given-at p (rw given-long at h))) (instruction-fields code p (g .code-bytes));
     constants = constants-below (S .constants) (g .constant-bytes);
   }

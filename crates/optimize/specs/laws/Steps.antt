@@ -1,41 +1,32 @@
--- What the steps of a pass leave in the lent work: the 32-bit work has the leaders at [0, n), the kept places at `keepAt n` with their
--- map behind them, and their list at `listAt n`; the 64-bit work has the code at [0, n) and the list of the control places behind what
--- numbering and liveness take.
+-- What the steps of a pass leave in the lent work: the 32-bit work has the leaders at [0, n) and the reached places at `keepAt n`, the 64-bit
+-- work the code at [0, n) and the list of the control places behind what numbering and liveness take.
 -- Assumes nothing.
 use mathlib.Core.Path.{_≡_, sym, ap, _∙_}
 use mathlib.Core.Bool.{false}
 use mathlib.Core.List.{List, _++_}
-use Prim.Native.Nat.{ℕ, _+_, _*_, _-_, _^_, _≤_, _<_}
+use Prim.Native.Nat.{ℕ, _+_, _-_, _^_, _≤_, _<_}
 use native.Mathlib.Omega.{arith}
 use native.Mathlib.Nat.{add-zero}
 use lib.ListN.{length, getD, take, drop}
 use lib.Seq.{take-at}
 use borrow.Rule.Slice.PartMut.{midOf, putMid, postOf}
 use Rattle.words.specs.laws.Only.{mid-mid, back-within, back-before}
-use Rattle.words.specs.laws.Regions.{mid-long, get-mid, Outside, outside-front}
+use Rattle.words.specs.laws.Regions.{mid-long, Outside, outside-front}
 use Rattle.instruction.specs.Instruction.{class, ofWord}
-use Rattle.unit.specs.laws.Region.{keepAt, listAt}
-use Rattle.unit.specs.Size.{instructionSize, metadataSize, resultSize, work32Room, work64Room, setsRoom, maxInstructions, maxLocalSlots}
+use Rattle.unit.specs.laws.Region.{keepAt}
+use Rattle.unit.specs.Size.{work32Room, work64Room, setsRoom, maxInstructions, maxLocalSlots}
 use Rattle.unit.specs.laws.Size.{sets-fit}
 use Rattle.effects.specs.declared.Check.{Check}
-use Rattle.effects.specs.declared.Check.the-variants.{Passed}
-use Rattle.effects.specs.Check.{operandCheck}
 use Rattle.effects.specs.Shape.{Sections, Cell}
 use Rattle.effects.specs.laws.Cells.{cellsBy}
 use Rattle.values.specs.Number.{numberCode}
 use Rattle.flow.specs.Block.{leaders}
-use Rattle.flow.specs.laws.BranchLaws.{BranchesInside}
 use Rattle.flow.specs.laws.Control.{isControl, Controls, controls-kept}
 use Rattle.flow.specs.Loop.{reachedPlaces, loopCheck}
 use Rattle.numbering.specs.laws.Walk as walk
 use Rattle.values.specs.laws.Named.{Named}
 use Rattle.numbering.specs.laws.Walk.{valuesRoom}
-use Rattle.pc_map.specs.Boundary.{boundary}
-use Rattle.pc_map.specs.laws.Boundaries.{Mapped, mapped-at, boundary-most}
-use Rattle.pc_map.specs.laws.Listed.{keptList, Listed}
-use Rattle.optimize.specs.laws.Parts.{Parts, sectionsFor, cellsFor, Given, Room, Checked, wordsIn, numberedCode, reachedMarks, wordsOf}
-use Rattle.answer.specs.Pass.{removal}
-use Rattle.optimize.specs.laws.Parts.{cellsIn}
+use Rattle.optimize.specs.laws.Given.{wordsIn, numberedCode, reachedMarks, wordsOf}
 
 -- the list of the control places stands in the 64-bit work, behind what numbering and liveness take: `count` of them from `at` on
 pub record ListedControls (n s at count : ℕ) (work64 : List ℕ) : Type 0 where
@@ -58,13 +49,22 @@ module _ {n s at count : ℕ} {work64 : List ℕ} (l : ListedControls n s at cou
     pub list-still : midOf 0 n work64′ ≡ midOf 0 n work64 → ListedControls n s at count work64′
     list-still e = list-kept (λ p h none. rw e none)
 
--- it was made behind the code
-pub list-made : (n s at count : ℕ) (work64 work64′ : List ℕ) → at ≡ work64Room n s - n → 1 < n → work64Room n s ≤ length work64 → length work64′ ≡ length work64
-    → Controls (midOf 0 n work64) (midOf at count work64′) n × (count ≤ n) × Outside at n work64 work64′ → ListedControls n s at count work64′ × (midOf 0 n work64′ ≡ midOf 0 n work64)
-list-made n s at count work64 work64′ e some room long (c, few, o) =
+-- where it stands: in the last n words of the room that is asked for
+abbrev pub controlsAt : ℕ → ℕ → ℕ
+controlsAt n s = work64Room n s - n
+
+-- the code is loaded, and its control places are listed
+pub record Loaded (n s at count : ℕ) (code work64 : List ℕ) : Type 0 where
+  pub words : midOf 0 n work64 ≡ wordsIn n code
+  pub listed : ListedControls n s at count work64
+
+-- the list was made behind the code
+pub list-made : (n s at count : ℕ) (code work64 work64′ : List ℕ) → at ≡ controlsAt n s → 1 < n → work64Room n s ≤ length work64 → length work64′ ≡ length work64 → midOf 0 n work64 ≡ wordsIn n code
+    → Controls (midOf 0 n work64) (midOf at count work64′) n → count ≤ n → Outside at n work64 work64′ → Loaded n s at count code work64′
+list-made n s at count code work64 work64′ e some room long w c few o =
     let fit = sets-fit n s in
     let same : midOf 0 n work64′ ≡ midOf 0 n work64 = outside-front at n o n (omega arith) in
-    (record { sets = omega arith; values = omega arith; within = omega arith; controls = rw same c }, same)
+    record { words = same ∙ w; listed = record { sets = omega arith; values = omega arith; within = omega arith; controls = rw same c } }
 
 -- the code is numbered
 pub record Renumbered (S : Sections) (cells : List Cell) (n : ℕ) (work32 work64 : List ℕ) : Type 0 where
@@ -89,79 +89,6 @@ pub record Numberable (n s room32 : ℕ) (work64 : List ℕ) : Type 0 where
   pub slots : s ≤ maxLocalSlots
   pub long32 : work32Room n ≤ room32
   pub named : (p : ℕ) → p < n → Named (class (ofWord (getD (midOf 0 n work64) p 0))) s (ofWord (getD (midOf 0 n work64) p 0))
-
--- the retained places are known
-pub record Finished (n : ℕ) (code metadata : List ℕ) (out : ℕ) (work32 work64 : List ℕ) : Type 0 where
-  pub few : n ≤ maxInstructions
-  pub mapped : Mapped (midOf (keepAt n) n work32) (midOf (keepAt n + n) (n + 1) work32)
-  pub list : midOf (listAt n) (boundary (midOf (keepAt n) n work32) n) work32 ≡ keptList (midOf (keepAt n) n work32)
-  pub code-long : instructionSize * n ≤ length code
-  pub metadata-long : metadataSize * n ≤ length metadata
-  pub inside : BranchesInside (midOf 0 n work64)
-  pub room : resultSize n 0 ≤ out
-  pub long32 : work32Room n ≤ length work32
-  pub long64 : n ≤ length work64
-
--- What each step of a pass asks: n instructions in the parts P, room, and the work as the step before left it.
-
--- the code is loaded, and refusals 5, 6 and 7 are past
-pub record LoadedWork (n at count : ℕ) (P : Parts) (out : ℕ) (work32 work64 : List ℕ) : Type 0 where
-  pub given : Given n (P .code) (P .metadata) (sectionsFor P)
-  pub room : Room n (length (P .types)) out (length work32) (length work64)
-  pub operands : operandCheck (sectionsFor P .locals) (sectionsFor P .tables) (cellsFor n P) ≡ Passed
-  pub code : midOf 0 n work64 ≡ wordsIn n (P .code)
-  pub listed : ListedControls n (length (P .types)) at count work64
-
--- it is numbered, and refusal 8 is past
-pub record NumberedWork (n at count : ℕ) (P : Parts) (out : ℕ) (work32 work64 : List ℕ) : Type 0 where
-  pub given : Given n (P .code) (P .metadata) (sectionsFor P)
-  pub room : Room n (length (P .types)) out (length work32) (length work64)
-  pub checked : Checked (sectionsFor P) (cellsFor n P)
-  pub numbered : Renumbered (sectionsFor P) (cellsFor n P) n work32 work64
-  pub listed : ListedControls n (length (P .types)) at count work64
-
--- its reached places are marked, and refusal 9 is past
-pub record MarkedWork (n at count : ℕ) (P : Parts) (out : ℕ) (work32 work64 : List ℕ) : Type 0 where
-  pub given : Given n (P .code) (P .metadata) (sectionsFor P)
-  pub room : Room n (length (P .types)) out (length work32) (length work64)
-  pub checked : Checked (sectionsFor P) (cellsFor n P)
-  pub marks : Marks (sectionsFor P) (cellsFor n P) n work32 work64
-  pub listed : ListedControls n (length (P .types)) at count work64
-
--- ---- `finish`: parts of the work as it lends them
-module _ {n : ℕ} {code metadata : List ℕ} {out : ℕ} {work32 work64 : List ℕ} (d : Finished n code metadata out work32 work64) where
-  code-size : length (midOf 0 n work64) ≡ n
-  code-size = mid-long work64 0 n (omega (arith, d .long64))
-
-  keep-size : length (midOf (keepAt n) n work32) ≡ n
-  keep-size = mid-long work32 (keepAt n) n (omega (arith, d .long32))
-
-  -- the last boundary is the number of retained instructions
-  last : getD work32 (keepAt n + n + n) 0 ≡ boundary (midOf (keepAt n) n work32) n
-  last =
-      sym (get-mid work32 (keepAt n + n) (n + 1) n 0 (omega arith))
-      ∙ mapped-at (midOf (keepAt n) n work32) (midOf (keepAt n + n) (n + 1) work32) (d .mapped) n (omega (arith, keep-size))
-
-  pub finish-few : getD work32 (keepAt n + n + n) 0 ≤ n
-  finish-few = omega (arith, last, boundary-most (midOf (keepAt n) n work32) (d .mapped .flags) n)
-
-  module _ (k j : ℕ) (e : k ≡ n) (f : j ≡ n) where
-    pub finish-asks : (l b m : ℕ) → l ≡ n + 1 → b ≡ listAt n → m ≡ getD work32 (keepAt n + n + n) 0
-        → (at count q : ℕ) → q ≡ count → Controls (midOf 0 n work64) (midOf at count work64) n
-        → Listed (midOf (keepAt n) j work32) (midOf (keepAt n + n) l work32) (midOf b m work32) (length (midOf 0 k work64))
-        × (instructionSize * length (midOf 0 k work64) ≤ length code)
-        × (metadataSize * length (midOf 0 k work64) ≤ length metadata)
-        × BranchesInside (midOf 0 k work64)
-        × (resultSize (length (midOf 0 k work64)) 0 ≤ out)
-        × Controls (midOf 0 k work64) (midOf at q work64) (length (midOf 0 k work64))
-    finish-asks l b m g start many at count q same c =
-        let listed : Listed (midOf (keepAt n) n work32) (midOf (keepAt n + n) (n + 1) work32) (midOf b m work32) (length (midOf 0 n work64)) =
-        record { mapped = d .mapped; list = rw (start, many, last) (d .list); long = keep-size ∙ sym code-size } in
-        rw (e, f, g) (listed, rw code-size (d .code-long), rw code-size (d .metadata-long), d .inside, rw code-size (d .room), rw (same, code-size) c)
-
-    pub finish-same : removal (cellsIn n code metadata) (cellsBy (midOf 0 n work64) metadata) (midOf (keepAt n) n work32)
-        ≡ removal (cellsIn (length (midOf 0 k work64)) code metadata) (cellsBy (midOf 0 k work64) metadata) (midOf (keepAt n) j work32)
-    finish-same = rw (e, f, code-size)
 
 -- ---- `reach`
 pub reach-marks : (n : ℕ) (metadata words work32 marks : List ℕ) (r : Check) → work32Room n ≤ length work32 → length words ≡ n → length marks ≡ length (midOf (keepAt n) (length work32 - keepAt n) work32)

@@ -1,7 +1,7 @@
 use Rattle.optimize.specs.laws.Steps.{reach-marks}
 use borrow.Author.Needs.{needs}
-use Rattle.optimize.proofs.parts.reach.Statement.{statement}
-use Rattle.optimize.proofs.parts.reach.Tie as tie
+use Rattle.optimize.proofs.function.reach.Statement.{statement}
+use Rattle.optimize.proofs.function.reach.Tie as tie
 
 keep-at-requires : tie.Need-keep-at-requires
 keep-at-requires c κs = search needs

@@ -1,4 +1,4 @@
--- A pass on the parts of a unit: what it is given, and what the steps of the pass make of it.
+-- What a pass is given, and what its steps make of it.
 -- Assumes nothing.
 use mathlib.Core.Path.{_≡_, refl, sym, ap, _∙_}
 use mathlib.Core.Bool.{Bool, true, false, _&&_}
@@ -13,7 +13,8 @@ use Rattle.words.specs.laws.Lists.{length-tabulate, getD-tabulate}
 use Rattle.instruction.specs.Instruction.{instructionAt, toWord}
 use Rattle.instruction.specs.laws.Instruction.{of-to}
 use Rattle.unit.specs.Entry.{metadataAt, goodMetadata}
-use Rattle.unit.specs.Size.{instructionSize, metadataSize, caseSize, resultSize, work32Room, work64Room, maxInstructions, maxLocalSlots}
+use Rattle.unit.specs.Layout.{isUnit}
+use Rattle.unit.specs.Size.{instructionSize, metadataSize, caseSize, work32Room, work64Room, maxInstructions, maxLocalSlots}
 use Rattle.effects.specs.declared.Check.the-variants.{Passed}
 use Rattle.effects.specs.Check.{operandCheck}
 use Rattle.effects.specs.Shape.{Sections, Cell, noCell}
@@ -23,7 +24,7 @@ use Rattle.flow.specs.Block.{leaders}
 use Rattle.flow.specs.Loop.{reachedPlaces, loopCheck}
 use Rattle.values.specs.Number.{numberCode}
 use Rattle.answer.specs.Pass.{Outcome, unchanged, refused, outputAfter, checked, removal, keptPlaces, afterLoops, afterBranches, afterOperands, optimized}
-use Rattle.removal.specs.laws.KeptWork.{sectionsIn}
+use Rattle.answer.specs.Answer.{sectionsOf}
 use Rattle.run.specs.Given.{instruction-fields}
 use Rattle.optimize.specs.declared.Answer.{Answer}
 use Rattle.optimize.specs.declared.Answer.the-variants.{Unchanged, Refused}
@@ -54,43 +55,32 @@ sameWords (x ∷ xs) (y ∷ ys) = eqb x y && sameWords xs ys
 abbrev pub cellsIn : ℕ → List ℕ → List ℕ → List Cell
 cellsIn n code metadata = cellsBy (wordsIn n code) metadata
 
--- The parts of a unit that a pass works on. Its code and metadata may be those of a result.
-pub record Parts : Type 0 where
-  pub code : List ℕ
-  pub metadata : List ℕ
-  pub types : List ℕ
-  pub constants : List ℕ
-  pub functions : List ℕ
-  pub externs : List ℕ
-  pub cases : List ℕ
-
-abbrev pub parts : List ℕ → List ℕ → List ℕ → List ℕ → List ℕ → List ℕ → List ℕ → Parts
-parts code metadata types constants functions externs cases =
-    record { code = code; metadata = metadata; types = types; constants = constants; functions = functions; externs = externs; cases = cases }
-
-abbrev pub sectionsFor : Parts → Sections
-sectionsFor P = sectionsIn (P .types) (P .constants) (P .functions) (P .externs) (P .cases)
-
-abbrev pub cellsFor : ℕ → Parts → List Cell
-cellsFor n P = cellsIn n (P .code) (P .metadata)
-
--- what a pass is given
+-- what a pass is given: n instructions, and the sections that stay; refusals 3 and 4 are past
 pub record Given (n : ℕ) (code metadata : List ℕ) (S : Sections) : Type 0 where
   pub some : 1 < n
   pub few : n ≤ maxInstructions
   pub code-long : instructionSize * n ≤ length code
   pub metadata-long : length metadata ≡ metadataSize * n
   pub slots : S .locals ≤ maxLocalSlots
-  pub typed : length (S .types) ≤ S .locals
+  pub typed : length (S .types) ≡ S .locals
   pub good : (p : ℕ) → p < n → goodMetadata (length (S .tables .cases) / caseSize) (metadataAt metadata p) ≡ true
   pub code-bytes : Bytes code
   pub constant-bytes : Bytes (S .constants)
 
--- the lent buffers are long enough
-pub record Room (n s out work32 work64 : ℕ) : Type 0 where
-  pub out-room : resultSize n 0 ≤ out
+-- the lent work is long enough
+pub record WorkRoom (n s work32 work64 : ℕ) : Type 0 where
   pub room32 : work32Room n ≤ work32
   pub room64 : work64Room n s ≤ work64
+
+-- the sections are those of the unit u
+pub record Workable (n : ℕ) (u code metadata : List ℕ) (work32 work64 : ℕ) : Type 0 where
+  pub laid : isUnit u ≡ true
+  pub given : Given n code metadata (sectionsOf u)
+  pub room : WorkRoom n (sectionsOf u .locals) work32 work64
+
+-- what the pass makes of them
+abbrev pub outcomeIn : ℕ → List ℕ → List ℕ → List ℕ → Outcome
+outcomeIn n u code metadata = optimized (sectionsOf u) (cellsIn n code metadata)
 
 -- refusals 5 to 8 are past
 pub record Checked (S : Sections) (cells : List Cell) : Type 0 where
@@ -153,16 +143,3 @@ cells-in n code metadata b =
     cell-at (wordsIn n code) metadata p (rw (words-long n code) k)
     ∙ ap (cellOf metadata p) (getD-tabulate n (λ p. toWord (instructionAt code p)) p 0 k)
     ∙ rw (of-to (instructionAt code p) (instruction-fields code p b)) (sym (getD-tabulate n _ p noCell k)))
-
--- the answers from each step of a pass on, of n instructions in the parts P
-abbrev pub answerOfParts : ℕ → Parts → Outcome
-answerOfParts n P = optimized (sectionsFor P) (cellsFor n P)
-
-abbrev pub answerAfterOperands : ℕ → Parts → Outcome
-answerAfterOperands n P = afterOperands (sectionsFor P) (cellsFor n P)
-
-abbrev pub answerAfterBranches : ℕ → Parts → Outcome
-answerAfterBranches n P = fromBranches (sectionsFor P) (cellsFor n P)
-
-abbrev pub answerAfterLoops : ℕ → Parts → Outcome
-answerAfterLoops n P = fromLoops (sectionsFor P) (cellsFor n P)
