@@ -253,7 +253,7 @@ module _ (F : Function) (W : World) (p : ℕ) (σ : Words) (R : List Event) wher
   given-none k x e jumpIf = given-by-class T x (rw e refl) ∙ rw e
   given-none k x e jumpIfNot = given-by-class T x (rw e refl) ∙ rw e
 
-  do-quiet : (k : Class) (x : Cell) → class (x .instruction) ≡ k → Quiet k → Meant x → doAt x ≡ Moves (jumps k x) (targetBy k p (x .instruction))
+  pub do-quiet : (k : Class) (x : Cell) → class (x .instruction) ≡ k → Quiet k → Meant x → doAt x ≡ Moves (jumps k x) (targetBy k p (x .instruction))
   unfolding doAt nodeBy perform actBy goto jumps
   do-quiet k x e q m = rw (meant x m, e, given-none k x e q) (go k q)
     where
