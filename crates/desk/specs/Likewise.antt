@@ -3,7 +3,7 @@
 -- Assumes nothing.
 use mathlib.Core.Path.{_≡_, refl, sym, ap, _∙_}
 use mathlib.Core.Logic.{_⊎_, inl, inr}
-use mathlib.Core.Bool.{Bool, true, false, cond, false≢true, true≢false}
+use mathlib.Core.Bool.{Bool, true, false, cond, _&&_, true≢false}
 use mathlib.Core.List.{List, [], _∷_}
 use mathlib.Core.Option.{Option, none, some}
 use Prim.Native.Nat.{ℕ, zero, suc, _≤_, _<_}
@@ -12,24 +12,32 @@ use native.Mathlib.Omega.{arith}
 use lib.Dec.{eqb, ltb}
 use lib.ListN.{length}
 use borrow.Author.Tests.{ltb-true, ltb-false, lt-ltb, le-ltb, eq-eqb}
+use Rattle.words.specs.Bytes.{Bytes}
 use Rattle.words.specs.Lists.{isIn}
 use Rattle.instruction.specs.declared.Instruction.{Instruction}
 use Rattle.instruction.specs.declared.Class.{Class}
 use Rattle.instruction.specs.declared.Class.the-variants.{Hint, LoadInt, LoadConst, Copy, CopyN, Unary, Binary, Jump, JumpIf, JumpIfNot, ForLoop, Return, Panic, Outside, Invalid}
 use Rattle.instruction.specs.Class.{classOf, single}
 use Rattle.instruction.specs.Instruction.{class}
+use Rattle.unit.specs.Layout.{headerOf}
 use Rattle.unit.specs.Result.{Retained}
 use Rattle.unit.specs.declared.Constant.{Constant}
 use Rattle.unit.specs.declared.Constant.the-variants.{Nil, Bool as BoolConstant, Int, Float, String, Missing}
 use Rattle.effects.specs.Shape.{Sections, Cell, cellAt}
+use Rattle.effects.specs.laws.Sound.{passed-at}
 use Rattle.values.specs.Fold.{foldingUnary, foldingBinary}
 use Rattle.lines.specs.Lines.{placesOf}
-use Rattle.answer.specs.Clean.{cellsAfter}
+use Rattle.answer.specs.Answer.{Lent, cellsOf, sectionsOf, roomFor, answerWith, passAnswer}
+use Rattle.answer.specs.Clean.{cellsAfter, cleanedFirst, spareFor, cleanAnswer}
+use Rattle.answer.specs.Pass.{Outcome, unchanged, refused, rewritten}
 use Rattle.run.specs.System.{System, after}
 use Rattle.run.specs.Machine.{Words, Event, Way, byReturn, byPanic, byReply, byCode, World, finish, Program, State, at, over, step, step-stays, wayOf, logOf, start}
 use Rattle.run.specs.Program.{Function, programOf}
-use Rattle.run.specs.Returned.{resultFunction}
+use Rattle.run.specs.Given.{cells-long, answer-optimized, worked-well, answer-returnable, clean-kept}
+use Rattle.run.specs.Returned.{givenFunction, resultFunction}
 use Rattle.run.specs.Visits.{Noted, visiting, notedAt, StandsFor, sameOpcode, loadInt, copy, jump, SamePlaces}
+use Rattle.run.specs.laws.Checked.{target-inside}
+use Rattle.run.specs.laws.Passed.{optimized-kept}
 use Rattle.run.specs.laws.Runnable.{Runnable}
 use Rattle.run.specs.laws.Visited.{Visited, now, later, visited-inside, visited-hold}
 use Rattle.desk.specs.declared.Stop.{Stop}
@@ -239,7 +247,7 @@ after-later S (suc j) (suc k) x w h e = after-later S j k (S .next x) w (omega a
 
 -- so it ends in one state
 one-end : {R W : Type 0} (S : System R W) (j k : ℕ) (x : S .State) (v w : W) → S .way (after S j x) ≡ some v → S .way (after S k x) ≡ some w → after S j x ≡ after S k x
-one-end S j k x v w e f = elim (decLe j k) [ | yes h ↦ sym (after-later S j k x v h e) | no h ↦ after-later S k j x w (omega arith) f ]
+one-end S j k x v w e f = elim (decLe j k) [ yes h ↦ sym (after-later S j k x v h e) | no h ↦ after-later S k j x w (omega arith) f ]
 
 -- a place that the run comes to is visited
 after-visited : (W : World) (P : Program) (h : ℕ → List ℕ) (j : ℕ) (y : Noted State) (q : ℕ) (σ : Words) (R : List Event) → q < P .size → after (visiting W P h) j y .content ≡ at q σ R
@@ -335,3 +343,44 @@ module _ (F : Function) (kept : List Retained) (A : Runnable F) (A′ : Runnable
       go (Other q) e = tt
       go Limit e = tt
       go (Refused x y) e = tt
+
+-- ---- the claim, of units that one pass or the cleaning rewrites
+
+module _ (u : List ℕ) (b : Bytes u) (room : Bool) where
+  -- the function given can be run: its operands are sound, and its branches stay inside
+  given-runnable : (kept : List Retained) → answerWith room u ≡ rewritten kept → Runnable (givenFunction u)
+  unfolding givenFunction
+  given-runnable kept e =
+      let o = answer-optimized u room kept e in
+      let w = o .0 in
+      let passed = optimized-kept (givenFunction u) (worked-well b w) (w .worked) kept (o .1) in
+      record {
+        described = rw (cells-long u, w .described) (omega arith);
+        operands = passed-at (sectionsOf u .locals) (sectionsOf u .tables) (cellsOf u) (passed .0);
+        targets = λ p h t. (let i = target-inside (cellsOf u) (passed .1) p h t in omega arith);
+      }
+
+abbrev RunsLikewise : List ℕ → List Retained → Type 0
+RunsLikewise u kept = (k : ℕ) (f : List ℕ) → length f ≡ sectionsOf u .locals
+    → Likewise (runFrom (sectionsOf u) (cellsOf u) k 0 f .stop) (runFrom (sectionsOf u) (cellsOf u) k 0 f .frame) (runFrom (sectionsOf u) (cellsAfter kept) k 0 f)
+
+pub pass-likewise : (u : List ℕ) (l : Lent) (kept : List Retained) → Bytes u → passAnswer u l ≡ rewritten kept → RunsLikewise u kept
+unfolding passAnswer givenFunction
+pass-likewise u l kept b e =
+    let room = roomFor (headerOf u .counts) l in
+    let r = answer-returnable u b room kept e in
+    runs-likewise (givenFunction u) kept (given-runnable u b room kept e) (r .good .runs) (r .good .places)
+
+pub clean-likewise : (u : List ℕ) (l : Lent) (first second : ℕ) (kept : List Retained) → Bytes u → cleanAnswer u l first second .outcome ≡ rewritten kept → RunsLikewise u kept
+unfolding cleanAnswer cleanedFirst givenFunction
+clean-likewise u l first second kept b e =
+    let r = clean-kept u b l first second kept e .1 in
+    runs-likewise (givenFunction u) kept (go (answerWith room u) refl e) (r .good .runs) (r .good .places)
+  where
+    room : Bool
+    room = roomFor (headerOf u .counts) l && spareFor (headerOf u .counts) first second
+
+    go : (o : Outcome) → answerWith room u ≡ o → cleanedFirst (sectionsOf u) o .outcome ≡ rewritten kept → Runnable (givenFunction u)
+    go unchanged f e = let z : _≡_ {A = ℕ} 0 1 = cc in absurd (omega arith)
+    go (refused k p) f e = let z : _≡_ {A = ℕ} 0 1 = cc in absurd (omega arith)
+    go (rewritten one) f e = given-runnable u b room one f

@@ -3,3 +3,4 @@ pub mod Unit
 pub mod Starred
 pub mod Runs
 pub mod Apart
+pub mod DeskRuns

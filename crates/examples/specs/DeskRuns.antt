@@ -1,0 +1,60 @@
+-- Document 02, L6: runs at the desk, computed. One table, and one theorem for it.
+-- Assumes nothing.
+use mathlib.Core.Path.{_≡_, refl}
+use mathlib.Core.List.{List, [], _∷_, map}
+use Prim.Native.Nat.{ℕ}
+use lib.ListN.{replicate, length}
+use Rattle.instruction.specs.Opcode as op
+use Rattle.instruction.specs.Instruction.{plain, withImm32}
+use Rattle.unit.specs.Entry.{typeValue}
+use Rattle.effects.specs.Shape.{Sections, Cell, tablesOf}
+use Rattle.desk.specs.declared.Stop.{Stop}
+use Rattle.desk.specs.declared.Stop.the-variants.{Returned, Panicked, Ended, Other, Limit}
+use Rattle.desk.specs.Desk.{Ran, ran, loads, dueBy, halted, taken, runFrom}
+use Rattle.examples.specs.Computed.{runs}
+use Rattle.examples.specs.Unit.{cell, loadInt, three, return}
+
+-- a function, a frame and a limit; how the run stops, and the frame then
+pub record Case : Type 0 where
+  pub cells : List Cell
+  pub frame : List ℕ
+  pub limit : ℕ
+  pub stop : Stop
+  pub after : List ℕ
+
+abbrev jump : ℕ → Cell
+jump distance = cell (withImm32 (plain op.Jump 0 0 0) distance)
+
+-- constant 0 is a String
+abbrev strings : List ℕ
+strings = 4 ∷ replicate 15 0
+
+abbrev pub sections : Case → Sections
+sections x = record { locals = length (x .frame); types = replicate (length (x .frame)) typeValue; constants = strings; tables = tablesOf [] [] [] }
+
+abbrev pub cases : List Case
+cases =
+    -- "Return and Panic are steps"
+    record { cells = loadInt 0 5 ∷ return 0 1 ∷ []; frame = 0 ∷ 0 ∷ []; limit = 2; stop = Returned 0 1; after = 5 ∷ 0 ∷ [] }
+    ∷ record { cells = loadInt 0 5 ∷ return 0 1 ∷ []; frame = 0 ∷ 0 ∷ []; limit = 1; stop = Limit; after = 5 ∷ 0 ∷ [] }
+    ∷ record { cells = return 0 0 ∷ []; frame = 3 ∷ []; limit = 0; stop = Limit; after = 3 ∷ [] }
+    ∷ record { cells = three op.Panic 0 0 0 ∷ []; frame = 7 ∷ 8 ∷ []; limit = 1; stop = Panicked 0 2; after = 7 ∷ 8 ∷ [] }
+    -- "the end of the code and another instruction are not"
+    ∷ record { cells = []; frame = []; limit = 0; stop = Ended; after = [] }
+    ∷ record { cells = three op.AddF 0 0 0 ∷ []; frame = 3 ∷ []; limit = 0; stop = Other 0; after = 3 ∷ [] }
+    ∷ record { cells = loadInt 0 1 ∷ three op.LoadConst 0 0 0 ∷ []; frame = 0 ∷ []; limit = 1; stop = Other 1; after = 1 ∷ [] }
+    -- "a branch to n itself .. ends the run"
+    ∷ record { cells = jump 2 ∷ return 0 0 ∷ []; frame = []; limit = 1; stop = Ended; after = [] }
+    -- a jump to itself
+    ∷ record { cells = jump 0 ∷ []; frame = []; limit = 1000; stop = Limit; after = [] }
+    -- CopyN reads all before it writes
+    ∷ record { cells = three op.CopyN 1 0 2 ∷ []; frame = 1 ∷ 2 ∷ 3 ∷ []; limit = 1; stop = Ended; after = 1 ∷ 1 ∷ 2 ∷ [] }
+    ∷ record { cells = three op.NegI 1 0 0 ∷ return 1 1 ∷ []; frame = 5 ∷ 0 ∷ []; limit = 2; stop = Returned 1 1; after = 5 ∷ 18446744073709551611 ∷ [] }
+    -- a given function, and what one pass makes of it: the same word is read, of another slot
+    ∷ record { cells = three op.Copy 1 0 0 ∷ return 1 1 ∷ []; frame = 9 ∷ 0 ∷ []; limit = 2; stop = Returned 1 1; after = 9 ∷ 9 ∷ [] }
+    ∷ record { cells = return 0 1 ∷ []; frame = 9 ∷ 0 ∷ []; limit = 2; stop = Returned 0 1; after = 9 ∷ 0 ∷ [] }
+    ∷ []
+
+pub desk-runs : map (λ (x : Case). runFrom (sections x) (x .cells) (x .limit) 0 (x .frame)) cases ≡ map (λ (x : Case). ran (x .stop) (x .after)) cases
+unfolding runs loads dueBy halted taken runFrom
+desk-runs = refl
