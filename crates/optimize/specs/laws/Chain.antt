@@ -178,13 +178,10 @@ module _ (n k : ℕ) (code work64 words : List ℕ) (e : k ≡ n) (room : n ≤ 
   pub load-long : length (words ++ postOf 0 k work64) ≡ length work64
   load-long = put-long work64 0 k words size (omega arith)
 
-module _ (n : ℕ) (code metadata words : List ℕ) (S : Sections) (g : Given n code metadata S) (e : words ≡ wordsIn n code) where
-  pub operands-asks : (at room : ℕ) → at ≡ controlsAt n (S .locals) → work64Room n (S .locals) ≤ room
-      → (n < 2 ^ 32) × (n ≤ at) × (at + n ≤ room) × (length metadata ≡ metadataSize * n) × (S .locals ≤ maxLocalSlots)
-      × ((k : ℕ) → k < n → goodMetadata (length (S .tables .cases) / caseSize) (metadataAt metadata k) ≡ true)
-  operands-asks at room f r =
-      let fit = sets-fit n (S .locals) in
-      (let few = g .few in omega arith, omega arith, omega arith, g .metadata-long, g .slots, g .good)
-
-  pub operands-answer : operandCheck (S .locals) (S .tables) (cellsIn n code metadata) ≡ operandCheck (S .locals) (S .tables) (cellsBy words metadata)
-  operands-answer = rw e
+-- what the check of the operands asks
+pub operands-asks : (n : ℕ) (code metadata : List ℕ) (S : Sections) → Given n code metadata S → (at room : ℕ) → at ≡ controlsAt n (S .locals) → work64Room n (S .locals) ≤ room
+    → (n < 2 ^ 32) × (n ≤ at) × (at + n ≤ room) × (length metadata ≡ metadataSize * n) × (S .locals ≤ maxLocalSlots)
+    × ((k : ℕ) → k < n → goodMetadata (length (S .tables .cases) / caseSize) (metadataAt metadata k) ≡ true)
+operands-asks n code metadata S g at room f r =
+    let fit = sets-fit n (S .locals) in
+    (let few = g .few in omega arith, omega arith, omega arith, g .metadata-long, g .slots, g .good)

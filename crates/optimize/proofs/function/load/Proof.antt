@@ -39,7 +39,7 @@ check-operands-requires c κs =
     let s = start l in
     let a = s .args in
     rw (c .before .before .before .types .ensures, c .cases .ensures, s .pre .1 .0 .typed)
-    (operands-asks (a .n) (a .code .now) (a .metadata .now) _ (sectionsOf (a .unit .now)) (s .pre .1 .0) (front l) (a .at) _ (s .pre .1 .1 .0) (rw (long l) (s .pre .1 .1 .1)))
+    (operands-asks (a .n) (a .code .now) (a .metadata .now) (sectionsOf (a .unit .now)) (s .pre .1 .0) (a .at) _ (s .pre .1 .1 .0) (rw (long l) (s .pre .1 .1 .1)))
 
 returns : tie.Need-returns
 unfolding sectionsOf ListedBy
