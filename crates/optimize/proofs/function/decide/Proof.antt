@@ -49,8 +49,11 @@ load-requires c κs =
 
 -- ---- after refusals 5, 6 and 7: the code is loaded
 
+abbrev asked : tie.After-work64-room → tie.Start
+asked w = w .before .before .before .before .before .before .before
+
 abbrev start : tie.After-load → tie.Start
-start l = l .before .before .before .before .before .before .before .before .before
+start l = asked (l .before .before)
 
 abbrev at : tie.After-load → ℕ
 at l = l .before .before .work64-room .result - start l .args .n
@@ -100,15 +103,15 @@ check-branches-requires c κs =
 
 -- ---- after refusal 8
 
+abbrev branched : tie.After-enum-told → tie.After-count
+branched b = b .before .before .before .before .before .before .before
+
 number-requires : tie.Need-number-requires
 number-requires c κs =
-    let m = c .before .before .before .before .before .before .before .before .before in
+    let m = branched (c .before .before) in
     let s = entry m in
     let a = s .args in
     (s .pre .laid, (given s .typed, (loaded-numberable (a .n) (a .code .now) (a .metadata .now) (S s) (given s) _ _ (room m) (operands m) (loaded m .words), loaded m .listed)))
-
-abbrev branched : tie.After-enum-told → tie.After-count
-branched b = b .before .before .before .before .before .before .before
 
 checked : (b : tie.After-enum-told) → let s = entry (branched b) in Checked (S s) (cells s)
 checked b =
@@ -179,8 +182,11 @@ reach-requires c κs =
 
 -- ---- after refusal 9: the reached places are marked
 
+abbrev lent : tie.After-reach-arg → tie.After-number
+lent r = r .before .before .before .before .before
+
 abbrev turned : tie.After-reach → tie.After-number
-turned h = h .before .before .before .before .before .before .before .before .before
+turned h = lent (h .before .before .before .before)
 
 abbrev reached : tie.After-enum-told2 → tie.After-reach
 reached e = e .before .before .before .before

@@ -4,11 +4,14 @@ use borrow.Author.Needs.{needs}
 use Rattle.optimize.proofs.function.optimize.Statement.{statement}
 use Rattle.optimize.proofs.function.optimize.Tie as tie
 
+abbrev given : tie.After-slice-known3 → tie.Start
+given g = g .before .before .before .before .before .before
+
 write-requires : tie.Need-write-requires
 write-requires c κs =
     let m = c .before .before .before .before in
     let d = m .before .before .before .before .before .before in
-    let s = d .before .before .before .before .before .before .before .before .before in
+    let s = given (d .before .before .before) in
     (decided-relocatable (d .decide .ensures) _ (m .k2 .given .1), s .pre .1)
 
 returns : tie.Need-returns

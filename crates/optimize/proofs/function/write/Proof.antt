@@ -60,11 +60,12 @@ part-write-retained-end-3 c = let l = c .before .before .before .before .before 
 
 write-retained-requires : tie.Need-write-retained-requires
 write-retained-requires c κs =
-    let l = c .before .before .before .before .before .before .before .before .before in
+    let a = c .before .before .before .before .before .before in
+    let l = a .before .before .before in
     let s = start l in
     let keep = keepAt (start l .args .n) in
-    let list = c .before .before .before .before .before .before .list-at .result in
-    rw (there l) (write-asks (finished l) (listed l) (start l .args .n - 0) (keep + start l .args .n + start l .args .n + 1 - (keep + start l .args .n)) list (list + getD (work l) (keep + start l .args .n + start l .args .n) 0 - list) (omega arith) (omega arith) (c .before .before .before .before .before .before .list-at .ensures) (omega arith)
+    let list = a .list-at .result in
+    rw (there l) (write-asks (finished l) (listed l) (start l .args .n - 0) (keep + start l .args .n + start l .args .n + 1 - (keep + start l .args .n)) list (list + getD (work l) (keep + start l .args .n + start l .args .n) 0 - list) (omega arith) (omega arith) (a .list-at .ensures) (omega arith)
     (length (s .args .out .now)) (rw (kept l) (s .pre .0 .relocated)) (s .pre .1))
 
 returns : tie.Need-returns
