@@ -1,3 +1,5 @@
 pub mod Entries
 pub mod Laid
 pub mod Function
+pub mod Narrow
+pub mod Lines

@@ -24,7 +24,7 @@ use Rattle.run.specs.Returned.{givenFunction, resultFunction}
 use Rattle.run.specs.laws.Reading.{AllFit, noRetained, retainedAt}
 use Rattle.again.specs.Again.{countsWith, bytesOf, cellCode, cellMetadata, unitOf}
 use Rattle.again.specs.laws.Entries.{around, ahead-long}
-use Rattle.again.specs.laws.Laid.{sizeWith, again-header, again-code, again-metadata, again-types, again-constants, again-functions, again-externs, again-cases}
+use Rattle.again.specs.laws.Laid.{Small, again-header, again-code, again-metadata, again-types, again-constants, again-functions, again-externs, again-cases}
 
 -- every field of every cell fits its width
 pub record AllFields (cells : List Cell) : Type 0 where
@@ -57,7 +57,7 @@ module _ (cells : List Cell) (f : AllFields cells) (p : ℕ) (h : p < length cel
 
 -- ---- the function
 
-module _ {u : List ℕ} (w : WellFormed u) (cells : List Cell) (lines : List Line) (small : sizeWith (headerOf u .counts) (length cells) (length lines) < 2 ^ 32) where
+module _ {u : List ℕ} (w : WellFormed u) (cells : List Cell) (lines : List Line) (small : Small (headerOf u .counts) (length cells) (length lines)) where
   pub again-many : headerOf (unitOf u cells lines) .counts .instructions ≡ length cells
   unfolding countsWith
   again-many = ap (λ (x : Header). x .counts .instructions) (again-header w cells lines small)
@@ -91,11 +91,11 @@ module _ {u : List ℕ} (w : WellFormed u) (cells : List Cell) (lines : List Lin
 
 -- the function of a result laid out again is the result's
 pub again-function : {u : List ℕ} (w : WellFormed u) (cases : ℕ) (kept : List Retained) (lines : List Line) → AllFit cases kept
-    → sizeWith (headerOf u .counts) (length kept) (length lines) < 2 ^ 32 → givenFunction (unitOf u (cellsAfter kept) lines) ≡ resultFunction (sectionsOf u) kept
+    → Small (headerOf u .counts) (length kept) (length lines) → givenFunction (unitOf u (cellsAfter kept) lines) ≡ resultFunction (sectionsOf u) kept
 unfolding givenFunction resultFunction
 again-function {u} w cases kept lines fits small =
     let long : length (cellsAfter kept) ≡ length kept = length-map kept retainedCell in
-    let size : sizeWith (headerOf u .counts) (length (cellsAfter kept)) (length lines) < 2 ^ 32 = rw long small in
+    let size : Small (headerOf u .counts) (length (cellsAfter kept)) (length lines) = rw long small in
     rw (
       again-cells w (cellsAfter kept) lines size (all-fit cases kept fits),
       again-sections w (cellsAfter kept) lines size,

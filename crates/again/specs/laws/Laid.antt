@@ -25,6 +25,11 @@ use Rattle.again.specs.laws.Entries.{middle, around, next-long, bytes-lo
 abbrev pub sizeWith : Counts → ℕ → ℕ → ℕ
 sizeWith c n l = offsetsOf (countsWith c n l) .lines + lineSize * l
 
+-- the numbers of its header fit 32 bits: no count but that of the lines is above the last offset
+pub record Small (c : Counts) (n l : ℕ) : Type 0 where
+  pub offset : offsetsOf (countsWith c n l) .lines < 2 ^ 32
+  pub lines : l < 2 ^ 32
+
 words-long : (h : Header) → length (headerWords h) ≡ 18
 unfolding headerWords
 words-long h = refl
@@ -90,12 +95,14 @@ module _ {u : List ℕ} (w : WellFormed u) (cells : List Cell) (lines : List Lin
       ∙ entry-mid (toLe 4) 4 (length-toLe 4) (headerWords h) q 0 (rw (words-long h) l))
       ∙ from-to 4 (getD (headerWords h) q 0) fits
 
-  module _ (small : sizeWith (headerOf u .counts) (length cells) (length lines) < 2 ^ 32) where
+  module _ (small : Small (headerOf u .counts) (length cells) (length lines)) where
     pub again-header : headerOf (unitOf u cells lines) ≡ headerWith (headerOf u .counts) (length cells) (length lines)
     unfolding headerOf headerWords countsWith offsetsOf
     again-header =
         let locals = w .locals in
         let defer = w .defer in
+        let last = small .offset in
+        let many = small .lines in
         rw (
           word-at 0 (omega arith) (omega arith),
           word-at 1 (omega arith) (omega arith),
