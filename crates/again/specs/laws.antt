@@ -3,3 +3,4 @@ pub mod Laid
 pub mod Function
 pub mod Narrow
 pub mod Lines
+pub mod Unit

@@ -43,7 +43,7 @@ code-long = bytes-long cellCode 8 (λ x. length-toLe 8 _)
 pub metadata-long : (cells : List Cell) → length (bytesOf cellMetadata cells) ≡ metadataSize * length cells
 metadata-long = bytes-long cellMetadata 16 (λ x. metadata-bytes-long (x .metadata))
 
-line-long : (e : Line) → length (lineBytes e) ≡ lineSize
+pub line-long : (e : Line) → length (lineBytes e) ≡ lineSize
 unfolding lineBytes toLe
 line-long e = refl
 
