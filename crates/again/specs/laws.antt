@@ -4,3 +4,4 @@ pub mod Function
 pub mod Narrow
 pub mod Lines
 pub mod Unit
+pub mod Same
