@@ -1,38 +1,38 @@
--- What one pass or the cleaning rewrites, laid out as a unit again, is a unit of bytes as document 01 says, and its function is the one returned.
+-- What one pass or the cleaning rewrites, laid out as a unit again, is a unit of bytes, and its function is the one returned.
 -- Assumes nothing.
-use mathlib.Core.Path.{_≡_, refl, sym, ap, _∙_}
-use mathlib.Core.Bool.{Bool, true, false, cond, _&&_}
+use mathlib.Core.Path.{_≡_, refl}
+use mathlib.Core.Bool.{Bool, true, false, _&&_}
 use mathlib.Core.List.{List}
-use Prim.Native.Nat.{ℕ, zero, suc, _+_, _*_, _/_, _^_, _≤_, _<_}
+use Prim.Native.Nat.{ℕ, _+_, _*_, _/_, _^_, _≤_, _<_}
 use native.Mathlib.Omega.{arith}
 use lib.Dec.{ltb}
-use lib.ListN.{length, getD, length-map}
+use lib.ListN.{length, length-map}
 use borrow.Author.Tests.{ltb-true, ltb-false}
 use Rattle.words.specs.Bytes.{Bytes}
 use Rattle.words.specs.laws.Bytes.{bytes-mid, le-fits}
 use Rattle.words.specs.laws.Lists.{length-tabulate, getD-tabulate}
 use Rattle.unit.specs.Entry.{metadataAt, goodMetadata, isWideSelect, lineAt, linesIn}
-use Rattle.unit.specs.Layout.{headerOf, isUnit, linesRise, wideSelect, metadataOf, linesOf, afterLines, afterUnit, layoutOf}
-use Rattle.unit.specs.Refusal.{notUnit, linePlaces, tooManyCases}
+use Rattle.unit.specs.Layout.{headerOf, wideSelect, metadataOf, linesOf, layoutOf}
+use Rattle.unit.specs.Refusal.{tooManyCases}
 use Rattle.unit.specs.Result.{Retained}
-use Rattle.unit.specs.Size.{lineSize, metadataSize}
+use Rattle.unit.specs.Size.{lineSize}
 use Rattle.unit.specs.laws.UnitLaws.{WellFormed, unit-laid, too-many-cases}
-use Rattle.unit.specs.declared.Layout.{Layout}
 use Rattle.unit.specs.declared.Layout.the-variants.{Unit, Refused}
 use Rattle.unit.specs.declared.Line.{Line}
-use Rattle.effects.specs.Shape.{Cell, cellAt}
+use Rattle.effects.specs.Shape.{cellAt}
 use Rattle.lines.specs.Lines.{below, movedLines, placesOf}
 use Rattle.lines.specs.laws.Below.{below-mono}
 use Rattle.lines.specs.laws.Moving.{RisingLines, lineIn, noLine}
 use Rattle.lines.specs.laws.Rising.{unit-lines}
 use Rattle.answer.specs.Pass.{Outcome, unchanged, refused, rewritten, linesAfter}
-use Rattle.answer.specs.Answer.{Lent, cellsOf, sectionsOf, roomFor, laidOut, afterLayout, admission, afterAdmission, answerWith, passAnswer, passLines}
-use Rattle.answer.specs.Clean.{retainedCell, cellsAfter, cleanFrom, cleanedFirst, spareFor, cleanAnswer, cleanLines}
+use Rattle.answer.specs.Answer.{Lent, cellsOf, sectionsOf, roomFor, laidOut, admission, afterAdmission, answerWith, passAnswer, passLines}
+use Rattle.answer.specs.Clean.{retainedCell, cellsAfter, cleanedFirst, spareFor, cleanAnswer, cleanLines}
 use Rattle.run.specs.Given.{Returnable, Worked, cell-at, cells-long, worked-well, answer-optimized, answer-worked, answer-returnable, clean-kept, clean-lines}
 use Rattle.run.specs.Returned.{givenFunction, resultFunction}
 use Rattle.run.specs.laws.MovedLines.{places-long}
 use Rattle.again.specs.Again.{countsWith, offsetsOf, headerWith, unitOf}
-use Rattle.again.specs.laws.Function.{all-fit, retained-at, again-function}
+use Rattle.again.specs.laws.Bytes.{again-bytes}
+use Rattle.again.specs.laws.Function.{AllFields, all-fit, retained-at, again-function}
 use Rattle.again.specs.laws.Laid.{Small}
 use Rattle.again.specs.laws.Lines.{moved-few, moved-each, moved-rising}
 use Rattle.again.specs.laws.Narrow.{Narrow, pass-narrow, clean-narrow}
@@ -40,6 +40,7 @@ use Rattle.again.specs.laws.Unit.{Below, none-lowest, again-laid}
 
 -- A result with its lines, given as a unit.
 pub record Given (u : List ℕ) (kept : List Retained) (lines : List Line) : Type 0 where
+  pub bytes : Bytes (unitOf u (cellsAfter kept) lines)
   pub unit : layoutOf (unitOf u (cellsAfter kept) lines) ≡ Unit (headerWith (headerOf u .counts) (length kept) (length lines))
   pub function : givenFunction (unitOf u (cellsAfter kept) lines) ≡ resultFunction (sectionsOf u) kept
 
@@ -124,8 +125,10 @@ module _ (u : List ℕ) (b : Bytes u) (room : Bool) (w : Worked u room) (kept : 
       let good : (p : ℕ) → p < length (cellsAfter kept) → goodMetadata (headerOf u .counts .cases) (cellAt (cellsAfter kept) p .metadata) ≡ true =
       λ p h. rw (retained-at kept p) (r .fits p (rw long at h) .metadata .good) in
       let rise : RisingLines lines = moved-rising (below (placesOf kept)) (length (placesOf kept)) (below-mono (placesOf kept)) given (unit-lines u (w .laid) (w .rise)) in
+      let fields : AllFields (cellsAfter kept) = all-fit (headerOf u .counts .cases) kept (r .fits) in
       record {
-        unit = rw long at (again-laid laid (cellsAfter kept) lines (rw long fits) (all-fit (headerOf u .counts .cases) kept (r .fits)) good narrow rise (rw long lines-below));
+        bytes = again-bytes u (cellsAfter kept) lines b fields;
+        unit = rw long at (again-laid laid (cellsAfter kept) lines (rw long fits) fields good narrow rise (rw long lines-below));
         function = again-function laid (headerOf u .counts .cases) kept lines (r .fits) fits;
       }
 

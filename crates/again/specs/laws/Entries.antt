@@ -2,17 +2,14 @@
 -- Assumes nothing.
 use mathlib.Core.Path.{_≡_, refl, sym, ap, _∙_}
 use mathlib.Core.List.{List, [], _∷_, _++_, append-assoc}
-use Prim.Native.Nat.{ℕ, zero, suc, _+_, _*_, _≤_, _<_}
-use native.Mathlib.Nat.{mul-zero, mul-suc, add-zero}
+use Prim.Native.Nat.{ℕ, zero, suc, _+_, _*_, _<_}
+use native.Mathlib.Nat.{mul-zero, mul-suc}
 use native.Mathlib.Omega.{arith}
 use lib.ListN.{length, getD, take, drop, length-append}
-use lib.Seq.{length-take-le, take-at, drop-at}
+use lib.Seq.{length-take-le}
 use borrow.Rule.Slice.PartMut.{midOf}
+use Rattle.run.specs.laws.Reading.{middle}
 use Rattle.again.specs.Again.{bytesOf}
-
--- the middle of three parts
-pub middle : (a xs b : List ℕ) (i k : ℕ) → length a ≡ i → length xs ≡ k → midOf i k (a ++ xs ++ b) ≡ xs
-middle a xs b i k e f = ap (take k) (ap (drop i) (append-assoc a xs b) ∙ drop-at a (xs ++ b) i e) ∙ take-at xs b k f
 
 module _ {A : Type 0} (bytes : A → List ℕ) where
   -- an entry's bytes lie between those of the entries before it and after it

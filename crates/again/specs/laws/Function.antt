@@ -1,10 +1,9 @@
 -- The function of a unit again: its cells are those that were laid out, and its other sections are the given unit's.
 -- Assumes nothing.
-use mathlib.Core.Path.{_≡_, refl, sym, ap, _∙_}
+use mathlib.Core.Path.{_≡_, ap, _∙_}
 use mathlib.Core.List.{List}
-use Prim.Native.Nat.{ℕ, suc, _+_, _*_, _^_, _<_}
-use native.Mathlib.Omega.{arith}
-use lib.ListN.{length, getD, take, drop, length-map, List·getD-map}
+use Prim.Native.Nat.{ℕ, suc, _<_}
+use lib.ListN.{length, take, drop, length-map, List·getD-map}
 use lib.Seq.{ext-getD}
 use Rattle.words.specs.laws.Le.{length-toLe}
 use Rattle.instruction.specs.Instruction.{instructionAt}

@@ -1,16 +1,16 @@
 -- The header and the sections of a unit again.
 -- Assumes nothing.
 use mathlib.Core.Path.{_≡_, refl, sym, ap, _∙_}
-use mathlib.Core.List.{List, [], _∷_, _++_, append-assoc, append-nil}
-use Prim.Native.Nat.{ℕ, zero, suc, _+_, _*_, _^_, _≤_, _<_}
+use mathlib.Core.List.{List, [], _∷_, append-assoc, append-nil}
+use Prim.Native.Nat.{ℕ, suc, _+_, _*_, _^_, _<_}
 use native.Mathlib.Nat.{zero-add}
 use native.Mathlib.Omega.{arith}
-use lib.ListN.{length, getD, take, drop, length-append}
+use lib.ListN.{length, getD, take, drop}
 use borrow.Rule.Slice.PartMut.{midOf}
 use Rattle.words.specs.Le.{toLe, fromLe, u32At}
 use Rattle.words.specs.laws.Le.{length-toLe, from-to}
 use Rattle.words.specs.laws.Inside.{mid-inside}
-use Rattle.unit.specs.Entry.{metadataBytes, lineBytes}
+use Rattle.unit.specs.Entry.{lineBytes}
 use Rattle.unit.specs.Layout.{headerOf, codeOf, metadataOf, typesOf, constantsOf, functionsOf, externsOf, casesOf, linesOf}
 use Rattle.unit.specs.Size.{headerSize, instructionSize, metadataSize, constantSize, functionSize, externSize, caseSize, lineSize}
 use Rattle.unit.specs.laws.UnitLaws.{WellFormed, metadata-bytes-long}
@@ -18,8 +18,9 @@ use Rattle.unit.specs.declared.Counts.{Counts}
 use Rattle.unit.specs.declared.Header.{Header}
 use Rattle.unit.specs.declared.Line.{Line}
 use Rattle.effects.specs.Shape.{Cell}
+use Rattle.run.specs.laws.Reading.{middle}
 use Rattle.again.specs.Again.{countsWith, offsetsOf, headerWith, headerWords, bytesOf, headerBytes, cellCode, cellMetadata, unitOf}
-use Rattle.again.specs.laws.Entries.{middle, around, next-long, bytes-long, entry-mid}
+use Rattle.again.specs.laws.Entries.{around, next-long, bytes-long, entry-mid}
 
 -- bytes of a unit with n instructions and l lines
 abbrev pub sizeWith : Counts → ℕ → ℕ → ℕ

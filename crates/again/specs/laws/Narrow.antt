@@ -1,14 +1,14 @@
 -- What a pass or the cleaning retains has no select of too many cases where the given code has none: metadata moves by its end alone.
 -- Assumes nothing.
-use mathlib.Core.Path.{_≡_, refl, sym, ap, _∙_}
+use mathlib.Core.Path.{_≡_, refl, _∙_}
 use mathlib.Core.Bool.{Bool, true, false, cond}
 use mathlib.Core.List.{List, [], _∷_}
-use Prim.Native.Nat.{ℕ, zero, suc, _+_, _≤_, _<_}
+use Prim.Native.Nat.{ℕ, zero, suc, _<_}
 use native.Mathlib.Omega.{arith}
-use lib.ListN.{length, getD}
+use lib.ListN.{length}
 use Rattle.unit.specs.Entry.{isWideSelect}
 use Rattle.unit.specs.Result.{Retained}
-use Rattle.effects.specs.Shape.{Sections, Cell, cellAt}
+use Rattle.effects.specs.Shape.{Cell, cellAt}
 use Rattle.flow.specs.Block.{leaders}
 use Rattle.flow.specs.Loop.{reachedPlaces, isLoopHint}
 use Rattle.values.specs.Number.{numberCode}

@@ -19,10 +19,8 @@ use Rattle.words.specs.laws.Regions.{mid-long, mid-add}
 use Rattle.instruction.specs.Instruction.{toWord, instructionAt}
 use Rattle.unit.specs.Entry.{metadataAt, metadataBytes, lineAt, lineBytes, linesIn}
 use Rattle.unit.specs.Layout.{headerOf, isUnit, codeOf, metadataOf, typesOf, constantsOf, functionsOf, externsOf, casesOf, linesOf}
-use Rattle.unit.specs.Size.{headerSize, instructionSize, metadataSize, constantSize, functionSize, externSize, caseSize, lineSize}
+use Rattle.unit.specs.Size.{headerSize, instructionSize, metadataSize, lineSize}
 use Rattle.unit.specs.laws.UnitLaws.{WellFormed, unit-laid, metadata-words}
-use Rattle.unit.specs.declared.Line.{Line}
-use Rattle.effects.specs.Shape.{Cell}
 use Rattle.answer.specs.Answer.{cellsOf}
 use Rattle.run.specs.Given.{cells-long, metadata-fields}
 use Rattle.again.specs.Again.{countsWith, offsetsOf, headerWith, headerWords, bytesOf, headerBytes, cellCode, cellMetadata, unitOf}

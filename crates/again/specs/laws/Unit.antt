@@ -1,22 +1,22 @@
 -- A unit again is a unit: its sections follow, its entries are good, no select has too many cases, and its lines rise.
 -- Assumes nothing.
 use mathlib.Core.Path.{_≡_, refl, sym, ap, _∙_}
-use mathlib.Core.Bool.{Bool, true, false, cond, _&&_}
+use mathlib.Core.Bool.{Bool, true, false, cond}
 use mathlib.Core.List.{List, _++_}
 use Prim.Native.Nat.{ℕ, zero, suc, _+_, _*_, _/_, _^_, _≤_, _<_}
 use native.Mathlib.Nat.{add-zero}
 use native.Mathlib.Omega.{arith}
-use lib.Dec.{eqb, leb, ltb}
-use lib.ListN.{length, getD, take, drop}
-use borrow.Author.Tests.{eq-eqb, eqb-true, eqb-false, le-leb, lt-ltb, ltb-true, ltb-false, le-ltb}
+use lib.Dec.{eqb, ltb}
+use lib.ListN.{length, take, drop}
+use borrow.Author.Tests.{eq-eqb, eqb-true, eqb-false, le-leb, lt-ltb, ltb-true}
 use borrow.Rule.Slice.PartMut.{midOf}
 use Rattle.words.specs.Le.{toLe}
-use Rattle.words.specs.laws.Le.{from-to, length-toLe}
+use Rattle.words.specs.laws.Le.{from-to}
 use Rattle.words.specs.laws.Inside.{mid-inside}
 use Rattle.words.specs.Lists.{every, lowestBelow}
 use Rattle.words.specs.laws.Lists.{every-all}
 use Rattle.unit.specs.Entry.{metadataAt, goodMetadata, isWideSelect, typeAt, goodType, goodConstant, caseAt, goodCase, lineAt, lineBytes, goodLine}
-use Rattle.unit.specs.Layout.{headerOf, sectionsFollow, goodCounts, goodEntries, hasSections, isUnit, wideSelect, linesRise, layoutOf, metadataOf, typesOf, constantsOf, casesOf, linesOf}
+use Rattle.unit.specs.Layout.{headerOf, sectionsFollow, goodCounts, goodEntries, hasSections, wideSelect, linesRise, layoutOf, metadataOf, typesOf, constantsOf, casesOf, linesOf}
 use Rattle.unit.specs.Size.{headerSize, lineSize, maxLocalSlots}
 use Rattle.unit.specs.laws.UnitLaws.{WellFormed, by-entries, laid-out}
 use Rattle.unit.specs.declared.Counts.{Counts}
@@ -25,7 +25,7 @@ use Rattle.unit.specs.declared.Layout.the-variants.{Unit}
 use Rattle.unit.specs.declared.Line.{Line}
 use Rattle.effects.specs.Shape.{Cell, cellAt}
 use Rattle.lines.specs.laws.Moving.{RisingLines, lineIn, noLine}
-use Rattle.again.specs.Again.{countsWith, offsetsOf, headerWith, bytesOf, cellMetadata, unitOf}
+use Rattle.again.specs.Again.{countsWith, offsetsOf, headerWith, bytesOf, unitOf}
 use Rattle.again.specs.laws.Entries.{around, ahead-long}
 use Rattle.again.specs.laws.Laid.{Small, sizeWith, line-long, lines-long, again-header, again-long, again-metadata, again-types, again-constants, again-cases, again-lines}
 use Rattle.again.specs.laws.Function.{AllFields, metadata-back, again-many, again-described}
