@@ -38,8 +38,8 @@ use Rattle.again.specs.laws.Lines.{moved-few, moved-each, moved-rising}
 use Rattle.again.specs.laws.Narrow.{Narrow, pass-narrow, clean-narrow}
 use Rattle.again.specs.laws.Unit.{Below, none-lowest, again-laid}
 
--- A result with its lines, given as a unit.
-pub record Given (u : List ℕ) (kept : List Retained) (lines : List Line) : Type 0 where
+-- A result and its lines as a unit.
+pub record UnitAgain (u : List ℕ) (kept : List Retained) (lines : List Line) : Type 0 where
   pub bytes : Bytes (unitOf u (cellsAfter kept) lines)
   pub unit : layoutOf (unitOf u (cellsAfter kept) lines) ≡ Unit (headerWith (headerOf u .counts) (length kept) (length lines))
   pub function : givenFunction (unitOf u (cellsAfter kept) lines) ≡ resultFunction (sectionsOf u) kept
@@ -119,7 +119,7 @@ module _ (u : List ℕ) (b : Bytes u) (room : Bool) (w : Worked u room) (kept : 
       moved-each (below (placesOf kept)) (length (placesOf kept)) (Below (length kept)) given
       (λ i h inside. record { place = rw (places-long kept) at inside; line = given-line u b i h })
 
-  returned : Given u kept (movedLines (placesOf kept) (linesIn (linesOf u)))
+  returned : UnitAgain u kept (movedLines (placesOf kept) (linesIn (linesOf u)))
   returned =
       let long : length (cellsAfter kept) ≡ length kept = length-map kept retainedCell in
       let good : (p : ℕ) → p < length (cellsAfter kept) → goodMetadata (headerOf u .counts .cases) (cellAt (cellsAfter kept) p .metadata) ≡ true =
@@ -133,18 +133,18 @@ module _ (u : List ℕ) (b : Bytes u) (room : Bool) (w : Worked u room) (kept : 
       }
 
 -- One pass.
-pub pass-given : (u : List ℕ) (l : Lent) (kept : List Retained) → Bytes u → passAnswer u l ≡ rewritten kept → Given u kept (passLines u l)
+pub pass-unit : (u : List ℕ) (l : Lent) (kept : List Retained) → Bytes u → passAnswer u l ≡ rewritten kept → UnitAgain u kept (passLines u l)
 unfolding passAnswer givenFunction linesAfter
-pass-given u l kept b e =
+pass-unit u l kept b e =
     let room = roomFor (headerOf u .counts) l in
     let o = answer-optimized u room kept e in
     let narrow = pass-narrow (givenFunction u) (worked-well b (o .0)) (o .0 .worked) kept (o .1) (answer-narrow u room kept e) in
     rw e (returned u b room (o .0) kept (answer-returnable u b room kept e) narrow)
 
 -- Cleaning.
-pub clean-given : (u : List ℕ) (l : Lent) (first second : ℕ) (kept : List Retained) → Bytes u → cleanAnswer u l first second .outcome ≡ rewritten kept → Given u kept (cleanLines u l first second)
+pub clean-unit : (u : List ℕ) (l : Lent) (first second : ℕ) (kept : List Retained) → Bytes u → cleanAnswer u l first second .outcome ≡ rewritten kept → UnitAgain u kept (cleanLines u l first second)
 unfolding cleanAnswer cleanedFirst givenFunction
-clean-given u l first second kept b e =
+clean-unit u l first second kept b e =
     let k = clean-kept u b l first second kept e in
     rw (clean-lines u b l first second kept e) (returned u b room (k .0) kept (k .1) (go (answerWith room u) refl e))
   where

@@ -84,6 +84,50 @@ module _ {u : List ℕ} (w : WellFormed u) (cells : List Cell) (lines : List Lin
       ap (midOf i n) (joins ∙ around (λ (x : List ℕ). x) parts k [] l)
       ∙ middle (joined (take k parts)) (getD parts k []) (joined (drop (suc k) parts)) i n e f
 
+  -- ---- where each part starts
+
+  -- as many bytes stand before part k
+  abbrev Starts : ℕ → ℕ → Type 0
+  Starts k i = length (joined (take k parts)) ≡ i
+
+  next : (k i n : ℕ) → k < 9 → Starts k i → length (getD parts k []) ≡ n → Starts (suc k) (i + n)
+  next k i n l e f = next-long (λ (x : List ℕ). x) parts k [] l ∙ rw (e, f)
+
+  code-starts : Starts 1 headerSize
+  unfolding bytesOf
+  code-starts = rw append-nil (header-long h)
+
+  metadata-starts : Starts 2 (h .offsets .metadata)
+  unfolding offsetsOf countsWith
+  metadata-starts = next 1 headerSize (instructionSize * length cells) (omega arith) code-starts (code-long cells)
+
+  types-starts : Starts 3 (h .offsets .types)
+  unfolding offsetsOf countsWith
+  types-starts = next 2 (h .offsets .metadata) (metadataSize * length cells) (omega arith) metadata-starts (metadata-long cells)
+
+  constants-starts : Starts 4 (h .offsets .constants)
+  unfolding offsetsOf countsWith
+  constants-starts = next 3 (h .offsets .types) (c .types) (omega arith) types-starts (w .lengths .types)
+
+  functions-starts : Starts 5 (h .offsets .functions)
+  unfolding offsetsOf countsWith
+  functions-starts = next 4 (h .offsets .constants) (constantSize * c .constants) (omega arith) constants-starts (w .lengths .constants)
+
+  externs-starts : Starts 6 (h .offsets .externs)
+  unfolding offsetsOf countsWith
+  externs-starts = next 5 (h .offsets .functions) (functionSize * c .functions) (omega arith) functions-starts (w .lengths .functions)
+
+  cases-starts : Starts 7 (h .offsets .cases)
+  unfolding offsetsOf countsWith
+  cases-starts = next 6 (h .offsets .externs) (externSize * c .externs) (omega arith) externs-starts (w .lengths .externs)
+
+  lines-starts : Starts 8 (h .offsets .lines)
+  unfolding offsetsOf countsWith
+  lines-starts = next 7 (h .offsets .cases) (caseSize * c .cases) (omega arith) cases-starts (w .lengths .cases)
+
+  pub again-long : length (unitOf u cells lines) ≡ sizeWith (headerOf u .counts) (length cells) (length lines)
+  again-long = ap length joins ∙ next 8 (h .offsets .lines) (lineSize * length lines) (omega arith) lines-starts (lines-long lines)
+
   -- ---- the header
 
   word-at : (q : ℕ) → q < 18 → getD (headerWords h) q 0 < 2 ^ 32 → u32At (unitOf u cells lines) (4 * q) ≡ getD (headerWords h) q 0
@@ -126,48 +170,6 @@ module _ {u : List ℕ} (w : WellFormed u) (cells : List Cell) (lines : List Lin
         )
 
     -- ---- the sections
-
-    -- as many bytes stand before part k
-    abbrev Starts : ℕ → ℕ → Type 0
-    Starts k i = length (joined (take k parts)) ≡ i
-
-    next : (k i n : ℕ) → k < 9 → Starts k i → length (getD parts k []) ≡ n → Starts (suc k) (i + n)
-    next k i n l e f = next-long (λ (x : List ℕ). x) parts k [] l ∙ rw (e, f)
-
-    code-starts : Starts 1 headerSize
-    unfolding bytesOf
-    code-starts = rw append-nil (header-long h)
-
-    metadata-starts : Starts 2 (h .offsets .metadata)
-    unfolding offsetsOf countsWith
-    metadata-starts = next 1 headerSize (instructionSize * length cells) (omega arith) code-starts (code-long cells)
-
-    types-starts : Starts 3 (h .offsets .types)
-    unfolding offsetsOf countsWith
-    types-starts = next 2 (h .offsets .metadata) (metadataSize * length cells) (omega arith) metadata-starts (metadata-long cells)
-
-    constants-starts : Starts 4 (h .offsets .constants)
-    unfolding offsetsOf countsWith
-    constants-starts = next 3 (h .offsets .types) (c .types) (omega arith) types-starts (w .lengths .types)
-
-    functions-starts : Starts 5 (h .offsets .functions)
-    unfolding offsetsOf countsWith
-    functions-starts = next 4 (h .offsets .constants) (constantSize * c .constants) (omega arith) constants-starts (w .lengths .constants)
-
-    externs-starts : Starts 6 (h .offsets .externs)
-    unfolding offsetsOf countsWith
-    externs-starts = next 5 (h .offsets .functions) (functionSize * c .functions) (omega arith) functions-starts (w .lengths .functions)
-
-    cases-starts : Starts 7 (h .offsets .cases)
-    unfolding offsetsOf countsWith
-    cases-starts = next 6 (h .offsets .externs) (externSize * c .externs) (omega arith) externs-starts (w .lengths .externs)
-
-    lines-starts : Starts 8 (h .offsets .lines)
-    unfolding offsetsOf countsWith
-    lines-starts = next 7 (h .offsets .cases) (caseSize * c .cases) (omega arith) cases-starts (w .lengths .cases)
-
-    pub again-long : length (unitOf u cells lines) ≡ sizeWith (headerOf u .counts) (length cells) (length lines)
-    again-long = ap length joins ∙ next 8 (h .offsets .lines) (lineSize * length lines) (omega arith) lines-starts (lines-long lines)
 
     -- the section that the header finds
     found : (k : ℕ) (at size : Header → ℕ) → k < 9 → Starts k (at h) → length (getD parts k []) ≡ size h

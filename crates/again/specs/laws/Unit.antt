@@ -129,7 +129,7 @@ module _ {u : List ℕ} (w : WellFormed u) (cells : List Cell) (lines : List Lin
   again-sections-follow : hasSections (unitOf u cells lines) ≡ true
   unfolding hasSections countsWith goodCounts offsetsOf
   again-sections-follow =
-      let long : length v ≡ sizeWith (headerOf u .counts) (length cells) (length lines) = again-long w cells lines small in
+      let long : length v ≡ sizeWith (headerOf u .counts) (length cells) (length lines) = again-long w cells lines in
       let sections : sectionsFollow (headerOf v) (length v) ≡ true =
       ap (λ (x : Header). sectionsFollow x (length v)) (again-header w cells lines small) ∙ ap (sectionsFollow h) long ∙ follow (countsWith (headerOf u .counts) (length cells) (length lines)) in
       let counts : goodCounts (headerOf v) ≡ true = ap goodCounts (again-header w cells lines small) ∙ rw (le-leb (headerOf u .counts .locals) maxLocalSlots (w .locals), le-leb (headerOf u .counts .defer) 1 (w .defer)) in
