@@ -36,13 +36,14 @@ use Rattle.again.specs.laws.Function.{AllFields, all-fit, retained-at, a
 use Rattle.again.specs.laws.Laid.{Small}
 use Rattle.again.specs.laws.Lines.{moved-few, moved-each, moved-rising}
 use Rattle.again.specs.laws.Narrow.{Narrow, pass-narrow, clean-narrow}
-use Rattle.again.specs.laws.Unit.{Below, none-lowest, again-laid}
+use Rattle.again.specs.laws.Unit.{Below, none-lowest, again-laid, again-lined}
 
--- A result and its lines as a unit.
+-- A result and its lines laid out with u's other sections: bytes that are a unit, with the result's function and these lines.
 pub record UnitAgain (u : List ℕ) (kept : List Retained) (lines : List Line) : Type 0 where
   pub bytes : Bytes (unitOf u (cellsAfter kept) lines)
   pub unit : layoutOf (unitOf u (cellsAfter kept) lines) ≡ Unit (headerWith (headerOf u .counts) (length kept) (length lines))
   pub function : givenFunction (unitOf u (cellsAfter kept) lines) ≡ resultFunction (sectionsOf u) kept
+  pub lined : linesIn (linesOf (unitOf u (cellsAfter kept) lines)) ≡ lines
 
 -- ---- what a rewritten unit is
 
@@ -130,9 +131,10 @@ module _ (u : List ℕ) (b : Bytes u) (room : Bool) (w : Worked u room) (kept : 
         bytes = again-bytes u (cellsAfter kept) lines b fields;
         unit = rw long at (again-laid laid (cellsAfter kept) lines (rw long fits) fields good narrow rise (rw long lines-below));
         function = again-function laid (headerOf u .counts .cases) kept lines (r .fits) fits;
+        lined = again-lined laid (cellsAfter kept) lines (rw long fits) (rw long lines-below);
       }
 
--- One pass.
+-- What one pass rewrites is a unit again.
 pub pass-unit : (u : List ℕ) (l : Lent) (kept : List Retained) → Bytes u → passAnswer u l ≡ rewritten kept → UnitAgain u kept (passLines u l)
 unfolding passAnswer givenFunction linesAfter
 pass-unit u l kept b e =
@@ -141,7 +143,7 @@ pass-unit u l kept b e =
     let narrow = pass-narrow (givenFunction u) (worked-well b (o .0)) (o .0 .worked) kept (o .1) (answer-narrow u room kept e) in
     rw e (returned u b room (o .0) kept (answer-returnable u b room kept e) narrow)
 
--- Cleaning.
+-- So is what cleaning rewrites.
 pub clean-unit : (u : List ℕ) (l : Lent) (first second : ℕ) (kept : List Retained) → Bytes u → cleanAnswer u l first second .outcome ≡ rewritten kept → UnitAgain u kept (cleanLines u l first second)
 unfolding cleanAnswer cleanedFirst givenFunction
 clean-unit u l first second kept b e =

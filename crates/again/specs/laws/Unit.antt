@@ -8,14 +8,15 @@ use native.Mathlib.Nat.{add-zero}
 use native.Mathlib.Omega.{arith}
 use lib.Dec.{eqb, ltb}
 use lib.ListN.{length, take, drop}
+use lib.Seq.{ext-getD}
 use borrow.Author.Tests.{eq-eqb, eqb-true, eqb-false, le-leb, lt-ltb, ltb-true}
 use borrow.Rule.Slice.PartMut.{midOf}
 use Rattle.words.specs.Le.{toLe}
 use Rattle.words.specs.laws.Le.{from-to}
 use Rattle.words.specs.laws.Inside.{mid-inside}
 use Rattle.words.specs.Lists.{every, lowestBelow}
-use Rattle.words.specs.laws.Lists.{every-all}
-use Rattle.unit.specs.Entry.{metadataAt, goodMetadata, isWideSelect, typeAt, goodType, goodConstant, caseAt, goodCase, lineAt, lineBytes, goodLine}
+use Rattle.words.specs.laws.Lists.{every-all, length-tabulate, getD-tabulate}
+use Rattle.unit.specs.Entry.{metadataAt, goodMetadata, isWideSelect, typeAt, goodType, goodConstant, caseAt, goodCase, lineAt, lineBytes, goodLine, linesIn}
 use Rattle.unit.specs.Layout.{headerOf, sectionsFollow, goodCounts, goodEntries, hasSections, wideSelect, linesRise, layoutOf, metadataOf, typesOf, constantsOf, casesOf, linesOf}
 use Rattle.unit.specs.Size.{headerSize, lineSize, maxLocalSlots}
 use Rattle.unit.specs.laws.UnitLaws.{WellFormed, by-entries, laid-out}
@@ -80,6 +81,13 @@ module _ (n : ℕ) (lines : List Line) (few : n < 2 ^ 32) (below : (k : ℕ) →
           let next : suc k < length lines = ltb-true (suc k) (length lines) e in
           rw (line-back (suc k) next) (lt-ltb (lineIn lines k .place) (lineIn lines (suc k) .place) (rise k (suc k) (omega arith) next))
       go false e = lt-ltb (lineIn lines k .place) n (below k h .place)
+
+  lines-back : linesIn (bytesOf lineBytes lines) ≡ lines
+  lines-back =
+      let count : ℕ = length (bytesOf lineBytes lines) / lineSize in
+      let long : length (linesIn (bytesOf lineBytes lines)) ≡ length lines = let bytes = lines-long lines in length-tabulate count (lineAt (bytesOf lineBytes lines)) ∙ omega arith in
+      ext-getD noLine (linesIn (bytesOf lineBytes lines)) lines long
+      (λ k h. getD-tabulate count (lineAt (bytesOf lineBytes lines)) k noLine (rw (length-tabulate count (lineAt (bytesOf lineBytes lines))) at h) ∙ line-back k (rw long at h))
 
 -- ---- the lowest number that passes
 
@@ -173,6 +181,12 @@ module _ {u : List ℕ} (w : WellFormed u) (cells : List Cell) (lines : List Lin
       (λ k l.
       let inside : k < length lines = rw (ap (λ (x : Header). x .counts .lines) (again-header w cells lines small)) at l in
       rw (again-many w cells lines small, again-lines w cells lines small) (good-line (length cells) lines (omega arith) below rise k inside))
+
+  pub again-lined : ((k : ℕ) → k < length lines → Below (length cells) (lineIn lines k)) → linesIn (linesOf (unitOf u cells lines)) ≡ lines
+  unfolding countsWith offsetsOf
+  again-lined below =
+      let last = small .offset in
+      ap linesIn (again-lines w cells lines small) ∙ lines-back (length cells) lines (omega arith) below
 
   pub again-laid : AllFields cells → ((k : ℕ) → k < length cells → goodMetadata (headerOf u .counts .cases) (cellAt cells k .metadata) ≡ true) → Narrow cells → RisingLines lines
       → ((k : ℕ) → k < length lines → Below (length cells) (lineIn lines k)) → layoutOf (unitOf u cells lines) ≡ Unit (headerWith (headerOf u .counts) (length cells) (length lines))
