@@ -51,6 +51,7 @@ offsetsOf c =
       lines = lines;
     }
 
+-- the header of those counts
 abbrev pub headerWith : Counts → ℕ → ℕ → Header
 headerWith c n l = record { counts = countsWith c n l; offsets = offsetsOf (countsWith c n l) }
 
@@ -82,6 +83,7 @@ unfoldable pub bytesOf : {A : Type 0} → (A → List ℕ) → List A → List �
 bytesOf bytes [] = []
 bytesOf bytes (x ∷ xs) = bytes x ++ bytesOf bytes xs
 
+-- the bytes of a header, of an instruction, and of its metadata
 abbrev pub headerBytes : Header → List ℕ
 headerBytes h = bytesOf (toLe 4) (headerWords h)
 
@@ -91,7 +93,7 @@ cellCode x = toLe 8 (toWord (x .instruction))
 abbrev pub cellMetadata : Cell → List ℕ
 cellMetadata x = metadataBytes (x .metadata)
 
--- "Both use the unit's other sections"
+-- a result laid out as a unit again: its code, metadata and lines, with the given unit's other sections and numbers
 unfoldable pub unitOf : List ℕ → List Cell → List Line → List ℕ
 unitOf u cells lines =
     headerBytes (headerWith (headerOf u .counts) (length cells) (length lines))
