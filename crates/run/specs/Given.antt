@@ -278,7 +278,7 @@ pass-runnable u l kept b e = answer-returnable u b (roomFor (headerOf u .counts)
 -- ---- cleaning
 
 -- old places are no part of the code
-placed-cells : (before kept : List Retained) → cellsAfter (placedBy before kept) ≡ cellsAfter kept
+pub placed-cells : (before kept : List Retained) → cellsAfter (placedBy before kept) ≡ cellsAfter kept
 unfolding placedBy
 placed-cells before [] = refl
 placed-cells before (r ∷ rs) = ap (λ (l : List Cell). retainedCell r ∷ l) (placed-cells before rs)
@@ -326,7 +326,7 @@ module _ (F : Function) (cases : ℕ) where
       rw (List·getD-map retainedCell before p noRetained) (r .fits p l .metadata) in
       rw (length-map before retainedCell) at (optimized-again G (r .good .well) cases sound (worked .0) kept (worked .1))
 
-  placed-returnable : (before kept : List Retained) → Returnable F cases before → pass (F .sections) (cellsAfter before) ≡ rewritten kept → Returnable F cases (placedBy before kept)
+  pub placed-returnable : (before kept : List Retained) → Returnable F cases before → pass (F .sections) (cellsAfter before) ≡ rewritten kept → Returnable F cases (placedBy before kept)
   unfolding resultFunction
   placed-returnable before kept r e =
       let G = resultFunction (F .sections) before in

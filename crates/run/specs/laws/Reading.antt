@@ -61,7 +61,7 @@ AllFit cases kept = (p : ℕ) → p < length kept → Fits cases (retainedAt kep
 -- ---- the sections
 
 -- the middle of three parts
-middle : (a xs b : List ℕ) (i k : ℕ) → length a ≡ i → length xs ≡ k → midOf i k (a ++ xs ++ b) ≡ xs
+pub middle : (a xs b : List ℕ) (i k : ℕ) → length a ≡ i → length xs ≡ k → midOf i k (a ++ xs ++ b) ≡ xs
 middle a xs b i k e f = ap (take k) (ap (drop i) (append-assoc a xs b) ∙ drop-at a (xs ++ b) i e) ∙ take-at xs b k f
 
 module _ (kept : List Retained) (lines : List Line) (rest : List ℕ) where

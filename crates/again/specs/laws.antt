@@ -1,0 +1,9 @@
+pub mod Entries
+pub mod Laid
+pub mod Function
+pub mod Result
+pub mod Bytes
+pub mod Narrow
+pub mod Lines
+pub mod Unit
+pub mod Same
