@@ -27,7 +27,7 @@ use Rattle.lines.specs.laws.Rising.{unit-lines}
 use Rattle.answer.specs.Pass.{Outcome, unchanged, refused, rewritten, linesAfter}
 use Rattle.answer.specs.Answer.{Lent, cellsOf, sectionsOf, roomFor, laidOut, admission, afterAdmission, answerWith, passAnswer, passLines}
 use Rattle.answer.specs.Clean.{retainedCell, cellsAfter, cleanedFirst, spareFor, cleanAnswer, cleanLines}
-use Rattle.run.specs.Given.{Returnable, Worked, cell-at, cells-long, worked-well, answer-optimized, answer-worked, answer-returnable, clean-kept, clean-lines}
+use Rattle.run.specs.Given.{lines-fit, Returnable, Worked, cell-at, cells-long, worked-well, answer-optimized, answer-worked, answer-returnable, clean-kept, clean-lines}
 use Rattle.run.specs.Returned.{givenFunction, resultFunction}
 use Rattle.run.specs.laws.MovedLines.{places-long}
 use Rattle.again.specs.Again.{countsWith, offsetsOf, headerWith, unitOf}
@@ -71,17 +71,13 @@ last-fits : (u : List ℕ) → Bytes u → headerOf u .offsets .lines < 2 ^ 32
 unfolding headerOf
 last-fits u b = le-fits 4 u 68 b
 
-many-fit : (u : List ℕ) → Bytes u → headerOf u .counts .lines < 2 ^ 32
-unfolding headerOf
-many-fit u b = le-fits 4 u 64 b
-
 small : (u : List ℕ) → Bytes u → WellFormed u → headerOf u .counts .metadata ≡ headerOf u .counts .instructions → (n l : ℕ) → n ≤ headerOf u .counts .instructions → l ≤ headerOf u .counts .lines
     → Small (headerOf u .counts) n l
 unfolding countsWith offsetsOf
 small u b w described n l few fewer =
     let s = w .sections in
     let last = last-fits u b in
-    let many = many-fit u b in
+    let many = lines-fit u b in
     record { offset = omega (arith, s .code, s .metadata, s .types, s .constants, s .functions, s .externs, s .cases, s .lines); lines = omega arith }
 
 -- the lines of a unit of bytes

@@ -22,18 +22,18 @@ use Rattle.desk.specs.declared.Stop.{Stop}
 use Rattle.desk.specs.declared.Stop.the-variants.{Returned, Panicked, Ended, Other, Limit}
 
 -- how a run stopped, and the frame then: "The frame holds the slot words at that point"
-pub record Ran : Type 0 where
+pub record Stopped : Type 0 where
   pub stop : Stop
   pub frame : List ℕ
 
-abbrev pub ran : Stop → List ℕ → Ran
-ran s f = record { stop = s; frame = f }
+abbrev pub stoppedWith : Stop → List ℕ → Stopped
+stoppedWith s f = record { stop = s; frame = f }
 
 -- What is due at an instruction: a step to a place with a frame; Return or Panic, which is a step too; or nothing, since it is another instruction.
 pub data Due : Type 0 where
   goes : ℕ → List ℕ → Due
   stops : Stop → Due
-  other : Due
+  notExecuted : Due
 
 -- slot a gets the word, and the next place is due
 abbrev pub stores : ℕ → List ℕ → ℕ → ℕ → Due
@@ -45,45 +45,45 @@ loads p f a constant.Nil = stores p f a 0
 loads p f a (constant.Bool v) = stores p f a v
 loads p f a (constant.Int v) = stores p f a v
 loads p f a (constant.Float v) = stores p f a v
-loads p f a constant.String = other
-loads p f a constant.Missing = other
+loads p f a constant.String = notExecuted
+loads p f a constant.Missing = notExecuted
 
 -- "It executes LoadInt, LoadConst of kinds 0 to 3, Copy, CopyN, the 21 opcodes that fold, Hint, the three jumps, Return and Panic." CopyN reads all
--- before it writes; "Return reads (a, b), Panic (a, 2)"
+-- before it writes; Return reads b slots from a on, Panic two.
 unfoldable pub dueBy : Sections → Class → ℕ → Instruction → List ℕ → Due
 dueBy S class.Hint p i f = goes (suc p) f
 dueBy S class.LoadInt p i f = stores p f (i .a) (imm32 i)
 dueBy S class.LoadConst p i f = loads p f (i .a) (constantAt (S .constants) (i .b))
 dueBy S class.Copy p i f = stores p f (i .a) (getD f (i .b) 0)
 dueBy S class.CopyN p i f = goes (suc p) (putMid (i .a) (i .c) f (midOf (i .b) (i .c) f))
-dueBy S class.Unary p i f = cond (isIn (i .op) foldingUnary) (stores p f (i .a) (foldWord (i .op) (i .flags) (getD f (i .b) 0) 0)) other
-dueBy S class.Binary p i f = cond (isIn (i .op) foldingBinary) (stores p f (i .a) (foldWord (i .op) (i .flags) (getD f (i .b) 0) (getD f (i .c) 0))) other
+dueBy S class.Unary p i f = cond (isIn (i .op) foldingUnary) (stores p f (i .a) (foldWord (i .op) (i .flags) (getD f (i .b) 0) 0)) notExecuted
+dueBy S class.Binary p i f = cond (isIn (i .op) foldingBinary) (stores p f (i .a) (foldWord (i .op) (i .flags) (getD f (i .b) 0) (getD f (i .c) 0))) notExecuted
 dueBy S class.Jump p i f = goes (targetBy class.Jump p i) f
 dueBy S class.JumpIf p i f = goes (cond (not (eqb (getD f (i .a) 0) 0)) (targetBy class.JumpIf p i) (suc p)) f
 dueBy S class.JumpIfNot p i f = goes (cond (eqb (getD f (i .a) 0) 0) (targetBy class.JumpIfNot p i) (suc p)) f
-dueBy S class.ForLoop p i f = other
+dueBy S class.ForLoop p i f = notExecuted
 dueBy S class.Return p i f = stops (Returned (i .a) (i .b))
 dueBy S class.Panic p i f = stops (Panicked (i .a) 2)
-dueBy S class.Outside p i f = other
-dueBy S class.Invalid p i f = other
+dueBy S class.Outside p i f = notExecuted
+dueBy S class.Invalid p i f = notExecuted
 
 -- with no step left: "neither the end of the code nor another instruction is due"
-unfoldable pub halted : ℕ → List ℕ → Due → Ran
-halted p f (goes q g) = ran Limit f
-halted p f (stops s) = ran Limit f
-halted p f other = ran (Other p) f
+unfoldable pub halted : ℕ → List ℕ → Due → Stopped
+halted p f (goes q g) = stoppedWith Limit f
+halted p f (stops s) = stoppedWith Limit f
+halted p f notExecuted = stoppedWith (Other p) f
 
 -- a step, and the run from where it goes
-unfoldable pub taken : ℕ → List ℕ → (ℕ → List ℕ → Ran) → Due → Ran
+unfoldable pub taken : ℕ → List ℕ → (ℕ → List ℕ → Stopped) → Due → Stopped
 taken p f later (goes q g) = later q g
-taken p f later (stops s) = ran s f
-taken p f later other = ran (Other p) f
+taken p f later (stops s) = stoppedWith s f
+taken p f later notExecuted = stoppedWith (Other p) f
 
 module _ (S : Sections) (cells : List Cell) where
   abbrev pub dueAt : ℕ → List ℕ → Due
   dueAt p f = dueBy S (instruction.class (cellAt cells p .instruction)) p (cellAt cells p .instruction) f
 
   -- The run from place p with frame f and at most k steps. "Return and Panic are steps; the end of the code and another instruction are not."
-  unfoldable pub runFrom : ℕ → ℕ → List ℕ → Ran
-  runFrom zero p f = let rest = halted p f (dueAt p f) in cond (ltb p (length cells)) rest (ran Ended f)
-  runFrom (suc k) p f = let rest = taken p f (runFrom k) (dueAt p f) in cond (ltb p (length cells)) rest (ran Ended f)
+  unfoldable pub runFrom : ℕ → ℕ → List ℕ → Stopped
+  runFrom zero p f = let rest = halted p f (dueAt p f) in cond (ltb p (length cells)) rest (stoppedWith Ended f)
+  runFrom (suc k) p f = let rest = taken p f (runFrom k) (dueAt p f) in cond (ltb p (length cells)) rest (stoppedWith Ended f)

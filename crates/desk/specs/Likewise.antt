@@ -39,15 +39,16 @@ use Rattle.run.specs.Visits.{Noted, visiting, notedAt, StandsFor, sameOpcode, l
 use Rattle.run.specs.laws.Checked.{target-inside}
 use Rattle.run.specs.laws.Passed.{optimized-kept}
 use Rattle.run.specs.laws.Runnable.{Runnable}
+use Rattle.run.specs.laws.Simulation.{after-stays}
 use Rattle.run.specs.laws.Visited.{Visited, now, later, visited-inside, visited-hold}
 use Rattle.desk.specs.declared.Stop.{Stop}
 use Rattle.desk.specs.declared.Stop.the-variants.{Returned, Panicked, Ended, Other, Limit, Refused}
-use Rattle.desk.specs.Desk.{Ran, ran, Due, goes, stops, other, loads, dueBy, halted, taken, dueAt, runFrom}
+use Rattle.desk.specs.Desk.{Stopped, stoppedWith, Due, goes, stops, notExecuted, loads, dueBy, halted, taken, dueAt, runFrom}
 use Rattle.desk.specs.laws.Step.{wordsIn}
 use Rattle.desk.specs.laws.Stands.{readWords, isExecuted, IsEnd, Stands, stops-there, goes-there, notesFrom, stand, Arrives, arrives}
 
 -- how a run that ends must end, of one that ended so with a frame
-unfoldable pub Likewise : Stop → List ℕ → Ran → Type 0
+unfoldable pub Likewise : Stop → List ℕ → Stopped → Type 0
 Likewise (Returned a b) f r = (c : ℕ) × (r .stop ≡ Returned c b) × (readWords c b (r .frame) ≡ readWords a b f)
 Likewise (Panicked a b) f r = (c : ℕ) × (r .stop ≡ Panicked c b) × (readWords c b (r .frame) ≡ readWords a b f)
 Likewise Ended f r = r .stop ≡ Ended
@@ -66,7 +67,7 @@ same-loads p q a b f g (Float v) = refl
 same-loads p q a b f g String = refl
 same-loads p q a b f g Missing = refl
 
-same-cond : (t : Bool) (p q : ℕ) (f g : List ℕ) → isExecuted (cond t (goes p f) other) ≡ isExecuted (cond t (goes q g) other)
+same-cond : (t : Bool) (p q : ℕ) (f g : List ℕ) → isExecuted (cond t (goes p f) notExecuted) ≡ isExecuted (cond t (goes q g) notExecuted)
 unfolding isExecuted
 same-cond true p q f g = refl
 same-cond false p q f g = refl
@@ -140,7 +141,7 @@ module _ (F : Function) (A : Runnable F) (W : World) where
   unfolding halted IsEnd
   halted-none p f (goes q g) e = e
   halted-none p f (stops s) e = e
-  halted-none p f other e = e
+  halted-none p f notExecuted e = e
 
   stands-over : (R : List Event) (s : Stop) (f : List ℕ) (x : State) → IsEnd s → Stands F W R s f x → (w : Way) × (wayOf P x ≡ some w)
   unfolding IsEnd Stands wayOf programOf
@@ -156,7 +157,7 @@ module _ (F : Function) (A : Runnable F) (W : World) where
   unfolding runFrom taken isExecuted IsEnd
   visits-executed zero p f R le long t q v = go (ltb p (length cells)) refl t
     where
-      go : (b : Bool) → ltb p (length cells) ≡ b → IsEnd (cond b (halted p f (dueAt S cells p f)) (ran Ended f) .stop) → Executed S (cellAt cells q .instruction)
+      go : (b : Bool) → ltb p (length cells) ≡ b → IsEnd (cond b (halted p f (dueAt S cells p f)) (stoppedWith Ended f) .stop) → Executed S (cellAt cells q .instruction)
       go true e t = absurd (halted-none p f (dueAt S cells p f) t)
       go false e t = absurd (none-visited p q (wordsIn f) R e v)
   visits-executed (suc k) p f R le long t q v = go (visits-executed k) (ltb p (length cells)) refl t
@@ -173,9 +174,9 @@ module _ (F : Function) (A : Runnable F) (W : World) where
         | inl same ↦ here (stops s) d refl same
         | inr w ↦ let u = stops-there F A W p f R s i long d in let o = stands-over R s f (step W P (at p (wordsIn f) R)) (u .1) (u .0) in absurd (visited-over w (o .0) (o .1))
       ]
-      by ih i other d t = absurd t
+      by ih i notExecuted d t = absurd t
 
-      go : Visits k → (b : Bool) → ltb p (length cells) ≡ b → IsEnd (cond b (taken p f (runFrom S cells k) (dueAt S cells p f)) (ran Ended f) .stop) → Executed S (cellAt cells q .instruction)
+      go : Visits k → (b : Bool) → ltb p (length cells) ≡ b → IsEnd (cond b (taken p f (runFrom S cells k) (dueAt S cells p f)) (stoppedWith Ended f) .stop) → Executed S (cellAt cells q .instruction)
       go ih true e t = by ih (ltb-true p (length cells) e) (dueAt S cells p f) refl t
       go ih false e t = absurd (none-visited p q (wordsIn f) R e v)
 
@@ -203,7 +204,7 @@ head-same : (d e : Event) → _≡_ {A = List Event} (d ∷ []) (e ∷ []) → d
 head-same d e p = cc
 
 -- in the same way and with the same record they end likewise
-like : (F G : Function) (W : World) (s u : Stop) (f g : List ℕ) (x y : State) → Stands F W [] s f x → Stands G W [] u g y → IsEnd u → wayFor u ≡ wayFor s → logOf y ≡ logOf x → Likewise s f (ran u g)
+like : (F G : Function) (W : World) (s u : Stop) (f g : List ℕ) (x y : State) → Stands F W [] s f x → Stands G W [] u g y → IsEnd u → wayFor u ≡ wayFor s → logOf y ≡ logOf x → Likewise s f (stoppedWith u g)
 unfolding Stands Likewise IsEnd logOf wayFor
 like F G W (Returned a b) (Returned c d) f g x y (p, e, o, xe, be, we) (q, e′, o′, ye, be′, we′) t w l =
     let same : e′ ≡ e = head-same e′ e (sym (ap logOf ye) ∙ l ∙ ap logOf xe) in
@@ -234,14 +235,9 @@ like F G W Limit u f g x y p q t w l = tt
 like F G W (Refused c d) u f g x y p q t w l = tt
 
 -- a system that has ended stays as it is
-after-ended : {R W : Type 0} (S : System R W) (k : ℕ) (x : S .State) (w : W) → S .way x ≡ some w → after S k x ≡ x
-unfolding after
-after-ended S zero x w e = refl
-after-ended S (suc k) x w e = ap (after S k) (S .stays x w e) ∙ after-ended S k x w e
-
 after-later : {R W : Type 0} (S : System R W) (j k : ℕ) (x : S .State) (w : W) → j ≤ k → S .way (after S j x) ≡ some w → after S k x ≡ after S j x
 unfolding after
-after-later S zero k x w h e = after-ended S k x w e
+after-later S zero k x w h e = after-stays S k x w e
 after-later S (suc j) zero x w h e = absurd (omega arith)
 after-later S (suc j) (suc k) x w h e = after-later S j k (S .next x) w (omega arith) e
 
@@ -269,10 +265,10 @@ module _ (F : Function) (kept : List Retained) (A : Runnable F) (A′ : Runnable
   abbrev quiet : ℕ → List ℕ
   quiet q = []
 
-  abbrev given : ℕ → List ℕ → Ran
+  abbrev given : ℕ → List ℕ → Stopped
   given k f = runFrom (F .sections) (F .cells) k 0 f
 
-  abbrev returned : ℕ → List ℕ → Ran
+  abbrev returned : ℕ → List ℕ → Stopped
   returned k f = runFrom (F .sections) (cellsAfter kept) k 0 f
 
   module _ (k : ℕ) (f : List ℕ) (long : length f ≡ F .sections .locals) (t : IsEnd (given k f .stop)) where

@@ -10,7 +10,7 @@ use Rattle.unit.specs.Entry.{typeValue}
 use Rattle.effects.specs.Shape.{Sections, Cell, tablesOf}
 use Rattle.desk.specs.declared.Stop.{Stop}
 use Rattle.desk.specs.declared.Stop.the-variants.{Returned, Panicked, Ended, Other, Limit}
-use Rattle.desk.specs.Desk.{Ran, ran, loads, dueBy, halted, taken, runFrom}
+use Rattle.desk.specs.Desk.{Stopped, stoppedWith, loads, dueBy, halted, taken, runFrom}
 use Rattle.examples.specs.Computed.{runs}
 use Rattle.examples.specs.Unit.{cell, loadInt, three, return}
 
@@ -55,6 +55,6 @@ cases =
     ∷ record { cells = return 0 1 ∷ []; frame = 9 ∷ 0 ∷ []; limit = 2; stop = Returned 0 1; after = 9 ∷ 0 ∷ [] }
     ∷ []
 
-pub desk-runs : map (λ (x : Case). runFrom (sections x) (x .cells) (x .limit) 0 (x .frame)) cases ≡ map (λ (x : Case). ran (x .stop) (x .after)) cases
+pub desk-runs : map (λ (x : Case). runFrom (sections x) (x .cells) (x .limit) 0 (x .frame)) cases ≡ map (λ (x : Case). stoppedWith (x .stop) (x .after)) cases
 unfolding runs loads dueBy halted taken runFrom
 desk-runs = refl

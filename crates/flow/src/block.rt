@@ -35,7 +35,8 @@ fn mark_starts(marks: &mut [u32], p: usize, i: Instruction)
 
 // Marks each place where a block starts, by the list of the control places. The metadata of the cells plays no part.
 pub fn mark_leaders(words: &[u64], list: &[u64], marks: &mut [u32])
-    requires { ⌜ (1 ≤ length (now words)) × (length (now words) < 2 ^ 32) × (length (now marks) ≡ length (now words)) × Controls (now words) (now list) (length (now words)) ⌝ }
+    requires { ⌜ (1 ≤ length (now words)) × (length (now words) < 2 ^ 32)
+        × (length (now marks) ≡ length (now words)) × Controls (now words) (now list) (length (now words)) ⌝ }
     ensures { λ _. ⌜ ((metadata : List ℕ) → now (marks .exit) ≡ leaders (cellsBy (now (words .entry)) metadata)) ⌝ }
 {
     fill::zero_u32(marks);
@@ -51,7 +52,8 @@ pub fn mark_leaders(words: &[u64], list: &[u64], marks: &mut [u32])
 // Numbers the blocks by the n leaders: after them, for each place its block, and then for each block its start and, past the last,
 // the number of places.
 pub fn number_blocks(work: &mut [u32], n: usize) -> usize
-    requires { ⌜ Flags (midOf 0 n (now work)) × Marked (midOf 0 n (now work)) 0 × (n < 2 ^ 32) × (keepAt n ≤ length (now work)) ⌝ }
+    requires { ⌜ Flags (midOf 0 n (now work)) × Marked (midOf 0 n (now work)) 0 × (n < 2 ^ 32)
+        × (keepAt n ≤ length (now work)) ⌝ }
     ensures { λ r. ⌜ Numbered (midOf 0 n (now (work .entry))) (midOf n n (now (work .exit))) (midOf (startsAt n) (n + 1) (now (work .entry))) (midOf (startsAt n) (n + 1) (now (work .exit))) r × (now (work .exit) ≡ putMid n (2 * n + 1) (now (work .entry)) (midOf n (2 * n + 1) (now (work .exit)))) ⌝ }
 {
     let starts = region::starts_at(n);

@@ -37,7 +37,9 @@ pub fn check_operands(
     externs: &[u8],
     cases: &[u8],
 ) -> Listing
-    requires { ⌜ (n < 2 ^ 32) × (n ≤ at) × (at + n ≤ length (now memory)) × (length (now metadata) ≡ metadataSize * n) × (locals ≤ maxLocalSlots) × ((k : ℕ) → k < n → goodMetadata (length (now cases) / caseSize) (metadataAt (now metadata) k) ≡ true) ⌝ }
+    requires { ⌜ (n < 2 ^ 32) × (n ≤ at) × (at + n ≤ length (now memory))
+        × (length (now metadata) ≡ metadataSize * n) × (locals ≤ maxLocalSlots)
+        × ((k : ℕ) → k < n → goodMetadata (length (now cases) / caseSize) (metadataAt (now metadata) k) ≡ true) ⌝ }
     ensures { λ r. ⌜ (checkOf r ≡ operandCheck locals (tablesOf (now (functions .entry)) (now (externs .entry)) (now (cases .entry))) (cellsBy (midOf 0 n (now (memory .entry))) (now (metadata .entry)))) × ListedBy r (midOf 0 n (now (memory .entry))) n at (now (memory .exit)) × Outside at n (now (memory .entry)) (now (memory .exit)) ⌝ }
 {
     let mut count: usize = 0;

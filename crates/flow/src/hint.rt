@@ -37,7 +37,8 @@ pub fn is_sound(n: usize, d: Metadata) -> bool
 
 // The refusal of the instruction at place p, or 0.
 fn loop_refusal(words: &[u64], metadata: &[u8], marks: &[u32], p: usize) -> u32
-    requires { ⌜ (p < length (now words)) × (metadataSize * length (now words) ≤ length (now metadata)) × (length (now marks) ≡ length (now words)) ⌝ }
+    requires { ⌜ (p < length (now words)) × (metadataSize * length (now words) ≤ length (now metadata))
+        × (length (now marks) ≡ length (now words)) ⌝ }
     ensures { λ r. ⌜ r ≡ loopTest (now (marks .entry)) (length (now (words .entry))) p (cellOf (now (metadata .entry)) p (getD (now (words .entry)) p 0)) ⌝ }
 {
     if !is_loop_hint(Instruction::from_word(words[p])) {
@@ -53,7 +54,8 @@ fn loop_refusal(words: &[u64], metadata: &[u8], marks: &[u32], p: usize) -> u32
 
 // Refusal 9, of the places that are reached, by the list of the control places.
 pub fn check_loops(words: &[u64], list: &[u64], metadata: &[u8], marks: &[u32]) -> Check
-    requires { ⌜ (length (now words) < 2 ^ 32) × (metadataSize * length (now words) ≤ length (now metadata)) × (length (now marks) ≡ length (now words)) × Controls (now words) (now list) (length (now words)) ⌝ }
+    requires { ⌜ (length (now words) < 2 ^ 32) × (metadataSize * length (now words) ≤ length (now metadata))
+        × (length (now marks) ≡ length (now words)) × Controls (now words) (now list) (length (now words)) ⌝ }
     ensures { λ r. ⌜ r ≡ loopCheck (now (marks .entry)) (cellsBy (now (words .entry)) (now (metadata .entry))) ⌝ }
 {
     let mut k: usize = 0;
@@ -81,7 +83,9 @@ fn mark_end(metadata: &[u8], ends: &mut [u32], reached: u32, p: usize, i: Instru
 
 // Marks the ends of the reached loop hints, by the list of the control places. The marks of the reached places stand first, the ends from `at` on.
 pub fn mark_anchors(words: &[u64], list: &[u64], metadata: &[u8], work: &mut [u32], at: usize)
-    requires { ⌜ (length (now words) < 2 ^ 32) × (metadataSize * length (now words) ≤ length (now metadata)) × (length (now words) ≤ at) × (at + length (now words) ≤ length (now work)) × Controls (now words) (now list) (length (now words)) ⌝ }
+    requires { ⌜ (length (now words) < 2 ^ 32) × (metadataSize * length (now words) ≤ length (now metadata))
+        × (length (now words) ≤ at) × (at + length (now words) ≤ length (now work))
+        × Controls (now words) (now list) (length (now words)) ⌝ }
     ensures { λ _. ⌜ now (work .exit) ≡ putMid at (length (now (words .entry))) (now (work .entry)) (anchors (midOf 0 (length (now (words .entry))) (now (work .entry))) (cellsBy (now (words .entry)) (now (metadata .entry)))) ⌝ }
 {
     let n = words.len();

@@ -59,7 +59,8 @@ fn push_loop(
     p: usize,
     i: Instruction,
 ) -> usize
-    requires { ⌜ (n < 2 ^ 32) × (metadataSize * p + metadataSize ≤ length (now metadata)) × (sp + 2 ≤ length (now stack)) ⌝ }
+    requires { ⌜ (n < 2 ^ 32) × (metadataSize * p + metadataSize ≤ length (now metadata))
+        × (sp + 2 ≤ length (now stack)) ⌝ }
     ensures { λ r. ⌜ Pushed n sp (loopSuccessorsOf n i (now (metadata .entry)) p) (now (stack .entry)) (now (stack .exit)) r ⌝ }
 {
     if hint::is_loop_hint(i) {
@@ -74,7 +75,8 @@ fn push_loop(
 
 // The successors of place p go onto the stack.
 fn push_successors(words: &[u64], metadata: &[u8], stack: &mut [u32], sp: usize, p: usize) -> usize
-    requires { ⌜ (length (now words) < 2 ^ 32) × (p < length (now words)) × (metadataSize * length (now words) ≤ length (now metadata)) × (sp + 4 ≤ length (now stack)) ⌝ }
+    requires { ⌜ (length (now words) < 2 ^ 32) × (p < length (now words))
+        × (metadataSize * length (now words) ≤ length (now metadata)) × (sp + 4 ≤ length (now stack)) ⌝ }
     ensures { λ r. ⌜ Pushed (length (now (words .entry))) sp (successors (length (now (words .entry))) p (cellOf (now (metadata .entry)) p (getD (now (words .entry)) p 0))) (now (stack .entry)) (now (stack .exit)) r ⌝ }
 {
     let n = words.len();
@@ -94,7 +96,10 @@ fn goes_on(op: u8) -> bool
 // successors of the last one go onto the stack. Most places only go on, and a run need not wait to load what it has just stored.
 // The result is the stack's new height.
 fn mark_run(words: &[u64], metadata: &[u8], work: &mut [u32], sp: usize, first: usize) -> usize
-    requires { ⌜ (length (now words) < 2 ^ 32) × (metadataSize * length (now words) ≤ length (now metadata)) × (stackEnd (length (now words)) ≤ length (now work)) × Standing (length (now words)) (following (cellsBy (now words) (now metadata))) (marksOf (length (now words)) (now work)) (stackOf (length (now words)) (now work)) (sp + 1) × (first ≡ getD (now work) (length (now words) + sp) 0) ⌝ }
+    requires { ⌜ (length (now words) < 2 ^ 32) × (metadataSize * length (now words) ≤ length (now metadata))
+        × (stackEnd (length (now words)) ≤ length (now work))
+        × Standing (length (now words)) (following (cellsBy (now words) (now metadata))) (marksOf (length (now words)) (now work)) (stackOf (length (now words)) (now work)) (sp + 1)
+        × (first ≡ getD (now work) (length (now words) + sp) 0) ⌝ }
     ensures { λ r. ⌜ Ran (length (now (words .entry))) (following (cellsBy (now (words .entry)) (now (metadata .entry)))) (now (work .entry)) (now (work .exit)) sp r ⌝ }
 {
     let n = words.len();
@@ -115,7 +120,9 @@ fn mark_run(words: &[u64], metadata: &[u8], work: &mut [u32], sp: usize, first: 
 // Marks the places that are reached from place 0. Each is visited once, and has at most four successors. The marks stand first, and
 // the stack after them.
 pub fn mark_reached(words: &[u64], metadata: &[u8], work: &mut [u32])
-    requires { ⌜ (1 ≤ length (now words)) × (length (now words) < 2 ^ 32) × (metadataSize * length (now words) ≤ length (now metadata)) × (stackEnd (length (now words)) ≤ length (now work)) ⌝ }
+    requires { ⌜ (1 ≤ length (now words)) × (length (now words) < 2 ^ 32)
+        × (metadataSize * length (now words) ≤ length (now metadata))
+        × (stackEnd (length (now words)) ≤ length (now work)) ⌝ }
     ensures { λ _. ⌜ (midOf 0 (length (now (words .entry))) (now (work .exit)) ≡ reachedPlaces (cellsBy (now (words .entry)) (now (metadata .entry)))) × (now (work .exit) ≡ putMid 0 (stackEnd (length (now (words .entry)))) (now (work .entry)) (midOf 0 (stackEnd (length (now (words .entry)))) (now (work .exit)))) ⌝ }
 {
     let n = words.len();

@@ -65,6 +65,10 @@ instruction-fields code p b = record {
   c-fits = le-fits 2 code (8 * p + 6) b;
 }
 
+pub lines-fit : (u : List ℕ) → Bytes u → headerOf u .counts .lines < 2 ^ 32
+unfolding headerOf
+lines-fit u b = le-fits 4 u 64 b
+
 -- a constant's word is one of 64 bits
 unfoldable Small : Constant → Type 0
 Small Nil = Unit {0}

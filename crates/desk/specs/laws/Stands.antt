@@ -28,7 +28,7 @@ use Rattle.run.specs.laws.Runnable.{Runnable}
 use Rattle.run.specs.laws.Step.{step-do}
 use Rattle.desk.specs.declared.Stop.{Stop}
 use Rattle.desk.specs.declared.Stop.the-variants.{Returned, Panicked, Ended, Other, Limit, Refused}
-use Rattle.desk.specs.Desk.{Ran, ran, Due, goes, stops, other, loads, dueBy, halted, taken, dueAt, runFrom}
+use Rattle.desk.specs.Desk.{Stopped, stoppedWith, Due, goes, stops, notExecuted, loads, dueBy, halted, taken, dueAt, runFrom}
 use Rattle.desk.specs.laws.Step.{wordsIn, Follows, follows}
 
 -- the words of a range of slots
@@ -38,7 +38,7 @@ readWords a b f = map (wordsIn f) (slotsFrom a b)
 unfoldable pub isExecuted : Due → Bool
 isExecuted (goes q g) = true
 isExecuted (stops s) = true
-isExecuted other = false
+isExecuted notExecuted = false
 
 -- "returns, panics or runs out at its end"
 unfoldable pub IsEnd : Stop → Type 0
@@ -84,7 +84,7 @@ module _ (F : Function) (A : Runnable F) (W : World) where
   unfoldable Inside : Due → Type 0
   Inside (goes q g) = q ≤ n
   Inside (stops s) = Unit {0}
-  Inside other = Unit {0}
+  Inside notExecuted = Unit {0}
 
   inside-loads : (p : ℕ) (f : List ℕ) (a : ℕ) (c : Constant) → p < n → Inside (loads p f a c)
   unfolding Inside loads
@@ -125,7 +125,7 @@ module _ (F : Function) (A : Runnable F) (W : World) where
   unfoldable Stopping : ℕ → List ℕ → List Event → Due → Type 0
   Stopping p f R (goes q g) = Unit {0}
   Stopping p f R (stops s) = Stands F W R s f (step W P (at p (wordsIn f) R)) × IsEnd s
-  Stopping p f R other = Unit {0}
+  Stopping p f R notExecuted = Unit {0}
 
   stopping-loads : (p : ℕ) (f : List ℕ) (R : List Event) (q : ℕ) (a : ℕ) (c : Constant) → Stopping p f R (loads q f a c)
   unfolding Stopping loads
@@ -181,7 +181,7 @@ module _ (F : Function) (A : Runnable F) (W : World) where
     unfoldable pub notedBy : ℕ → Due → (ℕ → List ℕ → List ℕ) → List ℕ
     notedBy p (goes q g) later = later q g ++ h p
     notedBy p (stops s) later = h p
-    notedBy p other later = []
+    notedBy p notExecuted later = []
 
     unfoldable pub notesFrom : ℕ → ℕ → List ℕ → List ℕ
     notesFrom zero p f = []
@@ -207,7 +207,7 @@ module _ (F : Function) (A : Runnable F) (W : World) where
     first-step y z e = e
 
     -- the run comes there in j steps, as many as the limit where that stopped it
-    pub record Arrives (k p : ℕ) (f : List ℕ) (R : List Event) (l : List ℕ) (r : Ran) (ns : List ℕ) : Type 0 where
+    pub record Arrives (k p : ℕ) (f : List ℕ) (R : List Event) (l : List ℕ) (r : Stopped) (ns : List ℕ) : Type 0 where
       pub steps : ℕ
       pub within : steps ≤ k
       pub all : r .stop ≡ Limit → steps ≡ k
@@ -218,22 +218,22 @@ module _ (F : Function) (A : Runnable F) (W : World) where
     ArrivesAll k = (p : ℕ) (f : List ℕ) (R : List Event) (l : List ℕ) → p ≤ n → length f ≡ S .locals → Arrives k p f R l (runFrom S cells k p f) (notesFrom k p f)
 
     -- a run that does not step
-    at-end : (k p : ℕ) (f : List ℕ) (R : List Event) (l : List ℕ) → p ≤ n → ltb p n ≡ false → Arrives k p f R l (ran Ended f) []
+    at-end : (k p : ℕ) (f : List ℕ) (R : List Event) (l : List ℕ) → p ≤ n → ltb p n ≡ false → Arrives k p f R l (stoppedWith Ended f) []
     unfolding after Stands
     at-end k p f R l le e =
         let ge = ltb-false p n e in
         let same : p ≡ n = omega arith in
         record { steps = 0; within = omega arith; all = λ q. (let z : _≡_ {A = ℕ} 0 1 = cc in absurd (omega arith)); stands = rw same; notes = refl }
 
-    at-other : (k p : ℕ) (f : List ℕ) (R : List Event) (l : List ℕ) → p < n → dueAt S cells p f ≡ other → Arrives k p f R l (ran (Other p) f) []
+    at-other : (k p : ℕ) (f : List ℕ) (R : List Event) (l : List ℕ) → p < n → dueAt S cells p f ≡ notExecuted → Arrives k p f R l (stoppedWith (Other p) f) []
     unfolding after Stands isExecuted
     at-other k p f R l i d = record { steps = 0; within = omega arith; all = λ q. (let z : _≡_ {A = ℕ} 0 1 = cc in absurd (omega arith)); stands = (i, refl, rw d refl); notes = refl }
 
-    at-limit : (p : ℕ) (f : List ℕ) (R : List Event) (l : List ℕ) → p < n → isExecuted (dueAt S cells p f) ≡ true → Arrives 0 p f R l (ran Limit f) []
+    at-limit : (p : ℕ) (f : List ℕ) (R : List Event) (l : List ℕ) → p < n → isExecuted (dueAt S cells p f) ≡ true → Arrives 0 p f R l (stoppedWith Limit f) []
     unfolding after Stands
     at-limit p f R l i d = record { steps = 0; within = omega arith; all = λ q. refl; stands = (p, i, refl, d); notes = refl }
 
-    -- "in every world, step by step"
+    -- whatever the limit, and so step by step
     pub arrives : (k : ℕ) → ArrivesAll k
     unfolding runFrom notesFrom halted taken notedBy isExecuted IsEnd
     arrives zero p f R l le long = go (ltb p n) refl
@@ -241,9 +241,9 @@ module _ (F : Function) (A : Runnable F) (W : World) where
         by : p < n → (d : Due) → dueAt S cells p f ≡ d → Arrives 0 p f R l (halted p f d) []
         by i (goes q g) d = at-limit p f R l i (rw d refl)
         by i (stops s) d = at-limit p f R l i (rw d refl)
-        by i other d = at-other 0 p f R l i d
+        by i notExecuted d = at-other 0 p f R l i d
 
-        go : (t : Bool) → ltb p n ≡ t → Arrives 0 p f R l (cond t (halted p f (dueAt S cells p f)) (ran Ended f)) []
+        go : (t : Bool) → ltb p n ≡ t → Arrives 0 p f R l (cond t (halted p f (dueAt S cells p f)) (stoppedWith Ended f)) []
         go true q = by (ltb-true p n q) (dueAt S cells p f) refl
         go false q = at-end 0 p f R l le q
     arrives (suc k) p f R l le long = go (arrives k) (ltb p n) refl
@@ -264,8 +264,8 @@ module _ (F : Function) (A : Runnable F) (W : World) where
             let there = stops-there p f R s i long d in
             let a = first-step _ _ (note-at p f R l i) in
             record { steps = 1; within = omega arith; all = λ e. absurd (rw e at (there .1)); stands = rw a (there .0); notes = rw a }
-        by ih i other d = at-other (suc k) p f R l i d
+        by ih i notExecuted d = at-other (suc k) p f R l i d
 
-        go : ArrivesAll k → (t : Bool) → ltb p n ≡ t → Arrives (suc k) p f R l (cond t (taken p f (runFrom S cells k) (dueAt S cells p f)) (ran Ended f)) (cond t (notedBy p (dueAt S cells p f) (notesFrom k)) [])
+        go : ArrivesAll k → (t : Bool) → ltb p n ≡ t → Arrives (suc k) p f R l (cond t (taken p f (runFrom S cells k) (dueAt S cells p f)) (stoppedWith Ended f)) (cond t (notedBy p (dueAt S cells p f) (notesFrom k)) [])
         go ih true q = by ih (ltb-true p n q) (dueAt S cells p f) refl
         go ih false q = at-end (suc k) p f R l le q

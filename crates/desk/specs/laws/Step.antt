@@ -35,7 +35,7 @@ use Rattle.run.specs.Program.{Function, nodeBy, actBy, event, constantWord, una
 use Rattle.run.specs.laws.Gives.{given-by-class}
 use Rattle.run.specs.laws.Justified.{doAt, Meant, meant, gave, jumps, do-single, do-quiet, Quiet, hint, jump, jumpIf, jumpIfNot, single-slot, oneSlot, one-slot}
 use Rattle.desk.specs.declared.Stop.the-variants.{Returned, Panicked, Ended, Other, Limit, Refused}
-use Rattle.desk.specs.Desk.{Due, goes, stops, other, loads, dueBy}
+use Rattle.desk.specs.Desk.{Due, goes, stops, notExecuted, loads, dueBy}
 
 -- the words of a frame
 abbrev pub wordsIn : List ℕ → Words
@@ -118,7 +118,7 @@ module _ (F : Function) (W : World) (p : ℕ) (f : List ℕ) (R : List Event) (x
   Follows (stops (Other q)) = Unit {0}
   Follows (stops Limit) = Unit {0}
   Follows (stops (Refused k q)) = Unit {0}
-  Follows other = Unit {0}
+  Follows notExecuted = Unit {0}
 
   module _ (m : Meant F W p σ R x) (long : length f ≡ S .locals) where
     -- a single store
@@ -163,7 +163,7 @@ module _ (F : Function) (W : World) (p : ℕ) (f : List ℕ) (R : List Event) (x
         room : (a c : ℕ) → rangeWithin (S .locals) (record { start = a; count = c }) ≡ true → 0 < c → a + c ≤ length f
         room a c e h = let l = within-slot (S .locals) (a + c - 1) (record { start = a; count = c }) e (omega arith) (omega arith) in omega (arith, long)
 
-    folded : (t : Bool) (k : Class) (w : ℕ) → class i ≡ k → isSingle k ≡ true → (t ≡ true → gave F W p σ R k x ≡ w) → Follows (cond t (goes (suc p) (set f (i .a) w)) other)
+    folded : (t : Bool) (k : Class) (w : ℕ) → class i ≡ k → isSingle k ≡ true → (t ≡ true → gave F W p σ R k x ≡ w) → Follows (cond t (goes (suc p) (set f (i .a) w)) notExecuted)
     unfolding Follows
     folded true k w e s g = single k w e s (g refl)
     folded false k w e s g = tt

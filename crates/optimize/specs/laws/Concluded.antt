@@ -4,12 +4,12 @@ use mathlib.Core.Path.{_≡_, refl, sym, ap, _∙_}
 use mathlib.Core.Logic.{inl, inr}
 use mathlib.Core.Bool.{Bool, true, false, _&&_}
 use mathlib.Core.List.{List, [], _∷_}
-use Prim.Native.Nat.{ℕ, zero, suc, _+_, _^_, _≤_, _<_}
+use Prim.Native.Nat.{ℕ, suc, _+_, _^_, _≤_, _<_}
 use native.Mathlib.Decide.{decLe}
 use native.Mathlib.Nat.{zero-add}
 use native.Mathlib.Omega.{arith}
 use lib.Dec.{eqb}
-use lib.ListN.{length, getD, take, List·getD-eq-default}
+use lib.ListN.{length, getD, List·getD-eq-default}
 use borrow.Author.Tests.{eq-eqb, ne-eqb, eqb-true, eqb-false}
 use Rattle.words.specs.Bytes.{Bytes}
 use Rattle.words.specs.Lists.{mapFrom, sum}
@@ -33,12 +33,6 @@ use Rattle.optimize.specs.PassAnswer.{answerOf}
 
 abbrev pub Words : List ℕ → Type 0
 Words l = (i : ℕ) → getD l i 0 < 2 ^ 64
-
-pub words-front : (k : ℕ) (l : List ℕ) → Words l → Words (take k l)
-words-front zero l w i = omega arith
-words-front (suc k) [] w i = omega arith
-words-front (suc k) (x ∷ xs) w zero = w 0
-words-front (suc k) (x ∷ xs) w (suc i) = words-front k xs (λ i. w (suc i)) i
 
 -- ---- the same code
 

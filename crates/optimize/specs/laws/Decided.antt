@@ -11,6 +11,7 @@ use lib.Dec.{eqb}
 use lib.ListN.{length, getD}
 use borrow.Rule.Slice.PartMut.{midOf, putMid}
 use Rattle.words.specs.Bytes.{Bytes}
+use Rattle.words.specs.laws.Bytes.{take-below}
 use Rattle.words.specs.laws.Only.{mid-mid, back-within}
 use Rattle.words.specs.laws.Regions.{mid-long, put-long, get-mid, Outside, outside-front}
 use Rattle.unit.specs.laws.Region.{keepAt, listIn, listAt}
@@ -35,7 +36,7 @@ use Rattle.optimize.specs.declared.Answer.{Answer}
 use Rattle.optimize.specs.declared.Answer.the-variants.{Unchanged, Refused, Rewritten}
 use Rattle.optimize.specs.PassAnswer.{answerOf, Answers}
 use Rattle.optimize.specs.laws.Given.{wordsIn, sameWords, cellsIn, answers-unchanged, answers-refused}
-use Rattle.optimize.specs.laws.Concluded.{Words, words-front, Known, conclude-unchanged, conclude-refused, conclude-rewritten}
+use Rattle.optimize.specs.laws.Concluded.{Words, Known, conclude-unchanged, conclude-refused, conclude-rewritten}
 use Rattle.optimize.specs.laws.Outcomes.{outcome-unchanged, outcome-refused, outcome-rewritten}
 
 -- the retained places are known
@@ -127,7 +128,7 @@ module _ {n : ℕ} {metadata work32 work64 : List ℕ} (d : Finished n metadata 
 
     module _ (code : List ℕ) (b : Bytes code) (words : Words work64) (retained : ℕ) (g : retained ≡ getD work32 (keepAt n + n + n) 0) where
       known : Known code (midOf 0 n work64) (midOf (keepAt n) n work32) (midOf (keepAt n + n) (n + 1) work32)
-      known = record { bytes = b; fits = words-front n work64 words; mapped = d .mapped; long = keep-size ∙ sym code-size }
+      known = record { bytes = b; fits = take-below (2 ^ 64) (omega arith) n work64 words; mapped = d .mapped; long = keep-size ∙ sym code-size }
 
       count : getD (midOf (keepAt n + n) (n + 1) work32) (length (midOf 0 n work64)) 0 ≡ retained
       count = ap (λ (i : ℕ). getD (midOf (keepAt n + n) (n + 1) work32) i 0) code-size ∙ sym last ∙ sym g

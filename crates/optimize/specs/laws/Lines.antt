@@ -11,7 +11,6 @@ use lib.Seq.{take-at, drop-drop, drop-append-add}
 use borrow.Author.Tests.{leb-true}
 use borrow.Rule.Slice.PartMut.{putMid}
 use Rattle.words.specs.Bytes.{Bytes}
-use Rattle.words.specs.laws.Bytes.{le-fits}
 use Rattle.words.specs.laws.Truth.{left-true}
 use Rattle.unit.specs.declared.Line.{Line}
 use Rattle.unit.specs.Entry.{linesIn}
@@ -26,7 +25,7 @@ use Rattle.lines.specs.laws.Rising.{unit-lines}
 use Rattle.answer.specs.Pass.{Outcome, unchanged, refused, rewritten, outputAfter, linesAfter}
 use Rattle.answer.specs.Answer.{Lent, lentOf, roomFor, passAnswer}
 use Rattle.answer.specs.Clean.{spareFor, cleanAnswer}
-use Rattle.run.specs.Given.{Worked, Returnable, cells-long, answer-worked, answer-returnable, clean-kept}
+use Rattle.run.specs.Given.{lines-fit, Worked, Returnable, cells-long, answer-worked, answer-returnable, clean-kept}
 use Rattle.run.specs.Returned.{givenFunction}
 use Rattle.run.specs.laws.MovedLines.{places-long, place-of}
 use Rattle.optimize.specs.declared.Answer.{Answer}
@@ -58,10 +57,6 @@ pub record Movable (u : List ℕ) (kept : List Retained) : Type 0 where
 
 abbrev pub Moves : List ℕ → Outcome → Type 0
 Moves u o = (kept : List Retained) → o ≡ rewritten kept → Movable u kept
-
-pub lines-fit : (u : List ℕ) → Bytes u → headerOf u .counts .lines < 2 ^ 32
-unfolding headerOf
-lines-fit u b = le-fits 4 u 64 b
 
 -- what was returned may have lines
 module _ (u : List ℕ) (b : Bytes u) {room : _} (kept : List Retained) (w : Worked u room) (r : Returnable (givenFunction u) (headerOf u .counts .cases) kept) where

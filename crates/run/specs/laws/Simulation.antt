@@ -21,14 +21,14 @@ module _ {R W : Type 0} where
     pub move : (x : S .State) (y : S′ .State) → rel x y → S .way x ≡ none
         → ((S′ .way y ≡ none) × Both x y × rel (S .next x) (S′ .next y)) ⊎ (Alone x × rel (S .next x) y × (size (S .next x) < size x))
 
+  -- an ended state is the same for ever
+  pub after-stays : (T : System R W) (k : ℕ) (x : T .State) (w : W) → T .way x ≡ some w → after T k x ≡ x
+  unfolding after
+  after-stays T zero x w e = refl
+  after-stays T (suc k) x w e = ap (after T k) (T .stays x w e) ∙ after-stays T k x w e
+
   module _ {S S′ : System R W} {Both : S .State → S′ .State → Type 0} {Alone : S .State → Type 0} (M : Sim S S′ Both Alone) where
     open Sim M using (rel, size, log=, end=, move)
-
-    -- an ended state is the same for ever
-    after-stays : (T : System R W) (k : ℕ) (x : T .State) (w : W) → T .way x ≡ some w → after T k x ≡ x
-    unfolding after
-    after-stays T zero x w e = refl
-    after-stays T (suc k) x w e = ap (after T k) (T .stays x w e) ∙ after-stays T k x w e
 
     -- forward: k steps of the given run are at most k of the returned one
     abbrev Ahead : ℕ → S .State → S′ .State → Type 0

@@ -5,16 +5,20 @@ use mathlib.Core.List.{List, [], _∷_}
 use Prim.Native.Nat.{ℕ, zero, suc, _+_, _*_, _^_, _<_}
 use native.Mathlib.Nat.{mul-comm, pow-suc}
 use native.Mathlib.Omega.{arith}
-use lib.ListN.{take, drop}
+use lib.ListN.{getD, take, drop}
 use lib.Seq.{getD-drop}
 use Rattle.words.specs.Le.{fromLe, leAt}
 use Rattle.words.specs.Bytes.{Bytes}
 
+-- a front part of numbers below m
+pub take-below : (m : ℕ) → 0 < m → (k : ℕ) (l : List ℕ) → ((i : ℕ) → getD l i 0 < m) → (i : ℕ) → getD (take k l) i 0 < m
+take-below m h zero l b i = h
+take-below m h (suc k) [] b i = h
+take-below m h (suc k) (x ∷ xs) b zero = b 0
+take-below m h (suc k) (x ∷ xs) b (suc i) = take-below m h k xs (λ i. b (suc i)) i
+
 bytes-take : (k : ℕ) (l : List ℕ) → Bytes l → Bytes (take k l)
-bytes-take zero l b i = omega arith
-bytes-take (suc k) [] b i = omega arith
-bytes-take (suc k) (x ∷ xs) b zero = b 0
-bytes-take (suc k) (x ∷ xs) b (suc i) = bytes-take k xs (λ i. b (suc i)) i
+bytes-take = take-below 256 (omega arith)
 
 bytes-drop : (a : ℕ) (l : List ℕ) → Bytes l → Bytes (drop a l)
 bytes-drop a l b i = rw (getD-drop a l i 0) (b (a + i))
