@@ -44,6 +44,10 @@ lostLoop = 10
 abbrev pub linePlaces : ℕ
 linePlaces = 11
 
+-- document 02, L6: "frame not s words"
+abbrev pub frameLength : ℕ
+frameLength = 12
+
 -- document 02, L9: "a SelectExecLayout of more than 24"
 abbrev pub tooManyCases : ℕ
 tooManyCases = 13

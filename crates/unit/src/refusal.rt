@@ -21,4 +21,6 @@ pub const LOST_LOOP: u32 = 10;
 
 pub const LINE_PLACES: u32 = 11;
 
+pub const FRAME_LENGTH: u32 = 12;
+
 pub const TOO_MANY_CASES: u32 = 13;

@@ -110,7 +110,7 @@ pub fn fits_imm32(v: u64) -> bool
 }
 
 // NegI, Not, BoolNot, Trunc.
-fn folds_unary(op: u8) -> bool
+pub fn folds_unary(op: u8) -> bool
     ensures { λ r. ⌜ r ≡ isIn op foldingUnary ⌝ }
 {
     if op == opcode::NEG_I {
@@ -126,7 +126,7 @@ fn folds_unary(op: u8) -> bool
 }
 
 // AddI to MulI, EqI to GeU, And to AndNot.
-fn folds_binary(op: u8) -> bool
+pub fn folds_binary(op: u8) -> bool
     ensures { λ r. ⌜ r ≡ isIn op foldingBinary ⌝ }
 {
     if op < 22 {
