@@ -156,6 +156,66 @@ typedef struct {
 lampruda_made lampruda_short_unit(uint32_t number, uint8_t *out, size_t out_length);
 lampruda_found lampruda_short_number(const uint8_t *unit, size_t unit_length);
 
+/* What `kind` says of how a run at the desk stops. */
+enum {
+    LAMPRUDA_RUN_RETURNED = 0, /* by Return; first is the first slot that it read, second how many, 0 for none */
+    LAMPRUDA_RUN_REFUSED = 1,  /* first says why, second where */
+    LAMPRUDA_RUN_PANICKED = 2, /* by Panic; first is the first slot that it read, second is 2 */
+    LAMPRUDA_RUN_ENDED = 3,    /* at the end of the code; first and second are 0 */
+    LAMPRUDA_RUN_OTHER = 4,    /* before another instruction; first is its place, second is 0 */
+    LAMPRUDA_RUN_LIMIT = 5,    /* at the limit; first and second are 0 */
+    LAMPRUDA_RUN_GOES = 6      /* of one step alone: the run goes on; first is the place that is due, second is 0 */
+};
+
+/* How a run at the desk stops. */
+typedef struct {
+    uint32_t kind, first, second;
+} lampruda_stop;
+
+/*
+ * Running a function at the desk, without a solver: from the first instruction on, over a frame of s words, one for
+ * each local slot, for at most `limit` steps. It executes LoadInt, LoadConst of an integer, a float, a bool or nil,
+ * Copy, CopyN, AddI, SubI, MulI, NegI, the ten comparisons of integers, And, Or, Xor, AndNot, Not, BoolNot, Trunc,
+ * Hint, the three jumps, Return and Panic, and stops before any other instruction. Return and Panic are steps; the end
+ * of the code and another instruction are not, and come before the limit. The frame is left with the words that the
+ * slots hold then.
+ *
+ * Short, long and defer functions run too. Refused are, in this order, 1, 11, 13, 3, 4, 5 to 7, 8 and
+ *
+ *   12  place 0      the frame has not s words
+ *
+ * in every instruction, reached or not; a branch to n, behind the last instruction, ends the run and is not refused.
+ * A refusal leaves the frame as it was.
+ *
+ * Where a function ends within a limit (by Return, by Panic or at the end of its code), what one pass or the cleaning
+ * makes of it, laid out as a unit again, ends so from the same frame within the same limit, with as many words read
+ * and the same ones; the first slot and the frame may be others.
+ */
+lampruda_stop lampruda_run(const uint8_t *unit, size_t unit_length, uint64_t *frame, size_t frame_length,
+                           uint32_t limit);
+
+/*
+ * One step of such a run, from any place: kind 6 with the place that is due next, or how the run stops there. A place
+ * behind the last instruction is the end of the code.
+ */
+lampruda_stop lampruda_step(const uint8_t *unit, size_t unit_length, uint64_t *frame, size_t frame_length,
+                            uint32_t place);
+
+/* What `kind` says of a result that is laid out. */
+enum {
+    LAMPRUDA_LAID_UNIT = 0,    /* the unit stands at the buffer's front; number is its length in bytes, place is 0 */
+    LAMPRUDA_LAID_REFUSED = 1, /* number is 1, 11 or 13 for the unit, 2 for a buffer too short; place says where */
+    LAMPRUDA_LAID_NONE = 2     /* the bytes do not begin with a result of this unit; number and place are 0 */
+};
+
+/*
+ * A result as a unit again: the code, metadata and lines of a result of one pass or of the cleaning, with the given
+ * unit's other sections. The result stands at the front of its buffer. A buffer of the given unit's length is long
+ * enough; its rest stays, and all of it where nothing is laid out.
+ */
+lampruda_made lampruda_lay_out(const uint8_t *unit, size_t unit_length, const uint8_t *result, size_t result_length,
+                               uint8_t *out, size_t out_length);
+
 /* Word i of a unit's header. */
 static inline uint32_t lampruda_word(const uint8_t *unit, size_t i)
 {

@@ -66,6 +66,26 @@ pub struct Found {
 pub const SHORT_NUMBER: u32 = 0;
 pub const SHORT_NONE: u32 = 1;
 
+/// `lampruda_stop`
+#[repr(C)]
+#[derive(Clone, Copy, Debug, Eq, PartialEq)]
+pub struct Stop {
+    pub kind: u32,
+    pub first: u32,
+    pub second: u32,
+}
+
+pub const RETURNED: u32 = 0;
+pub const PANICKED: u32 = 2;
+pub const ENDED: u32 = 3;
+pub const OTHER: u32 = 4;
+pub const LIMIT: u32 = 5;
+pub const GOES: u32 = 6;
+
+pub const LAID_UNIT: u32 = 0;
+pub const LAID_REFUSED: u32 = 1;
+pub const LAID_NONE: u32 = 2;
+
 extern "C" {
     pub fn lampruda_pass(
         unit: *const u8,
@@ -98,4 +118,29 @@ extern "C" {
     pub fn lampruda_short_unit(number: u32, out: *mut u8, out_length: usize) -> Made;
 
     pub fn lampruda_short_number(unit: *const u8, unit_length: usize) -> Found;
+
+    pub fn lampruda_run(
+        unit: *const u8,
+        unit_length: usize,
+        frame: *mut u64,
+        frame_length: usize,
+        limit: u32,
+    ) -> Stop;
+
+    pub fn lampruda_step(
+        unit: *const u8,
+        unit_length: usize,
+        frame: *mut u64,
+        frame_length: usize,
+        place: u32,
+    ) -> Stop;
+
+    pub fn lampruda_lay_out(
+        unit: *const u8,
+        unit_length: usize,
+        result: *const u8,
+        result_length: usize,
+        out: *mut u8,
+        out_length: usize,
+    ) -> Made;
 }

@@ -15,11 +15,12 @@ pub enum Refusal {
     LoopHint = 9,
     LoopMoved = 10,
     LinePlaces = 11,
+    Frame = 12,
     SelectCases = 13,
 }
 
 impl Refusal {
-    pub const ALL: [Self; 12] = [
+    pub const ALL: [Self; 13] = [
         Self::NoUnit,
         Self::ShortBuffer,
         Self::MetadataCount,
@@ -31,6 +32,7 @@ impl Refusal {
         Self::LoopHint,
         Self::LoopMoved,
         Self::LinePlaces,
+        Self::Frame,
         Self::SelectCases,
     ];
 
@@ -55,6 +57,7 @@ impl Refusal {
             Self::LoopHint => "the loop has no end inside the function",
             Self::LoopMoved => "the loop's end was removed, or its exit lies past the function's end",
             Self::LinePlaces => "the places of the lines do not rise, or one lies past the function's end",
+            Self::Frame => "the frame has not one word for each local slot",
             Self::SelectCases => "a select has more than 24 cases",
         }
     }
@@ -63,7 +66,12 @@ impl Refusal {
     pub fn has_place(self) -> bool {
         !matches!(
             self,
-            Self::NoUnit | Self::ShortBuffer | Self::MetadataCount | Self::TypeCount | Self::LinePlaces
+            Self::NoUnit
+                | Self::ShortBuffer
+                | Self::MetadataCount
+                | Self::TypeCount
+                | Self::LinePlaces
+                | Self::Frame
         )
     }
 }
