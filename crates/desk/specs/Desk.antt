@@ -50,22 +50,22 @@ loads p f a constant.Missing = notExecuted
 
 -- "It executes LoadInt, LoadConst of kinds 0 to 3, Copy, CopyN, the 21 opcodes that fold, Hint, the three jumps, Return and Panic." CopyN reads all
 -- before it writes; Return reads b slots from a on, Panic two.
-unfoldable pub dueBy : Sections → Class → ℕ → Instruction → List ℕ → Due
-dueBy S class.Hint p i f = goes (suc p) f
-dueBy S class.LoadInt p i f = stores p f (i .a) (imm32 i)
-dueBy S class.LoadConst p i f = loads p f (i .a) (constantAt (S .constants) (i .b))
-dueBy S class.Copy p i f = stores p f (i .a) (getD f (i .b) 0)
-dueBy S class.CopyN p i f = goes (suc p) (putMid (i .a) (i .c) f (midOf (i .b) (i .c) f))
-dueBy S class.Unary p i f = cond (isIn (i .op) foldingUnary) (stores p f (i .a) (foldWord (i .op) (i .flags) (getD f (i .b) 0) 0)) notExecuted
-dueBy S class.Binary p i f = cond (isIn (i .op) foldingBinary) (stores p f (i .a) (foldWord (i .op) (i .flags) (getD f (i .b) 0) (getD f (i .c) 0))) notExecuted
-dueBy S class.Jump p i f = goes (targetBy class.Jump p i) f
-dueBy S class.JumpIf p i f = goes (cond (not (eqb (getD f (i .a) 0) 0)) (targetBy class.JumpIf p i) (suc p)) f
-dueBy S class.JumpIfNot p i f = goes (cond (eqb (getD f (i .a) 0) 0) (targetBy class.JumpIfNot p i) (suc p)) f
-dueBy S class.ForLoop p i f = notExecuted
-dueBy S class.Return p i f = stops (Returned (i .a) (i .b))
-dueBy S class.Panic p i f = stops (Panicked (i .a) 2)
-dueBy S class.Outside p i f = notExecuted
-dueBy S class.Invalid p i f = notExecuted
+unfoldable pub dueBy : List ℕ → Class → ℕ → Instruction → List ℕ → Due
+dueBy constants class.Hint p i f = goes (suc p) f
+dueBy constants class.LoadInt p i f = stores p f (i .a) (imm32 i)
+dueBy constants class.LoadConst p i f = loads p f (i .a) (constantAt constants (i .b))
+dueBy constants class.Copy p i f = stores p f (i .a) (getD f (i .b) 0)
+dueBy constants class.CopyN p i f = goes (suc p) (putMid (i .a) (i .c) f (midOf (i .b) (i .c) f))
+dueBy constants class.Unary p i f = cond (isIn (i .op) foldingUnary) (stores p f (i .a) (foldWord (i .op) (i .flags) (getD f (i .b) 0) 0)) notExecuted
+dueBy constants class.Binary p i f = cond (isIn (i .op) foldingBinary) (stores p f (i .a) (foldWord (i .op) (i .flags) (getD f (i .b) 0) (getD f (i .c) 0))) notExecuted
+dueBy constants class.Jump p i f = goes (targetBy class.Jump p i) f
+dueBy constants class.JumpIf p i f = goes (cond (not (eqb (getD f (i .a) 0) 0)) (targetBy class.JumpIf p i) (suc p)) f
+dueBy constants class.JumpIfNot p i f = goes (cond (eqb (getD f (i .a) 0) 0) (targetBy class.JumpIfNot p i) (suc p)) f
+dueBy constants class.ForLoop p i f = notExecuted
+dueBy constants class.Return p i f = stops (Returned (i .a) (i .b))
+dueBy constants class.Panic p i f = stops (Panicked (i .a) 2)
+dueBy constants class.Outside p i f = notExecuted
+dueBy constants class.Invalid p i f = notExecuted
 
 -- with no step left: "neither the end of the code nor another instruction is due"
 unfoldable pub halted : ℕ → List ℕ → Due → Stopped
@@ -81,7 +81,7 @@ taken p f later notExecuted = stoppedWith (Other p) f
 
 module _ (S : Sections) (cells : List Cell) where
   abbrev pub dueAt : ℕ → List ℕ → Due
-  dueAt p f = dueBy S (instruction.class (cellAt cells p .instruction)) p (cellAt cells p .instruction) f
+  dueAt p f = dueBy (S .constants) (instruction.class (cellAt cells p .instruction)) p (cellAt cells p .instruction) f
 
   -- The run from place p with frame f and at most k steps. "Return and Panic are steps; the end of the code and another instruction are not."
   unfoldable pub runFrom : ℕ → ℕ → List ℕ → Stopped

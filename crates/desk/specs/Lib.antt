@@ -1,3 +1,4 @@
 pub mod Desk
+pub mod Answer
 pub mod Likewise
 pub mod laws

@@ -31,7 +31,7 @@ use Rattle.answer.specs.Answer.{Lent, cellsOf, sectionsOf, roomFor, answerWith,
 use Rattle.answer.specs.Clean.{cellsAfter, cleanedFirst, spareFor, cleanAnswer}
 use Rattle.answer.specs.Pass.{Outcome, unchanged, refused, rewritten}
 use Rattle.run.specs.System.{System, after}
-use Rattle.run.specs.Machine.{Words, Event, Way, byReturn, byPanic, byReply, byCode, World, finish, Program, State, at, over, step, step-stays, wayOf, logOf, start}
+use Rattle.run.specs.Machine.{Words, Event, Way, byReturn, byPanic, byReply, byCode, World, Program, State, at, over, step, step-stays, wayOf, logOf, start}
 use Rattle.run.specs.Program.{Function, programOf}
 use Rattle.run.specs.Given.{cells-long, answer-optimized, worked-well, answer-returnable, clean-kept}
 use Rattle.run.specs.Returned.{givenFunction, resultFunction}
@@ -45,7 +45,7 @@ use Rattle.desk.specs.declared.Stop.{Stop}
 use Rattle.desk.specs.declared.Stop.the-variants.{Returned, Panicked, Ended, Other, Limit, Refused}
 use Rattle.desk.specs.Desk.{Stopped, stoppedWith, Due, goes, stops, notExecuted, loads, dueBy, halted, taken, dueAt, runFrom}
 use Rattle.desk.specs.laws.Step.{wordsIn}
-use Rattle.desk.specs.laws.Stands.{readWords, isExecuted, IsEnd, Stands, stops-there, goes-there, notesFrom, stand, Arrives, arrives}
+use Rattle.desk.specs.laws.Stands.{readWords, mute, isExecuted, IsEnd, Stands, stops-there, goes-there, notesFrom, stand, Arrives, arrives}
 
 -- how a run that ends must end, of one that ended so with a frame
 unfoldable pub Likewise : Stop → List ℕ → Stopped → Type 0
@@ -73,7 +73,7 @@ same-cond true p q f g = refl
 same-cond false p q f g = refl
 
 same-executed : (S : Sections) (k : Class) (p q : ℕ) (i j : Instruction) (f g : List ℕ) → i .op ≡ j .op → (k ≡ LoadConst → i .b ≡ j .b)
-    → isExecuted (dueBy S k p i f) ≡ isExecuted (dueBy S k q j g)
+    → isExecuted (dueBy (S .constants) k p i f) ≡ isExecuted (dueBy (S .constants) k q j g)
 unfolding dueBy isExecuted
 same-executed S Hint p q i j f g o c = refl
 same-executed S LoadInt p q i j f g o c = refl
@@ -92,9 +92,9 @@ same-executed S Outside p q i j f g o c = refl
 same-executed S Invalid p q i j f g o c = refl
 
 abbrev Executed : Sections → Instruction → Type 0
-Executed S i = isExecuted (dueBy S (class i) 0 i []) ≡ true
+Executed S i = isExecuted (dueBy (S .constants) (class i) 0 i []) ≡ true
 
-executed-at : (S : Sections) (p : ℕ) (i : Instruction) (f : List ℕ) (t : Bool) → isExecuted (dueBy S (class i) p i f) ≡ t → isExecuted (dueBy S (class i) 0 i []) ≡ t
+executed-at : (S : Sections) (p : ℕ) (i : Instruction) (f : List ℕ) (t : Bool) → isExecuted (dueBy (S .constants) (class i) p i f) ≡ t → isExecuted (dueBy (S .constants) (class i) 0 i []) ≡ t
 executed-at S p i f t e = same-executed S (class i) 0 p i i [] f refl (λ c. refl) ∙ e
 
 -- what stands for an executed instruction is executed
@@ -257,10 +257,6 @@ after-visited W P h (suc j) y q σ R i e = later (after-visited W P h j _ q σ R
 module _ (F : Function) (kept : List Retained) (A : Runnable F) (A′ : Runnable (resultFunction (F .sections) kept)) (same : SamePlaces F kept) where
   abbrev F′ : Function
   F′ = resultFunction (F .sections) kept
-
-  -- a world that answers nothing: the desk asks it nothing
-  mute : World
-  mute = record { reply = λ R. finish; free = λ o f x y. 0; lost = λ k. 0 }
 
   abbrev quiet : ℕ → List ℕ
   quiet q = []

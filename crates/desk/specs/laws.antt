@@ -1,2 +1,5 @@
 pub mod Step
 pub mod Stands
+pub mod Copying
+pub mod Execution
+pub mod Advance

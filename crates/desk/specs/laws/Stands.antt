@@ -20,7 +20,7 @@ use Rattle.effects.specs.laws.ByClass.{isOutside, readsByClass, reads-by-class}
 use Rattle.flow.specs.Branch.{branches, targetBy}
 use Rattle.values.specs.Fold.{foldingUnary, foldingBinary}
 use Rattle.run.specs.System.{System, after}
-use Rattle.run.specs.Machine.{Words, Event, Way, byReturn, byPanic, World, Program, State, at, over, step, wayOf}
+use Rattle.run.specs.Machine.{Words, Event, Way, byReturn, byPanic, World, Program, State, at, over, step, wayOf, finish}
 use Rattle.run.specs.Program.{Function, programOf, event, slotsOf, slotsFrom}
 use Rattle.run.specs.Visits.{Noted, noted, visit, visiting}
 use Rattle.run.specs.laws.RelocatedRun.{pick}
@@ -34,6 +34,10 @@ use Rattle.desk.specs.laws.Step.{wordsIn, Follows, follows}
 -- the words of a range of slots
 abbrev pub readWords : ℕ → ℕ → List ℕ → List ℕ
 readWords a b f = map (wordsIn f) (slotsFrom a b)
+
+-- a world that answers nothing: the desk asks it nothing
+abbrev pub mute : World
+mute = record { reply = λ R. finish; free = λ o f x y. 0; lost = λ k. 0 }
 
 unfoldable pub isExecuted : Due → Bool
 isExecuted (goes q g) = true
@@ -98,7 +102,7 @@ module _ (F : Function) (A : Runnable F) (W : World) where
   inside-branch : (p : ℕ) → p < n → (k : Class) → class (x p .instruction) ≡ k → branches k ≡ true → targetBy k p (x p .instruction) ≤ n
   inside-branch p h k e b = let f : branches (class (x p .instruction)) ≡ true = rw e b in rw e at (A .targets p h f)
 
-  inside : (k : Class) (p : ℕ) (f : List ℕ) → p < n → class (x p .instruction) ≡ k → Inside (dueBy S k p (x p .instruction) f)
+  inside : (k : Class) (p : ℕ) (f : List ℕ) → p < n → class (x p .instruction) ≡ k → Inside (dueBy (S .constants) k p (x p .instruction) f)
   unfolding Inside dueBy branches
   inside Hint p f h e = h
   inside LoadInt p f h e = h
@@ -140,7 +144,7 @@ module _ (F : Function) (A : Runnable F) (W : World) where
   unfolding event
   reads-words p σ k a c e o = rw (reads-by-class (S .tables) (x p) (rw e o), e)
 
-  stopping : (k : Class) (p : ℕ) (f : List ℕ) (R : List Event) → p < n → length f ≡ S .locals → class (x p .instruction) ≡ k → Stopping p f R (dueBy S k p (x p .instruction) f)
+  stopping : (k : Class) (p : ℕ) (f : List ℕ) (R : List Event) → p < n → length f ≡ S .locals → class (x p .instruction) ≡ k → Stopping p f R (dueBy (S .constants) k p (x p .instruction) f)
   unfolding Stopping dueBy Stands IsEnd Follows event slotsOf readsByClass isOutside
   stopping Hint p f R h l e = tt
   stopping LoadInt p f R h l e = tt

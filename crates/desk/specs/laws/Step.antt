@@ -176,7 +176,7 @@ module _ (F : Function) (W : World) (p : ℕ) (f : List ℕ) (R : List Event) (x
     unfolding doAt actBy perform
     returns e = rw (meant F W p σ R x m, e)
 
-    pub follows : (k : Class) → class i ≡ k → Follows (dueBy S k p i f)
+    pub follows : (k : Class) → class i ≡ k → Follows (dueBy (S .constants) k p i f)
     unfolding dueBy gave numberOf jumps unaryWord binaryWord Follows
     follows Hint e = quiet Hint (suc p) e hint refl
     follows LoadInt e = single LoadInt (imm32 i) e refl refl
