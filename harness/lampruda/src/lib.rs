@@ -16,6 +16,8 @@
 //! # }
 //! ```
 
+mod again;
+mod desk;
 mod fate;
 mod flow;
 mod lengths;
@@ -25,6 +27,8 @@ mod passes;
 mod short;
 pub mod sys;
 
+pub use again::as_unit;
+pub use desk::{run, step, Next, Stop};
 pub use fate::{fates, Fate};
 pub use lengths::needed;
 pub use lent::Lent;

@@ -1,0 +1,34 @@
+//! A result as a unit again.
+
+use crate::sys;
+
+/// The code, metadata and lines of a result of one pass or of the cleaning, with the given unit's other sections.
+/// `None` where the given bytes are refused, or the others do not begin with a result of them.
+///
+/// ```no_run
+/// # fn main() -> std::io::Result<()> {
+/// let unit = std::fs::read("law.unit")?;
+/// if let lampruda::Answer::Rewritten(result) = lampruda::Workspace::default().pass(&unit) {
+///     std::fs::write("shorter.unit", lampruda::as_unit(&unit, result).unwrap())?;
+/// }
+/// # Ok(())
+/// # }
+/// ```
+pub fn as_unit(unit: &[u8], result: &[u8]) -> Option<Vec<u8>> {
+    // It is no longer than the given unit.
+    let mut out = vec![0; unit.len()];
+    // SAFETY: the pointers and lengths are those of three slices that do not overlap. The library reads the first two,
+    // writes the third, and touches nothing else.
+    let laid = unsafe {
+        sys::lampruda_lay_out(
+            unit.as_ptr(),
+            unit.len(),
+            result.as_ptr(),
+            result.len(),
+            out.as_mut_ptr(),
+            out.len(),
+        )
+    };
+    out.truncate(laid.number as usize);
+    (laid.kind == sys::LAID_UNIT).then_some(out)
+}
