@@ -32,3 +32,33 @@ pub fn as_unit(unit: &[u8], result: &[u8]) -> Option<Vec<u8>> {
     out.truncate(laid.number as usize);
     (laid.kind == sys::LAID_UNIT).then_some(out)
 }
+
+#[cfg(test)]
+mod tests {
+    use super::as_unit;
+    use crate::{short_unit, Answer, Workspace, SHORT_COUNT};
+    use unit::{Rewritten, Unit};
+
+    /// Beside the one that was written apart from it.
+    #[test]
+    fn every_short_result() {
+        let mut workspace = Workspace::default();
+        for number in 0..SHORT_COUNT {
+            let unit = short_unit(number).unwrap();
+            if let Answer::Rewritten(result) = workspace.pass(&unit) {
+                let apart = Rewritten::decode(result).unwrap().as_unit(&Unit::check(&unit).unwrap());
+                assert_eq!(as_unit(&unit, result), Some(apart), "{number}");
+            }
+        }
+    }
+
+    #[test]
+    fn what_is_no_unit_or_no_result() {
+        let unit = short_unit(0).unwrap();
+        let result = Rewritten::default().encode();
+        assert!(as_unit(&unit, &result).is_some());
+        assert_eq!(as_unit(&unit[1..], &result), None);
+        assert_eq!(as_unit(&unit, &result[1..]), None);
+        assert_eq!(as_unit(&[], &[]), None);
+    }
+}

@@ -15,6 +15,8 @@
 //! # Ok(())
 //! # }
 //! ```
+//!
+//! A result is laid out as a unit again by [`as_unit`]; [`run`] and [`step`] run a unit at the desk.
 
 mod again;
 mod desk;

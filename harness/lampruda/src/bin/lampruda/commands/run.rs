@@ -18,31 +18,31 @@ use unit::{Parts, Unit};
 
 pub const COMMAND: Command = Command {
     name: "run",
-    summary: "a law at the desk: how it stops, and with which words; step by step",
+    summary: "runs a law at the desk: how it stops, with which words, its steps",
     help: &["Runs the function of a unit at the desk, without a solver, and says how it
 stopped: it returned, it panicked, it ran out at the end of the code, it came to
-an instruction that the desk does not execute, or it reached the limit. Executed
-are
+an instruction that the desk does not execute, or it reached the limit. It
+executes
 
-  LoadInt, LoadConst but for strings, Copy, CopyN, Hint, Jump, JumpIf, JumpIfNot,
-  AddI SubI MulI NegI And Or Xor AndNot Not BoolNot Trunc, Return, Panic,
-  EqI NeI LtI LtU LeI LeU GtI GtU GeI GeU
+  LoadInt, LoadConst but for strings, Copy, CopyN, Hint, Jump, JumpIf,
+  JumpIfNot, AddI SubI MulI NegI And Or Xor AndNot Not BoolNot Trunc,
+  EqI NeI LtI LtU LeI LeU GtI GtU GeI GeU, Return, Panic
 
-Behind the answer stand the words that were returned or that a panic took, in four
-readings; for the other ways to stop, those of the slots that the run altered.
+Below the answer stand the words that were returned or that the panic read, in
+four readings; for the other ways to stop, those of the slots that were altered.
 
 usage: lampruda run [--slot K=WORD ..] [--frame FILE] [--limit N] [--trace]
                     [--json] [UNIT]
 
   --slot K=WORD  the word of slot K at the start; slots not named hold 0
-  --frame FILE   the words of all slots at the start, 64 bits each, little-endian;
-                 those of --slot replace them
-  --limit N      how many steps are allowed, up to 4294967295; 1000000 by default
+  --frame FILE   the words of all slots at the start, each of 64 bits,
+                 little-endian; those of --slot replace them
+  --limit N      how many steps are allowed, up to 4294967295; else 1000000
   --trace        prints a line for each step: its number, its place, the line of
-                 the script, the instruction and the slots that it altered, old ->
-                 new, those of type Float as floats and all others signed
-  --json         prints the answer as JSON, words as texts; with --trace there is
-                 a line of JSON for each step, and the last line is the answer
+                 the script, the instruction and the slots that it altered, old
+                 -> new, those of type Float as floats and all others signed
+  --json         prints the answer as JSON, words as texts; with --trace a line
+                 of JSON for each step, and the answer as the last line
 
 A WORD is decimal or hexadecimal (0x), from -9223372036854775808 to
 18446744073709551615; one with a point is a float, and stands for its bits. Exit
