@@ -147,6 +147,8 @@ static unit clean(unit given)
         lampruda_made laid;
         shorter.bytes = buffer(given.length, 1);
         laid = lampruda_lay_out(given.bytes, given.length, out, out_length, shorter.bytes, given.length);
+        if (laid.kind != LAMPRUDA_LAID_UNIT)
+            exit(2);
         shorter.length = laid.number;
     }
     free(second);
@@ -159,13 +161,14 @@ static unit clean(unit given)
 
 int main(int count, char **words)
 {
-    uint64_t *frame = buffer(65535, sizeof *frame);
+    uint64_t *frame;
     unit given, shorter;
     if (count < 2) {
         fprintf(stderr, "usage: %s UNIT [WORD ..]\n", words[0]);
         return 2;
     }
     given = read_unit(words[1]);
+    frame = buffer(65535, sizeof *frame); /* for as many slots as there can be */
     printf("given\n");
     run(given, frame, count - 2, words + 2);
 

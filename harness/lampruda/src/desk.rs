@@ -90,3 +90,38 @@ fn next(stop: sys::Stop) -> Next {
         _ => unreachable!("the library returns kinds 0 to 6"),
     })
 }
+
+#[cfg(test)]
+mod tests {
+    use super::{run, Stop};
+    use crate::{as_unit, short_unit, Answer, Workspace, SHORT_COUNT};
+
+    /// Where a run ended: in which way, and the words that it read.
+    fn ended(unit: &[u8], limit: u32) -> Option<(&'static str, Vec<u64>)> {
+        let mut frame = [1, 0];
+        let (way, first, count) = match run(unit, &mut frame, limit) {
+            Stop::Returned { first, count } => ("returned", first, count),
+            Stop::Panicked { first, count } => ("panicked", first, count),
+            Stop::Ended => ("ended", 0, 0),
+            _ => return None,
+        };
+        Some((way, frame[first as usize..][..count as usize].to_vec()))
+    }
+
+    /// "Whenever a given function returns, panics or runs out at its end in k steps, the rewritten one, from the same
+    /// frame, ends likewise, with the same words read, in at most k."
+    #[test]
+    fn rewritten_functions_end_likewise() {
+        let mut workspace = Workspace::default();
+        for number in 0..SHORT_COUNT {
+            let unit = short_unit(number).unwrap();
+            let Answer::Rewritten(result) = workspace.pass(&unit) else { continue };
+            let rewritten = as_unit(&unit, result).unwrap();
+            for limit in 0..7 {
+                if let Some(end) = ended(&unit, limit) {
+                    assert_eq!(ended(&rewritten, limit), Some(end), "{number} within {limit}");
+                }
+            }
+        }
+    }
+}

@@ -123,10 +123,6 @@ impl<'p> Trace<'p> {
 }
 
 impl Step<'_> {
-    pub fn is_first(&self) -> bool {
-        self.number == 1
-    }
-
     /// The slots whose words it altered.
     fn altered(&self) -> impl Iterator<Item = (usize, u64, u64)> + '_ {
         altered(self.before, self.after)

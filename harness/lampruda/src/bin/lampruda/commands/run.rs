@@ -135,27 +135,27 @@ fn print_trace(
     json: bool,
 ) -> Result<Option<Stop>, String> {
     let trace = Trace::new(parts);
-    let mut piece = String::new();
+    let (mut piece, mut steps) = (String::new(), 0);
     let stop = traced(unit, frame, limit, |step| {
         if json {
             piece += &trace.json(&step).line();
         } else {
-            if step.is_first() {
+            if steps == 0 {
                 piece = Ink::out().paint(Colour::Dim, &trace.heading()) + "\n";
             }
-            piece += &trace.text(&step);
-            piece.push('\n');
+            piece += &(trace.text(&step) + "\n");
         }
+        steps += 1;
         Ok(piece.len() < PIECE || console::print_on(mem::take(&mut piece))?)
     })?;
-    if !json && !piece.is_empty() {
+    if !json && steps > 0 {
         piece.push('\n');
     }
     console::print(piece)?;
     Ok(stop)
 }
 
-/// How a run stopped, and the words of the slots before it and then.
+/// How a run stopped that was not refused, and the words of the slots before it and then.
 struct Stopped<'a> {
     name: &'a str,
     parts: &'a Parts,
@@ -188,7 +188,7 @@ impl Stopped<'_> {
             Stop::Panicked { .. } => format!("{} with {read}", ink.paint(Colour::Red, "panicked")),
             Stop::Ended => format!("ran out at the end of the code, {slots} altered"),
             Stop::Other { .. } => format!("came to what the desk does not execute, {slots} altered"),
-            _ => format!("reached the limit of {steps}, {slots} altered"),
+            Stop::Limit | Stop::Refused { .. } => format!("reached the limit of {steps}, {slots} altered"),
         };
         let detail = match self.stop {
             Stop::Other { place } => {
@@ -209,7 +209,7 @@ impl Stopped<'_> {
             Stop::Panicked { first, .. } => ("panicked", Some(first), None),
             Stop::Ended => ("ended", None, None),
             Stop::Other { place } => ("other", None, Some(place)),
-            _ => ("limit", None, None),
+            Stop::Limit | Stop::Refused { .. } => ("limit", None, None),
         };
         let words = self.read();
         let lines = Lines::new(self.parts);
