@@ -15,7 +15,11 @@
 //! # Ok(())
 //! # }
 //! ```
+//!
+//! A result is laid out as a unit again by [`as_unit`]; [`run`] and [`step`] run a unit at the desk.
 
+mod again;
+mod desk;
 mod fate;
 mod flow;
 mod lengths;
@@ -25,6 +29,8 @@ mod passes;
 mod short;
 pub mod sys;
 
+pub use again::as_unit;
+pub use desk::{run, step, Next, Stop};
 pub use fate::{fates, Fate};
 pub use lengths::needed;
 pub use lent::Lent;

@@ -1,6 +1,6 @@
 //! The passes of a cleaning one by one, and what became of each instruction in them.
 
-use crate::{fates, Answer, Fate, Workspace};
+use crate::{as_unit, fates, Answer, Fate, Workspace};
 use unit::{Rewritten, Unit};
 
 /// A pass of a cleaning.
@@ -23,9 +23,9 @@ impl Workspace {
         while let Some(mut pass) = next.take() {
             if let Answer::Rewritten(bytes) = self.pass(&pass.unit) {
                 pass.result = Rewritten::decode(bytes);
-            }
-            if passes.len() + 1 < most as usize {
-                next = pass.result.as_ref().map(|result| pass.after(result, given));
+                if passes.len() + 1 < most as usize {
+                    next = as_unit(&pass.unit, bytes).map(|unit| pass.after(unit));
+                }
             }
             passes.push(pass);
         }
@@ -34,10 +34,11 @@ impl Workspace {
 }
 
 impl Pass {
-    fn after(&self, result: &Rewritten, given: &Unit) -> Self {
+    /// The one over its result, laid out as a unit.
+    fn after(&self, unit: Vec<u8>) -> Self {
         let origin = |entry: &unit::Retained| self.origins[entry.old_place as usize];
-        let origins = result.retained.iter().map(origin).collect();
-        Self { unit: result.as_unit(given), origins, result: None }
+        let origins = self.result.iter().flat_map(|result| &result.retained).map(origin).collect();
+        Self { unit, origins, result: None }
     }
 }
 

@@ -118,6 +118,11 @@ fn operand() {
 }
 
 #[test]
+fn run() {
+    check("run");
+}
+
+#[test]
 fn short() {
     check("short");
 }

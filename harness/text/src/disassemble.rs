@@ -146,9 +146,14 @@ impl<'p> Lines<'p> {
         Self { parts, labels, markers }
     }
 
-    /// A place's ` line=N`, if it has one.
+    /// A place's line, if it has one.
+    pub fn line(&self, place: usize) -> Option<u32> {
+        self.markers.get(&place).copied()
+    }
+
+    /// The same as ` line=N`.
     pub fn marker(&self, place: usize) -> String {
-        self.markers.get(&place).map(|line| format!(" line={line}")).unwrap_or_default()
+        self.line(place).map(|line| format!(" line={line}")).unwrap_or_default()
     }
 
     fn label(&self, place: i64, out: &mut String) {

@@ -24,7 +24,8 @@ impl Arguments {
             if let Some(flag) = known(command.flags, word) {
                 arguments.flags.push(flag);
             } else if let Some(option) = known(command.values, word) {
-                let value = words.next().ok_or_else(|| arguments.usage(&format!("{option} needs a name")))?;
+                let value =
+                    words.next().ok_or_else(|| arguments.usage(&format!("{option} needs a value")))?;
                 arguments.values.push((option, value.clone()));
             } else if looks_like_option(&word.to_string_lossy()) {
                 return Err(arguments.usage(&format!("{} is no option", word.to_string_lossy())));
@@ -39,10 +40,14 @@ impl Arguments {
         self.flags.contains(&flag)
     }
 
-    /// The last value given for an option.
-    pub fn value(&self, option: &str) -> Option<&Path> {
-        let last = self.values.iter().rev().find(|(given, _)| *given == option);
-        last.map(|(_, value)| Path::new(value))
+    /// The values given for an option, in their order.
+    pub fn values<'a>(&'a self, option: &'a str) -> impl Iterator<Item = &'a OsStr> + 'a {
+        self.values.iter().filter(move |(given, _)| *given == option).map(|(_, value)| value.as_os_str())
+    }
+
+    /// The last of them, a file's name.
+    pub fn value<'a>(&'a self, option: &'a str) -> Option<&'a Path> {
+        self.values(option).last().map(Path::new)
     }
 
     /// The one input: a file, or standard input.

@@ -5,11 +5,15 @@ use std::io::{self, ErrorKind, IsTerminal, Write};
 
 /// Text or bytes to standard output. Whoever stops reading them, as `head` does, wants no more.
 pub fn print(text: impl AsRef<[u8]>) -> Result<(), String> {
+    print_on(text).map(|_| ())
+}
+
+/// The same for a part of what there is; whether more is wanted.
+pub fn print_on(text: impl AsRef<[u8]>) -> Result<bool, String> {
     match io::stdout().write_all(text.as_ref()).and_then(|()| io::stdout().flush()) {
-        Err(error) if error.kind() != ErrorKind::BrokenPipe => {
-            Err(format!("standard output: {}", reason(&error)))
-        }
-        _ => Ok(()),
+        Ok(()) => Ok(true),
+        Err(error) if error.kind() == ErrorKind::BrokenPipe => Ok(false),
+        Err(error) => Err(format!("standard output: {}", reason(&error))),
     }
 }
 

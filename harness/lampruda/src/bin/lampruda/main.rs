@@ -8,6 +8,8 @@ mod input;
 mod json;
 mod refused;
 mod report;
+mod trace;
+mod word;
 
 use arguments::Arguments;
 use commands::COMMANDS;

@@ -2,7 +2,7 @@
 
 use crate::answered::Answered;
 use crate::json::Json;
-use lampruda::{Pass, Workspace};
+use lampruda::Workspace;
 use std::str;
 use text::{target, Lines};
 use unit::{Answer, Kind, Parts, Refusal, Unit};
@@ -11,7 +11,8 @@ use unit::{Answer, Kind, Parts, Refusal, Unit};
 pub struct Refused {
     number: u32,
     place: u32,
-    pass: u32,
+    /// `None` at the desk.
+    pass: Option<u32>,
     meaning: &'static str,
     /// What it is in this unit.
     detail: Option<String>,
@@ -26,40 +27,48 @@ impl Refused {
         let &Answered { answer: Answer::Refused { number, place }, passes: pass } = answered else {
             return None;
         };
-        let refusal = Refusal::from_number(number);
-        let meaning = refusal.map_or("", Refusal::meaning);
-        let mut refused =
-            Self { number, place, pass, meaning, detail: None, instruction: None, given_place: None };
-        match Unit::parse(bytes) {
-            Err(_) if is_text(bytes) => refused.detail = Some(IS_TEXT.into()),
-            Err(fault) => refused.detail = Some(fault),
-            Ok(unit) => {
-                let passes = workspace.passes(&unit, pass);
-                if let (Some(refusal), Some(last)) = (refusal, passes.last()) {
-                    refused.explain(refusal, last);
-                }
-            }
-        }
+        let passes = Unit::check(bytes).map_or(Vec::new(), |unit| workspace.passes(&unit, pass));
+        let last = passes.last();
+        let mut refused = Self::of(number, place, Some(pass));
+        refused.explain(last.map_or(bytes, |last| &last.unit), None);
+        let origin = last.and_then(|last| last.origins.get(place as usize));
+        refused.given_place = origin.copied().filter(|_| pass > 1);
         Some(refused)
     }
 
-    /// What the refusal is about, in the unit of the pass that refused.
-    fn explain(&mut self, refusal: Refusal, pass: &Pass) {
-        let Some(unit) = Unit::check(&pass.unit) else { return };
+    /// One at the desk, for a frame of so many words.
+    pub fn at_desk(bytes: &[u8], frame: usize, number: u32, place: u32) -> Self {
+        let mut refused = Self::of(number, place, None);
+        refused.explain(bytes, Some(frame));
+        refused
+    }
+
+    fn of(number: u32, place: u32, pass: Option<u32>) -> Self {
+        let meaning = Refusal::from_number(number).map_or("", Refusal::meaning);
+        Self { number, place, pass, meaning, detail: None, instruction: None, given_place: None }
+    }
+
+    /// What the refusal is about, in the unit that was refused; at the desk, with its frame's length.
+    fn explain(&mut self, bytes: &[u8], frame: Option<usize>) {
+        let unit = match Unit::parse(bytes) {
+            Ok(unit) => unit,
+            Err(_) if is_text(bytes) => return self.detail = Some(IS_TEXT.into()),
+            Err(fault) => return self.detail = Some(fault),
+        };
+        let Some(refusal) = Refusal::from_number(self.number) else { return };
         let parts = Parts::decode(&unit);
         let place = self.place as usize;
-        self.detail = detail(refusal, place, &parts);
+        self.detail = detail(refusal, place, &parts, frame);
         if refusal.has_place() && place < parts.code.len() {
             self.instruction = Some(Lines::new(&parts).instruction(place));
-            self.given_place = pass.origins.get(place).copied().filter(|_| self.pass > 1);
         }
     }
 
     /// One line: number, place and pass.
     pub fn words(&self) -> String {
-        let pass = if self.pass > 1 { format!(" in pass {}", self.pass) } else { String::new() };
+        let pass = self.pass.filter(|&pass| pass > 1).map(|pass| format!(" in pass {pass}"));
         let at = if self.instruction.is_some() { format!(" at place {}", self.place) } else { String::new() };
-        format!("refused {}{at}{pass}", self.number)
+        format!("refused {}{at}{}", self.number, pass.unwrap_or_default())
     }
 
     /// The lines below the first.
@@ -108,7 +117,7 @@ fn indented(text: &str) -> String {
     lines + &format!("{line}\n")
 }
 
-fn detail(refusal: Refusal, place: usize, parts: &Parts) -> Option<String> {
+fn detail(refusal: Refusal, place: usize, parts: &Parts, frame: Option<usize>) -> Option<String> {
     let n = parts.code.len();
     let instruction = parts.code.get(place).copied().unwrap_or_default();
     let metadata = parts.metadata.get(place).copied().unwrap_or_default();
@@ -121,7 +130,12 @@ fn detail(refusal: Refusal, place: usize, parts: &Parts) -> Option<String> {
         Refusal::TypeCount => format!("types: {}, local slots: {}", parts.types.len(), parts.local_slots),
         Refusal::Invalid => format!("its byte is {}", instruction.op),
         Refusal::Slot => format!("local slots, counted from 0: {}", parts.local_slots),
-        Refusal::Branch => format!("it leads to place {}, {last}", target(place, &instruction)?),
+        // At the desk a branch may lead to the end.
+        Refusal::Branch => {
+            let end = format!("the function's end is {n}");
+            let bound = if frame.is_some() { end } else { last };
+            format!("it leads to place {}, {bound}", target(place, &instruction)?)
+        }
         Refusal::LoopHint if metadata.is(Kind::LoopEnd) => {
             format!("its end is place {}, {last}", metadata.end_pc)
         }
@@ -138,6 +152,7 @@ fn detail(refusal: Refusal, place: usize, parts: &Parts) -> Option<String> {
                 (_, line) => format!("a line is on place {}, {last}", line?.place),
             }
         }
+        Refusal::Frame => format!("words: {}, local slots: {}", frame?, parts.local_slots),
         Refusal::SelectCases => format!("metadata {place} is of a select of {} cases", metadata.second),
         Refusal::LoopMoved => format!("its end, place {}, is removed by this pass", metadata.end_pc),
     })

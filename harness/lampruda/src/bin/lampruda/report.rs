@@ -35,8 +35,7 @@ pub fn run(arguments: &Arguments, clean: bool) -> Result<Status, String> {
     }
     let result = match &answered.answer {
         Answer::Rewritten { bytes } if arguments.has("--unit") => {
-            let parts = Unit::check(&input.bytes).zip(Rewritten::decode(bytes));
-            parts.map(|(unit, result)| result.as_unit(&unit))
+            Some(lampruda::as_unit(&input.bytes, bytes).ok_or("the library laid no unit out")?)
         }
         Answer::Rewritten { bytes } => Some(bytes.clone()),
         _ if arguments.has("--unit") => Some(input.bytes.clone()),

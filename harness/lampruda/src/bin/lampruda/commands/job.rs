@@ -159,10 +159,9 @@ impl Summary {
                 self.unchanged += 1;
                 (before, None)
             }
-            Answer::Rewritten(bytes) => {
+            Answer::Rewritten(result) => {
                 self.rewritten += 1;
-                let result = Rewritten::decode(bytes);
-                (result.as_ref().map_or(0, |result| result.retained.len()), result)
+                (Rewritten::decode(result).map_or(0, |result| result.retained.len()), Some(result))
             }
         };
         self.before += before;
@@ -251,12 +250,12 @@ instructions: {} before, {} after, {share:.1} % removed
 
 impl Results<'_> {
     /// A unit's result: as a unit, or where it was rewritten.
-    fn write(self, stem: &Path, given: &[u8], result: Option<Rewritten>) -> Result<(), String> {
-        let bytes = match (self.units, Unit::check(given), result) {
-            (true, Some(unit), Some(result)) => result.as_unit(&unit),
-            (true, _, _) => given.to_vec(),
-            (false, _, Some(result)) => result.encode(),
-            (false, _, None) => return Ok(()),
+    fn write(self, stem: &Path, given: &[u8], result: Option<&[u8]>) -> Result<(), String> {
+        let bytes = match (self.units, result) {
+            (true, Some(result)) => lampruda::as_unit(given, result).ok_or("the library laid no unit out")?,
+            (true, None) => given.to_vec(),
+            (false, Some(result)) => result.to_vec(),
+            (false, None) => return Ok(()),
         };
         let extension = if self.units { "unit" } else { "result" };
         input::write(Some(&self.folder.join(stem).with_extension(extension)), &bytes).map(|_| ())

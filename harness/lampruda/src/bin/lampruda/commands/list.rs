@@ -80,18 +80,15 @@ fn run(arguments: Arguments) -> Result<Status, String> {
 
 fn rows(workspace: &mut Workspace, unit: &Unit, answered: &Answered, clean: bool) -> Vec<Row> {
     let given = Parts::decode(unit);
-    let result = match &answered.answer {
-        Answer::Rewritten { bytes } => Rewritten::decode(bytes),
-        _ => None,
+    let (result, after) = match &answered.answer {
+        Answer::Rewritten { bytes } => (Rewritten::decode(bytes), lampruda::as_unit(unit.bytes(), bytes)),
+        _ => (None, None),
     };
     let fates = match &result {
         Some(result) => cleaned_fates(unit, result, &workspace.passes(unit, answered.passes)),
         None => vec![(Fate::Kept, 0); given.code.len()],
     };
-    let after = match &result {
-        Some(result) => Unit::check(&result.as_unit(unit)).map(|unit| Parts::decode(&unit)),
-        None => None,
-    };
+    let after = after.as_deref().and_then(Unit::check).map(|unit| Parts::decode(&unit));
     let after = after.unwrap_or_else(|| given.clone());
     let (before_lines, after_lines) = (Lines::new(&given), Lines::new(&after));
     let mut new = 0..after.code.len();

@@ -7,16 +7,18 @@ mod job;
 mod list;
 mod operand;
 mod pass;
+mod run;
 mod short;
 
 use crate::arguments::Arguments;
 use crate::Status;
 
 /// In the order in which they are listed.
-pub const COMMANDS: [&Command; 8] = [
+pub const COMMANDS: [&Command; 9] = [
     &pass::COMMAND,
     &clean::COMMAND,
     &list::COMMAND,
+    &run::COMMAND,
     &assemble::COMMAND,
     &disassemble::COMMAND,
     &job::COMMAND,

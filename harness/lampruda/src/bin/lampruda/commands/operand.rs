@@ -4,6 +4,7 @@ use super::Command;
 use crate::arguments::Arguments;
 use crate::console;
 use crate::json::Json;
+use crate::word::integer;
 use crate::Status;
 use lampruda::Operand;
 
@@ -35,7 +36,7 @@ example: lampruda operand MulI 12 36
 fn run(arguments: Arguments) -> Result<Status, String> {
     let [opcode, left, wanted] = arguments.words("name an opcode, the left word and the wanted word")?;
     let byte = text::op(&opcode).ok_or_else(|| arguments.usage(&format!("{opcode} is no opcode")))?;
-    let word = |text: &str| word(text).ok_or_else(|| arguments.usage(&format!("{text} is no word")));
+    let word = |text: &str| integer(text).ok_or_else(|| arguments.usage(&format!("{text} is no word")));
     let (left, wanted) = (word(&left)?, word(&wanted)?);
     let operand = lampruda::operand(byte, left, wanted);
     let (answer, found) = match operand {
@@ -61,57 +62,4 @@ fn run(arguments: Arguments) -> Result<Status, String> {
     };
     console::print(text)?;
     Ok(if found.is_some() { Status::Done } else { Status::Refused })
-}
-
-/// A decimal or hexadecimal number of 64 bits, unsigned or signed.
-fn word(text: &str) -> Option<u64> {
-    let (negative, digits) = match text.strip_prefix('-') {
-        Some(digits) => (true, digits),
-        None => (false, text),
-    };
-    let (radix, digits) = match digits.strip_prefix("0x") {
-        Some(digits) => (16, digits),
-        None => (10, digits),
-    };
-    let plain = digits.chars().all(|digit| digit.is_ascii_alphanumeric());
-    let size = u64::from_str_radix(digits, radix).ok().filter(|_| plain)?;
-    match negative {
-        true => (size <= 1 << 63).then_some(size.wrapping_neg()),
-        false => Some(size),
-    }
-}
-
-#[cfg(test)]
-mod tests {
-    use super::word;
-
-    #[test]
-    fn words() {
-        let all = u64::MAX;
-        let least = 1 << 63;
-        for (text, read) in [
-            ("0", Some(0)),
-            ("-0", Some(0)),
-            ("-1", Some(all)),
-            ("0xff", Some(255)),
-            ("-0xff", Some(all - 254)),
-            ("18446744073709551615", Some(all)),
-            ("0xFFFFFFFFFFFFFFFF", Some(all)),
-            ("-9223372036854775808", Some(least)),
-            ("-0x8000000000000000", Some(least)),
-            ("18446744073709551616", None),
-            ("0x10000000000000000", None),
-            ("-9223372036854775809", None),
-            ("", None),
-            ("-", None),
-            ("0x", None),
-            ("+1", None),
-            ("0x+1", None),
-            ("--1", None),
-            ("12a", None),
-            ("1.5", None),
-        ] {
-            assert_eq!(word(text), read, "{text}");
-        }
-    }
 }
