@@ -3,3 +3,4 @@ pub mod Stands
 pub mod Copying
 pub mod Execution
 pub mod Advance
+pub mod Unit

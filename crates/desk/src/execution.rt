@@ -19,6 +19,7 @@ use crate::Stop;
 use crate::copy;
 use instruction::Class;
 use instruction::Instruction;
+use instruction::number;
 use instruction::opcode;
 use unit::Constant;
 use unit::entry;
@@ -109,18 +110,28 @@ fn execute(code: &[u8], constants: &[u8], frame: &mut [u64], p: usize) -> u64
         (dueIn (now (code .entry)) (now (constants .entry)) p (now (frame .entry))) ⌝ }
 {
     let i = instruction::read(code, p);
-    match i.op {
+    let op = i.op;
+    match op {
         opcode::HINT => p as u64 + 1,
         opcode::LOAD_INT => store(frame, p, i.a, i.imm32()),
         opcode::LOAD_CONST => load(constants, frame, p, i.a, i.b),
-        opcode::COPY => store(frame, p, i.a, frame[i.b as usize]),
+        opcode::COPY => {
+            let w = frame[i.b as usize];
+            store(frame, p, i.a, w)
+        }
         opcode::COPY_N => {
             copy::copy_words(frame, i.a as usize, i.b as usize, i.c as usize);
             p as u64 + 1
         }
         opcode::JUMP => jump(p, i, true),
-        opcode::JUMP_IF => jump(p, i, frame[i.a as usize] != 0),
-        opcode::JUMP_IF_NOT => jump(p, i, frame[i.a as usize] == 0),
+        opcode::JUMP_IF => {
+            let holds = frame[i.a as usize] != 0;
+            jump(p, i, holds)
+        }
+        opcode::JUMP_IF_NOT => {
+            let holds = frame[i.a as usize] == 0;
+            jump(p, i, holds)
+        }
         opcode::NEG_I => operate_unary(frame, p, i, opcode::NEG_I),
         opcode::NOT => operate_unary(frame, p, i, opcode::NOT),
         opcode::BOOL_NOT => operate_unary(frame, p, i, opcode::BOOL_NOT),
@@ -228,9 +239,12 @@ pub fn stop_at(unit: &[u8], p: usize, left: u32) -> Stop
         return Stop::Limit;
     }
     let i = instruction::read(code, p);
-    match i.class() {
-        Class::Return => Stop::Returned(i.a as u32, i.b as u32),
-        Class::Panic => Stop::Panicked(i.a as u32, 2),
-        _ => Stop::Limit,
+    let k = opcode::class_number(i.op);
+    if k == number::RETURN {
+        return Stop::Returned(i.a as u32, i.b as u32);
     }
+    if k == number::PANIC {
+        return Stop::Panicked(i.a as u32, 2);
+    }
+    Stop::Limit
 }

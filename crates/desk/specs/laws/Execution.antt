@@ -120,55 +120,82 @@ stays-not false e = refl
 
 -- ---- by the number of the opcode
 
+-- what was done is what was due
 abbrev pub Does : List ℕ → Due → ℕ → List ℕ → Type 0
 Does f d q g = (q ≡ goesTo d) × (g ≡ frameAfter f d)
 
-module _ (constants : List ℕ) (p : ℕ) (i : Instruction) (f : List ℕ) where
+-- an instruction that was read, and its opcode
+pub executable-same : {s p : ℕ} (i j : Instruction) → i ≡ j → Executable s p j → Executable s p i
+executable-same i j e x = rw e x
+
+pub named-as : (k : Class) (o s : ℕ) (i : Instruction) → i .op ≡ o → classOf o ≡ k → Named (class i) s i → Named k s i
+named-as k o s i e c h = let is : class i ≡ k = ap classOf e ∙ c in rw is at h
+
+pub class-as : (k : Class) (o : ℕ) (i : Instruction) → i .op ≡ o → classOf o ≡ k → class i ≡ k
+class-as k o i e c = ap classOf e ∙ c
+
+module _ (constants : List ℕ) (p : ℕ) (f : List ℕ) (i j : Instruction) (same : i ≡ j) where
   abbrev due : Due
-  due = dueBy constants (class i) p i f
+  due = dueBy constants (class j) p j f
 
-  pub by-class : (k : Class) (o : ℕ) → i .op ≡ o → classOf o ≡ k → due ≡ dueBy constants k p i f
-  by-class k o e c = let same : class i ≡ k = ap classOf e ∙ c in rw same
+  by-class : (k : Class) (o : ℕ) → i .op ≡ o → classOf o ≡ k → due ≡ dueBy constants k p i f
+  by-class k o e c = rw (← same) (let is : class i ≡ k = class-as k o i e c in rw is)
 
-  pub named-by : (k : Class) (o s : ℕ) → i .op ≡ o → classOf o ≡ k → Named (class i) s i → Named k s i
-  named-by k o s e c h = let same : class i ≡ k = ap classOf e ∙ c in rw same at h
-
-  pub does-goes : (k : Class) (o : ℕ) (q : ℕ) (g : List ℕ) → i .op ≡ o → classOf o ≡ k → dueBy constants k p i f ≡ goes q g → Does f due q g
+  does-goes : (k : Class) (o q : ℕ) (g : List ℕ) (r : ℕ) (h : List ℕ) → i .op ≡ o → classOf o ≡ k → dueBy constants k p i f ≡ goes q g → r ≡ q → h ≡ g → Does f due r h
   unfolding goesTo frameAfter
-  does-goes k o q g e c d = rw (by-class k o e c, d) (refl, refl)
+  does-goes k o q g r h e c d t l = rw (by-class k o e c, d) (t, l)
 
-  pub does-unary : (o : ℕ) → i .op ≡ o → classOf o ≡ Unary → isIn o foldingUnary ≡ true
-      → Does f due (suc p) (set f (i .a) (foldWord o (i .flags) (getD f (i .b) 0) 0))
+  pub does-hint : (r : ℕ) → i .op ≡ op.Hint → r ≡ suc p → Does f due r f
+  unfolding dueBy classOf single
+  does-hint r e t = does-goes Hint op.Hint (suc p) f r f e refl refl t refl
+
+  pub does-load-int : (r : ℕ) (h : List ℕ) → i .op ≡ op.LoadInt → r ≡ suc p → h ≡ set f (i .a) (imm32 i) → Does f due r h
+  unfolding dueBy classOf single
+  does-load-int r h e t l = does-goes LoadInt op.LoadInt _ _ r h e refl refl t l
+
+  pub does-load : (r : ℕ) (h : List ℕ) → i .op ≡ op.LoadConst → Does f (loads p f (i .a) (constantAt constants (i .b))) r h → Does f due r h
+  unfolding dueBy classOf single
+  does-load r h e d = rw (by-class LoadConst op.LoadConst e refl) d
+
+  pub does-copy : (r : ℕ) (h : List ℕ) → i .op ≡ op.Copy → r ≡ suc p → h ≡ set f (i .a) (getD f (i .b) 0) → Does f due r h
+  unfolding dueBy classOf single
+  does-copy r h e t l = does-goes Copy op.Copy _ _ r h e refl refl t l
+
+  pub does-copy-n : (r : ℕ) (h : List ℕ) → i .op ≡ op.CopyN → r ≡ suc p → h ≡ putMid (i .a) (i .c) f (midOf (i .b) (i .c) f) → Does f due r h
+  unfolding dueBy classOf single
+  does-copy-n r h e t l = does-goes CopyN op.CopyN _ _ r h e refl refl t l
+
+  pub does-jump : (r : ℕ) → i .op ≡ op.Jump → r ≡ (p + imm32 i) % 2 ^ 64 → Does f due r f
+  unfolding dueBy classOf single targetBy
+  does-jump r e t = does-goes Jump op.Jump _ f r f e refl refl t refl
+
+  pub does-jump-if : (r : ℕ) → i .op ≡ op.JumpIf → r ≡ cond (not (eqb (getD f (i .a) 0) 0)) ((p + imm32 i) % 2 ^ 64) (suc p) → Does f due r f
+  unfolding dueBy classOf single targetBy
+  does-jump-if r e t = does-goes JumpIf op.JumpIf _ f r f e refl refl t refl
+
+  pub does-jump-if-not : (r : ℕ) → i .op ≡ op.JumpIfNot → r ≡ cond (eqb (getD f (i .a) 0) 0) ((p + imm32 i) % 2 ^ 64) (suc p) → Does f due r f
+  unfolding dueBy classOf single targetBy
+  does-jump-if-not r e t = does-goes JumpIfNot op.JumpIfNot _ f r f e refl refl t refl
+
+  pub does-unary : (o r : ℕ) (h : List ℕ) → classOf o ≡ Unary → isIn o foldingUnary ≡ true → i .op ≡ o → r ≡ suc p → h ≡ set f (i .a) (foldWord o (i .flags) (getD f (i .b) 0) 0) → Does f due r h
   unfolding dueBy
-  does-unary o e c t = does-goes Unary o _ _ e c (rw (e, t))
+  does-unary o r h c n e t l = does-goes Unary o _ _ r h e c (rw (e, n)) t l
 
-  pub does-binary : (o : ℕ) → i .op ≡ o → classOf o ≡ Binary → isIn o foldingBinary ≡ true
-      → Does f due (suc p) (set f (i .a) (foldWord o (i .flags) (getD f (i .b) 0) (getD f (i .c) 0)))
+  pub does-binary : (o r : ℕ) (h : List ℕ) → classOf o ≡ Binary → isIn o foldingBinary ≡ true → i .op ≡ o → r ≡ suc p
+      → h ≡ set f (i .a) (foldWord o (i .flags) (getD f (i .b) 0) (getD f (i .c) 0)) → Does f due r h
   unfolding dueBy
-  does-binary o e c t = does-goes Binary o _ _ e c (rw (e, t))
-
-  pub does-load : (o q : ℕ) (g : List ℕ) → i .op ≡ o → classOf o ≡ LoadConst → Does f (loads p f (i .a) (constantAt constants (i .b))) q g → Does f due q g
-  unfolding dueBy
-  does-load o q g e c d = rw (by-class LoadConst o e c) d
-
-  pub does-jump-if : (o q : ℕ) → i .op ≡ o → classOf o ≡ JumpIf → q ≡ cond (not (eqb (getD f (i .a) 0) 0)) ((p + imm32 i) % 2 ^ 64) (suc p) → Does f due q f
-  unfolding dueBy targetBy
-  does-jump-if o q e c r = rw r (does-goes JumpIf o _ f e c refl)
-
-  pub does-jump-if-not : (o q : ℕ) → i .op ≡ o → classOf o ≡ JumpIfNot → q ≡ cond (eqb (getD f (i .a) 0) 0) ((p + imm32 i) % 2 ^ 64) (suc p) → Does f due q f
-  unfolding dueBy targetBy
-  does-jump-if-not o q e c r = rw r (does-goes JumpIfNot o _ f e c refl)
+  does-binary o r h c n e t l = does-goes Binary o _ _ r h e c (rw (e, n)) t l
 
   -- any other opcode goes nowhere
-  stays-due : (k : Class) → staysBy (i .op) k ≡ true → Does f (dueBy constants k p i f) (2 ^ 32) f
+  stays-due : (k : Class) → staysBy (j .op) k ≡ true → Does f (dueBy constants k p j f) (2 ^ 32) f
   unfolding staysBy dueBy goesTo frameAfter
   stays-due Hint e = absurd (true≢false (sym e))
   stays-due LoadInt e = absurd (true≢false (sym e))
   stays-due LoadConst e = absurd (true≢false (sym e))
   stays-due Copy e = absurd (true≢false (sym e))
   stays-due CopyN e = absurd (true≢false (sym e))
-  stays-due Unary e = rw (stays-not (isIn (i .op) foldingUnary) e) (refl, refl)
-  stays-due Binary e = rw (stays-not (isIn (i .op) foldingBinary) e) (refl, refl)
+  stays-due Unary e = rw (stays-not (isIn (j .op) foldingUnary) e) (refl, refl)
+  stays-due Binary e = rw (stays-not (isIn (j .op) foldingBinary) e) (refl, refl)
   stays-due Jump e = absurd (true≢false (sym e))
   stays-due JumpIf e = absurd (true≢false (sym e))
   stays-due JumpIfNot e = absurd (true≢false (sym e))
@@ -179,4 +206,4 @@ module _ (constants : List ℕ) (p : ℕ) (i : Instruction) (f : List ℕ) where
   stays-due Invalid e = (refl, refl)
 
   pub does-nothing : isIn (i .op) going ≡ false → Does f due (2 ^ 32) f
-  does-nothing e = stays-due (class i) (stays (i .op) e)
+  does-nothing e = stays-due (class j) (rw same at (stays (i .op) e))
