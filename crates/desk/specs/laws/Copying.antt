@@ -3,8 +3,9 @@
 use mathlib.Core.Path.{_≡_, refl, sym, ap, _∙_}
 use mathlib.Core.List.{List, [], _∷_, _++_}
 use Prim.Native.Nat.{ℕ, _+_, _-_, _≤_, _<_}
+use native.Mathlib.Nat.{add-zero, sub-zero}
 use native.Mathlib.Omega.{arith}
-use lib.ListN.{length, getD, set, take, drop, length-set}
+use lib.ListN.{length, getD, set, take, drop, length-set, take-append-drop}
 use lib.Seq.{take-set-lt, drop-set-lt, set-append-left, length-take-le}
 use borrow.Rule.Slice.PartMut.{midOf, postOf, putMid}
 use Rattle.words.specs.laws.Regions.{mid-long, mid-more, mid-add, put-one, put-more, put-put, get-before, get-after}
@@ -20,6 +21,10 @@ put-front xs ys m j v e h =
     let one : putMid (m + 1) j (set xs m v) ys ≡ putMid m (1 + j) xs (v ∷ ys) =
     rw (put-one xs m v (omega arith)) (put-put xs m 1 (v ∷ []) refl (omega arith) j ys) in
     left ∙ sym (rw (first, rest) refl) ∙ one
+
+-- no word copied
+pub none-copied : (f : List ℕ) (a b c : ℕ) → c ≡ 0 → f ≡ putMid a c f (midOf b c f)
+none-copied f a b c e = rw e (sym (take-append-drop a f))
 
 module _ (f : List ℕ) (a b c : ℕ) where
   -- k words copied from below
@@ -53,3 +58,7 @@ module _ (f : List ℕ) (a b c : ℕ) where
           let zero : b + m + 0 ≡ b + m = omega arith in
           let one : midOf (b + m) (0 + 1) f ≡ midOf (b + m) 0 f ++ (getD f (b + m) 0 ∷ []) = rw zero at (mid-more f (b + m) 0 0 (omega arith)) in
           mid-add f (b + m) 1 (c - k) ∙ rw (at) (ap (λ (l : List ℕ). l ++ midOf (b + k) (c - k) f) one)
+
+  -- none is left
+  pub copied-all : (g : List ℕ) (k : ℕ) → k ≤ 0 → g ≡ copiedDown k → g ≡ putMid a c f (midOf b c f)
+  copied-all g k h e = let none : k ≡ 0 = omega arith in rw (none, add-zero a, add-zero b, sub-zero c) at e
