@@ -1,5 +1,6 @@
 pub mod Step
 pub mod Stands
 pub mod Copying
+pub mod Checking
 pub mod Execution
 pub mod Advance
