@@ -1,6 +1,7 @@
 pub mod Step
 pub mod Stands
 pub mod Copying
+pub mod Checking
 pub mod Execution
 pub mod Advance
 pub mod Unit

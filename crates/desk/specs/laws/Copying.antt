@@ -5,7 +5,7 @@ use mathlib.Core.List.{List, [], _∷_, _++_}
 use Prim.Native.Nat.{ℕ, _+_, _-_, _≤_, _<_}
 use native.Mathlib.Nat.{add-zero, sub-zero}
 use native.Mathlib.Omega.{arith}
-use lib.ListN.{length, getD, set, take, drop, length-set, take-append-drop}
+use lib.ListN.{length, getD, set, take, drop, take-append-drop}
 use lib.Seq.{take-set-lt, drop-set-lt, set-append-left, length-take-le}
 use borrow.Rule.Slice.PartMut.{midOf, postOf, putMid}
 use Rattle.words.specs.laws.Regions.{mid-long, mid-more, mid-add, put-one, put-more, put-put, get-before, get-after}
@@ -61,4 +61,4 @@ module _ (f : List ℕ) (a b c : ℕ) where
 
   -- none is left
   pub copied-all : (g : List ℕ) (k : ℕ) → k ≤ 0 → g ≡ copiedDown k → g ≡ putMid a c f (midOf b c f)
-  copied-all g k h e = let none : k ≡ 0 = omega arith in rw (none, add-zero, add-zero, sub-zero) at e
+  copied-all g k h e = let none : k ≡ 0 = omega arith in rw (none, add-zero a, add-zero b, sub-zero c) at e
