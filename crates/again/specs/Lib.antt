@@ -1,3 +1,4 @@
 pub mod Again
+pub mod LaidOut
 pub mod Units
 pub mod laws
