@@ -16,7 +16,7 @@ use Rattle.unit.specs.laws.UnitLaws.{WellFormed, unit-laid, layout-unit}
 use Rattle.unit.specs.declared.Header.{Header}
 use Rattle.unit.specs.declared.Layout.the-variants.{Unit as UnitLayout, Refused as RefusedLayout}
 use Rattle.again.specs.Again.{countsWith, offsetsOf, headerWith}
-use Rattle.again.specs.LaidOut.{isResultOf, unitAgain, afterResult, afterUnit, afterLayout, laidAnswer, outputAfter, outputLaid}
+use Rattle.again.specs.LaidOut.{isResultOf, unitAgain, roomAnswer, resultAnswer, unitAnswer, laidAnswer, outputBy, outputLaid}
 use Rattle.again.specs.declared.Laid.{Laid}
 use Rattle.again.specs.declared.Laid.the-variants.{Unit, Refused, None}
 use Rattle.again.specs.laws.Found.{ResultOf, result-of, again-size, linesAt, Writable}
@@ -25,7 +25,7 @@ abbrev pub LaysOut : List ℕ → List ℕ → List ℕ → Laid → List ℕ �
 LaysOut u b out r out′ = (r ≡ laidAnswer u b (length out)) × (out′ ≡ outputLaid u b out)
 
 pub unit-refused : (u b out : List ℕ) (k p : ℕ) → layoutOf u ≡ RefusedLayout k p → LaysOut u b out (Refused k p) out
-unfolding laidAnswer afterLayout outputLaid outputAfter
+unfolding laidAnswer unitAnswer outputLaid outputBy
 unit-refused u b out k p e = rw e (refl, refl)
 
 -- the given header is the unit's
@@ -33,7 +33,7 @@ of-unit : (u b : List ℕ) (h : Header) → layoutOf u ≡ UnitLayout h → isRe
 of-unit u b h e = ap (λ (x : Header). isResultOf (x .counts) b) (sym (layout-unit u h e .1))
 
 pub none-found : (u b out : List ℕ) (h : Header) → layoutOf u ≡ UnitLayout h → isResultOf (h .counts) b ≡ false → LaysOut u b out None out
-unfolding laidAnswer afterLayout afterUnit outputLaid outputAfter
+unfolding laidAnswer unitAnswer resultAnswer outputLaid outputBy
 none-found u b out h e f = rw (e, of-unit u b h e, f) (refl, refl)
 
 -- ---- a unit with header h, and a result of it
@@ -88,7 +88,7 @@ module _ {u b : List ℕ} {h g : Header} {n l : ℕ} (a : Headed u b h g n l) wh
 
   module _ (out : List ℕ) where
     pub short-room : length out < g .offsets .lines + lineSize * l → LaysOut u b out (Refused shortBuffer 0) out
-    unfolding laidAnswer afterLayout afterUnit afterResult outputLaid outputAfter
+    unfolding laidAnswer unitAnswer resultAnswer roomAnswer outputLaid outputBy
     short-room e = rw (a .of .checked, of-given (a .of), lt-leb (length (unitAgain u b)) (length out) (rw (← size) e)) (refl, refl)
 
     pub may-write : g .offsets .lines + lineSize * l ≤ length out → Writable u b (length out) g
@@ -102,5 +102,5 @@ module _ {u b : List ℕ} {h g : Header} {n l : ℕ} (a : Headed u b h g n l) wh
 
     pub written : (out′ : List ℕ) → g .offsets .lines + lineSize * l ≤ length out → out′ ≡ putMid 0 (length (unitAgain u b)) out (unitAgain u b)
         → LaysOut u b out (Unit (g .offsets .lines + lineSize * l)) out′
-    unfolding laidAnswer afterLayout afterUnit afterResult outputLaid outputAfter
+    unfolding laidAnswer unitAnswer resultAnswer roomAnswer outputLaid outputBy
     written out′ e w = rw (a .of .checked, of-given (a .of), size, le-leb (length (unitAgain u b)) (length out) (rw (← size) e)) (refl, w)

@@ -25,7 +25,7 @@ use Rattle.again.specs.declared.Laid.the-variants.{Unit, Refused, None}
 unfoldable pub readLines : List ℕ → List Line
 readLines b = linesIn (midOf (u32At b 20) (lineSize * u32At b 16) b)
 
--- "words n', 24, 24 + 8n', 24 + 24n', l', 24 + 28n'": the four that follow from n'
+-- the words of a result's header that follow from n': 24, 24 + 8n', 24 + 24n' and 24 + 28n'
 unfoldable pub hasOffsets : List ℕ → ℕ → Bool
 hasOffsets b n =
     eqb (u32At b 4) resultHeaderSize
@@ -33,8 +33,8 @@ hasOffsets b n =
     && eqb (u32At b 12) (resultPlacesAt n)
     && eqb (u32At b 20) (resultLinesAt n)
 
--- does a buffer begin with a result of a unit with these counts? It has a result's header and all that this counts, and the unit has as
--- many instructions, metadata entries and lines at least
+-- Does a buffer begin with a result of a unit with these counts? It has the header of a result, with n' and l', and all that this counts;
+-- and the unit has n' instructions, n' metadata entries and l' lines at least.
 unfoldable pub isResultOf : Counts → List ℕ → Bool
 isResultOf c b =
     let n = u32At b 0 in
@@ -54,26 +54,26 @@ unitAgain u b = unitOf u (cellsAfter (readResult b)) (readLines b)
 -- result, and room the length of the buffer to write to.
 
 -- refused 2, place 0: the buffer to write to is shorter than the unit again
-unfoldable pub afterResult : List ℕ → List ℕ → ℕ → Laid
-afterResult u b room = let size = length (unitAgain u b) in cond (leb size room) (Unit size) (Refused shortBuffer 0)
+unfoldable pub roomAnswer : List ℕ → List ℕ → ℕ → Laid
+roomAnswer u b room = let size = length (unitAgain u b) in cond (leb size room) (Unit size) (Refused shortBuffer 0)
 
 -- none: there is no result of this unit
-unfoldable pub afterUnit : List ℕ → List ℕ → ℕ → Laid
-afterUnit u b room = let rest = afterResult u b room in cond (isResultOf (headerOf u .counts) b) rest None
+unfoldable pub resultAnswer : List ℕ → List ℕ → ℕ → Laid
+resultAnswer u b room = let rest = roomAnswer u b room in cond (isResultOf (headerOf u .counts) b) rest None
 
 -- refused 1, 11 and 13, as a pass refuses the unit's bytes
-unfoldable pub afterLayout : Layout → Laid → Laid
-afterLayout (RefusedLayout k p) rest = Refused k p
-afterLayout (UnitLayout h) rest = rest
+unfoldable pub unitAnswer : Layout → Laid → Laid
+unitAnswer (RefusedLayout k p) rest = Refused k p
+unitAnswer (UnitLayout h) rest = rest
 
 unfoldable pub laidAnswer : List ℕ → List ℕ → ℕ → Laid
-laidAnswer u b room = let rest = afterUnit u b room in afterLayout (layoutOf u) rest
+laidAnswer u b room = let rest = resultAnswer u b room in unitAnswer (layoutOf u) rest
 
 -- the buffer after an answer: the unit at its front, its rest as it was; all as it was where there is none
-unfoldable pub outputAfter : List ℕ → List ℕ → Laid → List ℕ
-outputAfter unit out (Unit size) = putMid 0 size out unit
-outputAfter unit out (Refused k p) = out
-outputAfter unit out None = out
+unfoldable pub outputBy : List ℕ → List ℕ → Laid → List ℕ
+outputBy unit out (Unit size) = putMid 0 size out unit
+outputBy unit out (Refused k p) = out
+outputBy unit out None = out
 
 unfoldable pub outputLaid : List ℕ → List ℕ → List ℕ → List ℕ
-outputLaid u b out = outputAfter (unitAgain u b) out (laidAnswer u b (length out))
+outputLaid u b out = outputBy (unitAgain u b) out (laidAnswer u b (length out))

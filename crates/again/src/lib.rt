@@ -1,5 +1,5 @@
-// A result of one pass or of the cleaning laid out as a unit again: its code, metadata and lines with the given unit's other
-// sections and numbers.
+// A result of one pass or of the cleaning laid out as a unit again: its code, metadata and lines with the given unit's
+// other sections and numbers.
 ghost use mathlib.Core.Path.{_≡_};
 ghost use Prim.Native.Nat.{_+_, _%_, _^_, _≤_, _<_};
 ghost use lib.ListN.{length, getD};

@@ -1,4 +1,3 @@
-use mathlib.Core.Path.{refl}
 use borrow.Author.Needs.{needs}
 use Rattle.again.proofs.header_with.Statement.{statement}
 use Rattle.again.proofs.header_with.Tie as tie

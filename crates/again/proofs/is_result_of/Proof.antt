@@ -1,4 +1,3 @@
-use mathlib.Core.Path.{sym}
 use borrow.Author.Tests.{lt-leb, le-leb}
 use Rattle.unit.specs.Size.{resultHeaderSize}
 use Rattle.again.specs.LaidOut.{isResultOf}

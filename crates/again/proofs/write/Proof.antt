@@ -1,9 +1,7 @@
-use mathlib.Core.Path.{_≡_}
 use native.Mathlib.Omega.{arith}
-use lib.ListN.{length}
 use Rattle.words.specs.Bytes.{Bytes}
 use Rattle.again.specs.Again.{headerBytes}
-use Rattle.again.proofs.Writing.{Begins, begins-long, codedBytes, describedBytes, sharedBytes, linedBytes, parts-of, code-fits, metadata-fits, others-fit, wrote-header, wrote-code, wrote-metadata, wrote-others, wrote-lines, unit-written}
+use Rattle.again.proofs.Writing.{Begins, begins-long, codedBytes, describedBytes, sharedBytes, parts-of, code-fits, metadata-fits, others-fit, wrote-header, wrote-code, wrote-metadata, wrote-others, wrote-lines, unit-written}
 use borrow.Author.Needs.{needs}
 use Rattle.again.proofs.write.Statement.{statement}
 use Rattle.again.proofs.write.Tie as tie

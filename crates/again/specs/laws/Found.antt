@@ -1,11 +1,11 @@
--- A result found at the front of a buffer: what is read of it has the bytes that stand there, and its header as a unit again has room for each number.
+-- A result found at the front of a buffer: what is read of it has the bytes that stand there, and so has the unit again.
 -- Assumes nothing.
 use mathlib.Core.Path.{_≡_, refl, sym, ap, _∙_}
 use mathlib.Core.Bool.{true}
-use mathlib.Core.List.{List, [], _∷_, _++_, map, append-assoc}
-use Prim.Native.Nat.{ℕ, zero, suc, _+_, _-_, _*_, _/_, _^_, _≤_, _<_}
+use mathlib.Core.List.{List, _∷_, _++_, map, append-assoc}
+use Prim.Native.Nat.{ℕ, zero, suc, _+_, _-_, _*_, _/_, _≤_}
 use native.Mathlib.Omega.{arith}
-use lib.ListN.{length, getD, length-map}
+use lib.ListN.{length, length-map}
 use borrow.Author.Tests.{eqb-true, eq-eqb, leb-true, le-leb}
 use borrow.Rule.Slice.PartMut.{midOf}
 use Rattle.words.specs.Bytes.{Bytes}
@@ -24,9 +24,9 @@ use Rattle.unit.specs.declared.Counts.{Counts}
 use Rattle.unit.specs.declared.Header.{Header}
 use Rattle.answer.specs.Clean.{retainedCell, cellsAfter}
 use Rattle.run.specs.laws.Reading.{codeIn, metadataIn, retainedIn}
-use Rattle.again.specs.Again.{countsWith, offsetsOf, headerWith, headerWords, headerBytes, bytesOf, cellCode, cellMetadata, unitOf}
+use Rattle.again.specs.Again.{headerWith, headerBytes, bytesOf, cellCode, cellMetadata, unitOf}
 use Rattle.again.specs.LaidOut.{readLines, hasOffsets, isResultOf, unitAgain}
-use Rattle.again.specs.laws.Laid.{Small, sizeWith, again-long}
+use Rattle.again.specs.laws.Laid.{sizeWith, again-long}
 use Rattle.again.specs.laws.Same.{instruction-same, metadata-same, line-same, entries-same}
 
 -- ---- a result of a unit with counts c
