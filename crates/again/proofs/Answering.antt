@@ -16,7 +16,7 @@ use Rattle.unit.specs.laws.UnitLaws.{WellFormed, unit-laid, layout-unit}
 use Rattle.unit.specs.declared.Header.{Header}
 use Rattle.unit.specs.declared.Layout.the-variants.{Unit as UnitLayout, Refused as RefusedLayout}
 use Rattle.again.specs.Again.{countsWith, offsetsOf, headerWith}
-use Rattle.again.specs.LaidOut.{isResultOf, unitAgain, roomAnswer, resultAnswer, unitAnswer, laidAnswer, outputBy, outputLaid}
+use Rattle.again.specs.LaidOut.{isResultOf, laidUnit, roomAnswer, resultAnswer, unitAnswer, laidAnswer, outputBy, outputLaid}
 use Rattle.again.specs.declared.Laid.{Laid}
 use Rattle.again.specs.declared.Laid.the-variants.{Unit, Refused, None}
 use Rattle.again.specs.laws.Found.{ResultOf, result-of, again-size, linesAt, Writable}
@@ -83,13 +83,13 @@ module _ {u b : List ℕ} {h g : Header} {n l : ℕ} (a : Headed u b h g n l) wh
   unfolding countsWith offsetsOf
   lines-below = let most = no-longer (a .of) in rw (a .header, a .many, a .lined) most
 
-  size : g .offsets .lines + lineSize * l ≡ length (unitAgain u b)
+  size : g .offsets .lines + lineSize * l ≡ length (laidUnit u b)
   size = rw (a .lined) (ap (λ (x : Header). x .offsets .lines + lineSize * u32At b 16) again ∙ sym (again-size (well (a .of)) (result-found (a .of))))
 
   module _ (out : List ℕ) where
     pub short-room : length out < g .offsets .lines + lineSize * l → LaysOut u b out (Refused shortBuffer 0) out
     unfolding laidAnswer unitAnswer resultAnswer roomAnswer outputLaid outputBy
-    short-room e = rw (a .of .checked, of-given (a .of), lt-leb (length (unitAgain u b)) (length out) (rw (← size) e)) (refl, refl)
+    short-room e = rw (a .of .checked, of-given (a .of), lt-leb (length (laidUnit u b)) (length out) (rw (← size) e)) (refl, refl)
 
     pub may-write : g .offsets .lines + lineSize * l ≤ length out → Writable u b (length out) g
     may-write e =
@@ -100,7 +100,7 @@ module _ {u b : List ℕ} {h g : Header} {n l : ℕ} (a : Headed u b h g n l) wh
           fits = rw (← again-size (well (a .of)) (result-found (a .of)), ← size) e;
         }
 
-    pub written : (out′ : List ℕ) → g .offsets .lines + lineSize * l ≤ length out → out′ ≡ putMid 0 (length (unitAgain u b)) out (unitAgain u b)
+    pub written : (out′ : List ℕ) → g .offsets .lines + lineSize * l ≤ length out → out′ ≡ putMid 0 (length (laidUnit u b)) out (laidUnit u b)
         → LaysOut u b out (Unit (g .offsets .lines + lineSize * l)) out′
     unfolding laidAnswer unitAnswer resultAnswer roomAnswer outputLaid outputBy
-    written out′ e w = rw (a .of .checked, of-given (a .of), size, le-leb (length (unitAgain u b)) (length out) (rw (← size) e)) (refl, w)
+    written out′ e w = rw (a .of .checked, of-given (a .of), size, le-leb (length (laidUnit u b)) (length out) (rw (← size) e)) (refl, w)

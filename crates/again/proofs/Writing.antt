@@ -18,7 +18,7 @@ use Rattle.unit.specs.Size.{headerSize, instructionSize, metadataSize, lineSize
 use Rattle.unit.specs.laws.UnitLaws.{WellFormed, unit-laid}
 use Rattle.unit.specs.declared.Header.{Header}
 use Rattle.again.specs.Again.{countsWith, offsetsOf, headerWith, headerWords, headerBytes, bytesOf}
-use Rattle.again.specs.LaidOut.{unitAgain}
+use Rattle.again.specs.LaidOut.{laidUnit}
 use Rattle.again.specs.laws.Entries.{bytes-next, ahead-long}
 use Rattle.again.specs.laws.Found.{ResultOf, again-parts, Writable}
 use Rattle.again.specs.laws.Laid.{sizeWith, words-long, header-long}
@@ -130,7 +130,7 @@ module _ {u b : List ℕ} (f : WellFormed u) (r : ResultOf (headerOf u .counts) 
         fits = e;
       }
 
-  lined-again : Bytes b → linedBytes u b again ≡ unitAgain u b
+  lined-again : Bytes b → linedBytes u b again ≡ laidUnit u b
   unfolding countsWith headerOf
   lined-again bytes = rw (as-many, r .metadata, r .lines) (sym (again-parts f r bytes))
 
@@ -181,7 +181,7 @@ module _ {u b : List ℕ} (out : List ℕ) {h : Header} (p : Parts u b (length o
   wrote-lines start s f e =
       begins-more f (midOf (u32At b 20) (lineSize * h .counts .lines) b) _ _ (shared-long p) (mid-long b (u32At b 20) _ (p .lines-in)) (p .fits) (e ∙ rw s)
 
-pub unit-written : {u b : List ℕ} (out : List ℕ) {h : Header} → Writable u b (length out) h → Bytes b → {w : List ℕ} → Begins out w (linedBytes u b h) → w ≡ putMid 0 (length (unitAgain u b)) out (unitAgain u b)
+pub unit-written : {u b : List ℕ} (out : List ℕ) {h : Header} → Writable u b (length out) h → Bytes b → {w : List ℕ} → Begins out w (linedBytes u b h) → w ≡ putMid 0 (length (laidUnit u b)) out (laidUnit u b)
 unit-written {u} {b} out {h} w bytes e =
-    let all : linedBytes u b h ≡ unitAgain u b = ap (linedBytes u b) (w .header) ∙ lined-again (unit-laid u (w .laid)) (w .result) bytes in
+    let all : linedBytes u b h ≡ laidUnit u b = ap (linedBytes u b) (w .header) ∙ lined-again (unit-laid u (w .laid)) (w .result) bytes in
     e .front ∙ ap (λ (l : List ℕ). putMid 0 (length l) out l) all

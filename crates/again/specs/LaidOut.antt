@@ -47,15 +47,15 @@ isResultOf c b =
     && leb l (c .lines)
 
 -- the unit again of a unit and a result of it at the front of a buffer
-abbrev pub unitAgain : List ℕ → List ℕ → List ℕ
-unitAgain u b = unitOf u (cellsAfter (readResult b)) (readLines b)
+abbrev pub laidUnit : List ℕ → List ℕ → List ℕ
+laidUnit u b = unitOf u (cellsAfter (readResult b)) (readLines b)
 
 -- The answers, from the last row upward: each is what its test says, or else the rows below it. u is the unit, b the buffer with the
 -- result, and room the length of the buffer to write to.
 
 -- refused 2, place 0: the buffer to write to is shorter than the unit again
 unfoldable pub roomAnswer : List ℕ → List ℕ → ℕ → Laid
-roomAnswer u b room = let size = length (unitAgain u b) in cond (leb size room) (Unit size) (Refused shortBuffer 0)
+roomAnswer u b room = let size = length (laidUnit u b) in cond (leb size room) (Unit size) (Refused shortBuffer 0)
 
 -- none: there is no result of this unit
 unfoldable pub resultAnswer : List ℕ → List ℕ → ℕ → Laid
@@ -76,4 +76,4 @@ outputBy unit out (Refused k p) = out
 outputBy unit out None = out
 
 unfoldable pub outputLaid : List ℕ → List ℕ → List ℕ → List ℕ
-outputLaid u b out = outputBy (unitAgain u b) out (laidAnswer u b (length out))
+outputLaid u b out = outputBy (laidUnit u b) out (laidAnswer u b (length out))

@@ -29,7 +29,7 @@ use Rattle.run.specs.Given.{lines-fit, Returnable, Worked, cells-long, answer-w
 use Rattle.run.specs.Returned.{givenFunction}
 use Rattle.run.specs.laws.Reading.{middle, result-back}
 use Rattle.again.specs.Again.{bytesOf, unitOf}
-use Rattle.again.specs.LaidOut.{readLines, unitAgain, roomAnswer, resultAnswer, unitAnswer, laidAnswer, outputBy, outputLaid}
+use Rattle.again.specs.LaidOut.{readLines, laidUnit, roomAnswer, resultAnswer, unitAnswer, laidAnswer, outputBy, outputLaid}
 use Rattle.again.specs.Units.{refused-none, fewer, lines-below}
 use Rattle.again.specs.declared.Laid.the-variants.{Unit}
 use Rattle.again.specs.laws.Entries.{entry-mid}
@@ -147,7 +147,7 @@ module _ (u : List ℕ) (bytes : Bytes u) (laid : (k p : ℕ) → layoutOf u ≡
         rw (lines-at, lined-read)
         (ap linesIn (lines-bytes kept moved rest) ∙ lines-back (length kept) moved (omega arith) (lines-below u bytes room w kept r))
 
-    same-unit : unitAgain u buffer ≡ unitOf u (cellsAfter kept) moved
+    same-unit : laidUnit u buffer ≡ unitOf u (cellsAfter kept) moved
     same-unit = rw (read-back, lines-read)
 
     answered : (size : ℕ) → length (unitOf u (cellsAfter kept) moved) ≤ size → laidAnswer u buffer size ≡ Unit (length (unitOf u (cellsAfter kept) moved))

@@ -7,7 +7,7 @@ ghost use borrow.Rule.Slice.PartMut.{midOf, putMid};
 ghost use Rattle.words.specs.Le.{u32At};
 ghost use Rattle.unit.specs.Size.{headerSize, resultHeaderSize};
 ghost use Rattle.again.specs.Again.{countsWith, offsetsOf, headerWith, headerWords, headerBytes};
-ghost use Rattle.again.specs.LaidOut.{hasOffsets, isResultOf, unitAgain, laidAnswer, outputLaid};
+ghost use Rattle.again.specs.LaidOut.{hasOffsets, isResultOf, laidUnit, laidAnswer, outputLaid};
 ghost use Rattle.again.specs.laws.Found.{linesAt, Writable};
 use unit::Counts;
 use unit::Header;
@@ -177,8 +177,8 @@ fn copy(to: &mut [u8], at: usize, from: &[u8], start: usize, n: usize)
 // The unit again, with header h, at the front of a buffer. What stands between metadata and lines is the given unit's.
 fn write(unit: &[u8], result: &[u8], out: &mut [u8], h: Header)
     requires writable { ⌜ Writable (now unit) (now result) (length (now out)) h ⌝ }
-    ensures out { λ _. ⌜ now (out .exit) ≡ putMid 0 (length (unitAgain (now (unit .entry)) (now (result .entry))))
-        (now (out .entry)) (unitAgain (now (unit .entry)) (now (result .entry))) ⌝ }
+    ensures out { λ _. ⌜ now (out .exit) ≡ putMid 0 (length (laidUnit (now (unit .entry)) (now (result .entry))))
+        (now (out .entry)) (laidUnit (now (unit .entry)) (now (result .entry))) ⌝ }
 {
     let c = h.counts;
     let o = h.offsets;

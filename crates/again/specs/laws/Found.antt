@@ -25,7 +25,7 @@ use Rattle.unit.specs.declared.Header.{Header}
 use Rattle.answer.specs.Clean.{retainedCell, cellsAfter}
 use Rattle.run.specs.laws.Reading.{codeIn, metadataIn, retainedIn}
 use Rattle.again.specs.Again.{headerWith, headerBytes, bytesOf, cellCode, cellMetadata, unitOf}
-use Rattle.again.specs.LaidOut.{readLines, hasOffsets, isResultOf, unitAgain}
+use Rattle.again.specs.LaidOut.{readLines, hasOffsets, isResultOf, laidUnit}
 use Rattle.again.specs.laws.Laid.{sizeWith, again-long}
 use Rattle.again.specs.laws.Same.{instruction-same, metadata-same, line-same, entries-same}
 
@@ -174,11 +174,11 @@ module _ {u : List ℕ} (w : WellFormed u) where
       cases ∙ ap (λ (k : ℕ). midOf at k u) all
 
   module _ {b : List ℕ} (r : ResultOf (headerOf u .counts) b) where
-    pub again-size : length (unitAgain u b) ≡ sizeWith (headerOf u .counts) (u32At b 0) (u32At b 16)
+    pub again-size : length (laidUnit u b) ≡ sizeWith (headerOf u .counts) (u32At b 0) (u32At b 16)
     again-size = again-long w (cellsAfter (readResult b)) (readLines b) ∙ rw (read-many r, read-lined r)
 
     pub again-parts : Bytes b
-        → unitAgain u b ≡ headerBytes (headerWith (headerOf u .counts) (u32At b 0) (u32At b 16)) ++ codeIn (u32At b 0) b ++ metadataIn (u32At b 0) b ++ othersOf u ++ linesBytesIn b
+        → laidUnit u b ≡ headerBytes (headerWith (headerOf u .counts) (u32At b 0) (u32At b 16)) ++ codeIn (u32At b 0) b ++ metadataIn (u32At b 0) b ++ othersOf u ++ linesBytesIn b
     unfolding unitOf
     again-parts bytes =
         rw (read-many r, read-lined r, code-read r bytes, metadata-read r bytes, lines-read r bytes, ← others) (simp append-assoc)
