@@ -48,7 +48,7 @@ pub record UnitAgain (u : List ℕ) (kept : List Retained) (lines : List Line) :
 -- ---- what a rewritten unit is
 
 -- its layout was not refused
-refused-none : (u : List ℕ) (room : Bool) (kept : List Retained) (k p : ℕ) → layoutOf u ≡ Refused k p → answerWith room u ≡ rewritten kept → ⊥
+pub refused-none : (u : List ℕ) (room : Bool) (kept : List Retained) (k p : ℕ) → layoutOf u ≡ Refused k p → answerWith room u ≡ rewritten kept → ⊥
 unfolding answerWith admission laidOut afterAdmission
 refused-none u room kept k p e f =
     let g : refused k p ≡ rewritten kept = rw e at f in
@@ -90,7 +90,7 @@ given-line u b i h =
 
 -- ---- what is returned
 
-module _ (u : List ℕ) (b : Bytes u) (room : Bool) (w : Worked u room) (kept : List Retained) (r : Returnable (givenFunction u) (headerOf u .counts .cases) kept) (narrow : Narrow (cellsAfter kept)) where
+module _ (u : List ℕ) (b : Bytes u) (room : Bool) (w : Worked u room) (kept : List Retained) (r : Returnable (givenFunction u) (headerOf u .counts .cases) kept) where
   abbrev given : List Line
   given = linesIn (linesOf u)
 
@@ -100,7 +100,7 @@ module _ (u : List ℕ) (b : Bytes u) (room : Bool) (w : Worked u room) (kept : 
   laid : WellFormed u
   laid = unit-laid u (w .laid)
 
-  fewer : length lines ≤ headerOf u .counts .lines
+  pub fewer : length lines ≤ headerOf u .counts .lines
   fewer =
       let most = moved-few (below (placesOf kept)) (length (placesOf kept)) given in
       let long : length given ≡ length (linesOf u) / lineSize = length-tabulate (length (linesOf u) / lineSize) (lineAt (linesOf u)) in
@@ -111,13 +111,13 @@ module _ (u : List ℕ) (b : Bytes u) (room : Bool) (w : Worked u room) (kept : 
   unfolding givenFunction
   fits = small u b laid (w .described) (length kept) (length lines) (rw (cells-long u) at (r .shorter)) fewer
 
-  lines-below : (k : ℕ) → k < length lines → Below (length kept) (lineIn lines k)
+  pub lines-below : (k : ℕ) → k < length lines → Below (length kept) (lineIn lines k)
   lines-below =
       moved-each (below (placesOf kept)) (length (placesOf kept)) (Below (length kept)) given
       (λ i h inside. record { place = rw (places-long kept) at inside; line = given-line u b i h })
 
-  returned : UnitAgain u kept (movedLines (placesOf kept) (linesIn (linesOf u)))
-  returned =
+  returned : Narrow (cellsAfter kept) → UnitAgain u kept (movedLines (placesOf kept) (linesIn (linesOf u)))
+  returned narrow =
       let long : length (cellsAfter kept) ≡ length kept = length-map kept retainedCell in
       let good : (p : ℕ) → p < length (cellsAfter kept) → goodMetadata (headerOf u .counts .cases) (cellAt (cellsAfter kept) p .metadata) ≡ true =
       λ p h. rw (retained-at kept p) (r .fits p (rw long at h) .metadata .good) in

@@ -7,3 +7,4 @@ pub mod Narrow
 pub mod Lines
 pub mod Unit
 pub mod Same
+pub mod Found

@@ -1,7 +1,7 @@
 -- The bytes of entries: how many they are, and where each entry's are.
 -- Assumes nothing.
 use mathlib.Core.Path.{_≡_, refl, sym, ap, _∙_}
-use mathlib.Core.List.{List, [], _∷_, _++_, append-assoc}
+use mathlib.Core.List.{List, [], _∷_, _++_, append-assoc, append-nil}
 use Prim.Native.Nat.{ℕ, zero, suc, _+_, _*_, _<_}
 use native.Mathlib.Nat.{mul-zero, mul-suc}
 use native.Mathlib.Omega.{arith}
@@ -21,13 +21,14 @@ module _ {A : Type 0} (bytes : A → List ℕ) where
       ap (λ (l : List ℕ). bytes x ++ l) (around xs k d (omega arith)) ∙ simp append-assoc
 
   -- what stands before the next entry
-  pub next-long : (xs : List A) (k : ℕ) (d : A) → k < length xs → length (bytesOf bytes (take (suc k) xs)) ≡ length (bytesOf bytes (take k xs)) + length (bytes (getD xs k d))
+  pub bytes-next : (xs : List A) (k : ℕ) (d : A) → k < length xs → bytesOf bytes (take (suc k) xs) ≡ bytesOf bytes (take k xs) ++ bytes (getD xs k d)
   unfolding bytesOf
-  next-long [] k d h = absurd (omega arith)
-  next-long (x ∷ xs) zero d h = length-append (bytes x) [] ∙ omega arith
-  next-long (x ∷ xs) (suc k) d h =
-      let rest = next-long xs k d (omega arith) in
-      rw (length-append (bytes x) (bytesOf bytes (take (suc k) xs)), length-append (bytes x) (bytesOf bytes (take k xs))) (omega arith)
+  bytes-next [] k d h = absurd (omega arith)
+  bytes-next (x ∷ xs) zero d h = append-nil (bytes x)
+  bytes-next (x ∷ xs) (suc k) d h = ap (λ (l : List ℕ). bytes x ++ l) (bytes-next xs k d (omega arith)) ∙ simp append-assoc
+
+  pub next-long : (xs : List A) (k : ℕ) (d : A) → k < length xs → length (bytesOf bytes (take (suc k) xs)) ≡ length (bytesOf bytes (take k xs)) + length (bytes (getD xs k d))
+  next-long xs k d h = ap length (bytes-next xs k d h) ∙ length-append (bytesOf bytes (take k xs)) (bytes (getD xs k d))
 
   module _ (size : ℕ) (long : (x : A) → length (bytes x) ≡ size) where
     pub bytes-long : (xs : List A) → length (bytesOf bytes xs) ≡ size * length xs

@@ -31,11 +31,11 @@ pub record Small (c : Counts) (n l : ℕ) : Type 0 where
   pub offset : offsetsOf (countsWith c n l) .lines < 2 ^ 32
   pub lines : l < 2 ^ 32
 
-words-long : (h : Header) → length (headerWords h) ≡ 18
+pub words-long : (h : Header) → length (headerWords h) ≡ 18
 unfolding headerWords
 words-long h = refl
 
-header-long : (h : Header) → length (headerBytes h) ≡ headerSize
+pub header-long : (h : Header) → length (headerBytes h) ≡ headerSize
 header-long h = bytes-long (toLe 4) 4 (length-toLe 4) (headerWords h) ∙ rw (words-long h)
 
 pub code-long : (cells : List Cell) → length (bytesOf cellCode cells) ≡ instructionSize * length cells

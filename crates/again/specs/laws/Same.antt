@@ -44,7 +44,7 @@ module _ (l : List ℕ) (b : Bytes l) where
   number-same : (k i : ℕ) → i + k ≤ length l → toLe k (leAt k l i) ≡ midOf i k l
   number-same k i h = to-from k (midOf i k l) (bytes-mid i k l b) (mid-long l i k h)
 
-  instruction-same : (p : ℕ) → 8 * p + 8 ≤ length l → toLe 8 (toWord (instructionAt l p)) ≡ midOf (8 * p) 8 l
+  pub instruction-same : (p : ℕ) → 8 * p + 8 ≤ length l → toLe 8 (toWord (instructionAt l p)) ≡ midOf (8 * p) 8 l
   unfolding toWord instructionAt
   instruction-same p h =
       let last : 8 * p + 4 + 2 ≡ 8 * p + 6 = omega arith in
@@ -52,7 +52,7 @@ module _ (l : List ℕ) (b : Bytes l) where
       rw (u64-halves l (8 * p) (omega arith), u32-halves l (8 * p) (omega arith), u32-halves l (8 * p + 4) (omega arith), u16-bytes l (8 * p) (omega arith), last) (omega arith) in
       ap (toLe 8) (sym word) ∙ number-same 8 (8 * p) h
 
-  metadata-same : (k : ℕ) → 16 * k + 16 ≤ length l → metadataBytes (metadataAt l k) ≡ midOf (16 * k) 16 l
+  pub metadata-same : (k : ℕ) → 16 * k + 16 ≤ length l → metadataBytes (metadataAt l k) ≡ midOf (16 * k) 16 l
   unfolding metadataAt
   metadata-same k h =
       let f = metadata-fields l k b in
@@ -70,7 +70,7 @@ module _ (l : List ℕ) (b : Bytes l) where
         mid-add l (16 * k) 4 4,
       )
 
-  line-same : (k : ℕ) → 8 * k + 8 ≤ length l → lineBytes (lineAt l k) ≡ midOf (8 * k) 8 l
+  pub line-same : (k : ℕ) → 8 * k + 8 ≤ length l → lineBytes (lineAt l k) ≡ midOf (8 * k) 8 l
   unfolding lineAt lineBytes
   line-same k h = rw (number-same 4 (8 * k) (omega arith), number-same 4 (8 * k + 4) (omega arith), mid-add l (8 * k) 4 4)
 

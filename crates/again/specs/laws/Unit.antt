@@ -82,7 +82,7 @@ module _ (n : ℕ) (lines : List Line) (few : n < 2 ^ 32) (below : (k : ℕ) →
           rw (line-back (suc k) next) (lt-ltb (lineIn lines k .place) (lineIn lines (suc k) .place) (rise k (suc k) (omega arith) next))
       go false e = lt-ltb (lineIn lines k .place) n (below k h .place)
 
-  lines-back : linesIn (bytesOf lineBytes lines) ≡ lines
+  pub lines-back : linesIn (bytesOf lineBytes lines) ≡ lines
   lines-back =
       let count : ℕ = length (bytesOf lineBytes lines) / lineSize in
       let long : length (linesIn (bytesOf lineBytes lines)) ≡ length lines = let bytes = lines-long lines in length-tabulate count (lineAt (bytesOf lineBytes lines)) ∙ omega arith in
