@@ -5,3 +5,4 @@ pub mod Checking
 pub mod Execution
 pub mod Advance
 pub mod Unit
+pub mod Passed

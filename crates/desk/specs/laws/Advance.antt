@@ -112,11 +112,11 @@ module _ (F : Function) (A : Runnable F) where
   abbrev due : ℕ → List ℕ → Due
   due = dueAt S cells
 
-  -- it goes below 2^32, with a frame of as many words
-  pub goes-on : (k p : ℕ) (f : List ℕ) (q : ℕ) (g : List ℕ) → length cells < 2 ^ 32 → p < length cells → length f ≡ S .locals → q ≡ goesTo (due p f) → g ≡ frameAfter f (due p f) → q < 2 ^ 32
+  -- it goes on, with a frame of as many words
+  pub goes-on : (k p : ℕ) (f : List ℕ) (q : ℕ) (g : List ℕ) → p < length cells → length f ≡ S .locals → q ≡ goesTo (due p f) → g ≡ frameAfter f (due p f) → q < 2 ^ 32
       → (advanced S cells (suc k) p f ≡ advanced S cells k q g) × (length g ≡ S .locals)
   unfolding advanced onward goesTo frameAfter
-  goes-on k p f q g few i long e h l = rw (lt-ltb p (length cells) i) (go (due p f) refl)
+  goes-on k p f q g i long e h l = rw (lt-ltb p (length cells) i) (go (due p f) refl)
     where
       go : (d : Due) → due p f ≡ d → (onward p (suc k) f (advanced S cells k) d ≡ advanced S cells k q g) × (length g ≡ S .locals)
       go (goes r j) d =

@@ -1,15 +1,14 @@
 -- The run of a unit's function, by the bytes of its sections.
 -- Assumes nothing.
 use mathlib.Core.Path.{_≡_, refl, sym, ap, _∙_}
-use mathlib.Core.Bool.{Bool, true, false, cond, true≢false}
+use mathlib.Core.Bool.{Bool, true, false, cond, _&&_, true≢false}
 use mathlib.Core.List.{List, [], _∷_}
 use Prim.Native.Nat.{ℕ, zero, suc, _+_, _-_, _*_, _/_, _^_, _≤_, _<_}
 use native.Mathlib.Omega.{arith}
 use lib.Dec.{ltb}
 use lib.ListN.{length}
-use borrow.Author.Tests.{lt-ltb, le-ltb}
+use borrow.Author.Tests.{ltb-true, ltb-false, lt-ltb, le-ltb}
 use Rattle.words.specs.Bytes.{Bytes}
-use Rattle.words.specs.laws.Bytes.{le-fits}
 use Rattle.instruction.specs.Class.{namedClass, numberOf}
 use Rattle.instruction.specs.laws.Class.{named-number}
 use Rattle.instruction.specs.Instruction.{class, instructionAt}
@@ -34,22 +33,19 @@ use Rattle.effects.specs.declared.Range.{Range}
 use Rattle.effects.specs.laws.ByClass.{isOutside, readsByClass, writesByClass, reads-by-class, writes-by-class}
 use Rattle.effects.specs.laws.Sound.{sound, within-slot}
 use Rattle.words.specs.Lists.{isIn}
-use Rattle.words.specs.laws.Truth.{left-true}
+use Rattle.words.specs.laws.Truth.{left-true, right-true}
 use Rattle.values.specs.Fold.{foldingUnary, foldingBinary}
 use Rattle.desk.specs.declared.Stop.{Stop}
 use Rattle.desk.specs.declared.Stop.the-variants.{Returned, Panicked, Ended, Other, Limit}
 use Rattle.desk.specs.Desk.{Due, goes, stops, notExecuted, loads, dueBy, dueAt}
-use Rattle.desk.specs.laws.Advance.{stopBy, stopAt}
-use Rattle.desk.specs.laws.Execution.{dueIn, Executable}
+use Rattle.desk.specs.laws.Advance.{Advance, stands, advanced, at-once, goes-on, stays-there, stopBy, stopAt}
+use Rattle.desk.specs.laws.Checking.{places, places-few, read-cell}
+use Rattle.desk.specs.laws.Execution.{goesTo, frameAfter, dueIn, Executable}
 use Rattle.desk.specs.laws.Stands.{isExecuted}
 
 -- ---- the places of a unit's code
 
 module _ (u : List ℕ) (laid : isUnit u ≡ true) where
-  -- as many as its bytes say
-  pub places : (code : List ℕ) → code ≡ codeOf u → length code / 8 ≡ length (cellsOf u)
-  places code e = let l = unit-laid u laid .lengths .code in rw e (rw (cells-long u) (omega (arith, l)))
-
   pub place-inside : (code : List ℕ) (p : ℕ) → code ≡ codeOf u → p < length (cellsOf u) → 8 * p + 8 ≤ length code
   place-inside code p e h = let l = unit-laid u laid .lengths .code in rw e (omega (arith, l, cells-long u))
 
@@ -57,10 +53,6 @@ module _ (u : List ℕ) (laid : isUnit u ≡ true) where
       → dueAt (sectionsOf u) (cellsOf u) p f ≡ dueIn code constants p f
   unfolding sectionsOf
   due-in code constants p f c k h = rw (c, k, cell-at u p (omega (arith, cells-long u))) refl
-
-pub few-places : (u : List ℕ) → Bytes u → length (cellsOf u) < 2 ^ 32
-unfolding headerOf
-few-places u b = rw (cells-long u) (le-fits 4 u 0 b)
 
 -- ---- how it stops, by the class
 
@@ -191,8 +183,8 @@ module _ (u : List ℕ) (b : Bytes u) (laid : isUnit u ≡ true) (A : Runnable (
 
   pub executable : (s : ℕ) → s ≡ sectionsOf u .locals → Executable s p (instructionAt code p)
   executable s e =
-      let same : x .instruction ≡ instructionAt code p = rw (c, cell-at u p (omega (arith, cells-long u))) refl in
-      let few = few-places u b in
+      let same : x .instruction ≡ instructionAt code p = sym (read-cell u p c h) in
+      let few = places-few u b in
       rw (← same, e)
       record {
         place = omega arith;
@@ -200,3 +192,47 @@ module _ (u : List ℕ) (b : Bytes u) (laid : isUnit u ≡ true) (A : Runnable (
         read = λ k z. room _ _ _ (reads k) z;
         written = λ k z. room _ _ _ (writ k) z;
       }
+
+-- ---- the turns of the loop
+
+module _ (u : List ℕ) (laid : isUnit u ≡ true) (code : List ℕ) (c : code ≡ codeOf u) (left p : ℕ) where
+  abbrev goesOn : Bool
+  goesOn = ltb 0 left && ltb p (length code / 8)
+
+  -- a step is left, and there is an instruction
+  pub turn-inside : goesOn ≡ true → (0 < left) × (p < length (cellsOf u))
+  turn-inside t =
+      let n = places u laid c in
+      let some = ltb-true 0 left (left-true (ltb 0 left) (ltb p (length code / 8)) t) in
+      let inside = ltb-true p (length code / 8) (right-true (ltb 0 left) (ltb p (length code / 8)) t) in
+      (some, omega arith)
+
+  -- or the run goes no further
+  pub turn-over : (f : List ℕ) → goesOn ≡ false → advanced (sectionsOf u) (cellsOf u) left p f ≡ stands p left f
+  unfolding advanced
+  turn-over f t = go left (ltb p (length code / 8)) refl t
+    where
+      go : (left : ℕ) (b : Bool) → ltb p (length code / 8) ≡ b → (ltb 0 left && b) ≡ false → advanced (sectionsOf u) (cellsOf u) left p f ≡ stands p left f
+      go zero b e t = refl
+      go (suc k) true e t = absurd (true≢false (rw (lt-ltb 0 (suc k) (omega arith)) at t))
+      go (suc k) false e t = at-once (sectionsOf u) (cellsOf u) (suc k) p f (rw (← places u laid c) (ltb-false p (length code / 8) e))
+
+module _ (u : List ℕ) (b : Bytes u) (laid : isUnit u ≡ true) (A : Runnable (givenFunction u)) (code constants : List ℕ) (c : code ≡ codeOf u) (k : constants ≡ constantsOf u)
+    (left p : ℕ) (f : List ℕ) (some : 0 < left) (h : p < length (cellsOf u)) (long : length f ≡ sectionsOf u .locals)
+    (q : ℕ) (g : List ℕ) (place : q ≡ goesTo (dueIn code constants p f)) (frame : g ≡ frameAfter f (dueIn code constants p f)) where
+  abbrev here : Advance
+  here = advanced (sectionsOf u) (cellsOf u) left p f
+
+  due : dueAt (sectionsOf u) (cellsOf u) p f ≡ dueIn code constants p f
+  due = due-in u laid code constants p f c k h
+
+  again : suc (left - 1) ≡ left
+  again = omega arith
+
+  pub turn-goes : q < 2 ^ 32 → (here ≡ advanced (sectionsOf u) (cellsOf u) (left - 1) q g) × (length g ≡ sectionsOf u .locals)
+  unfolding givenFunction
+  turn-goes l = rw again at (goes-on (givenFunction u) A (left - 1) p f q g h long (rw due place) (rw due frame) l)
+
+  pub turn-stays : 2 ^ 32 ≤ q → (here ≡ stands p left f) × (g ≡ f)
+  unfolding givenFunction
+  turn-stays l = rw again at (stays-there (givenFunction u) A (left - 1) p f q g (places-few u b) h long (rw due place) (rw due frame) l)
