@@ -1,4 +1,5 @@
 pub mod Desk
 pub mod Answer
 pub mod Likewise
+pub mod Rewritten
 pub mod laws

@@ -352,7 +352,7 @@ module _ (u : List ℕ) (b : Bytes u) (room : Bool) where
         targets = λ p h t. (let i = target-inside (cellsOf u) (passed .1) p h t in omega arith);
       }
 
-abbrev RunsLikewise : List ℕ → List Retained → Type 0
+abbrev pub RunsLikewise : List ℕ → List Retained → Type 0
 RunsLikewise u kept = (k : ℕ) (f : List ℕ) → length f ≡ sectionsOf u .locals
     → Likewise (runFrom (sectionsOf u) (cellsOf u) k 0 f .stop) (runFrom (sectionsOf u) (cellsOf u) k 0 f .frame) (runFrom (sectionsOf u) (cellsAfter kept) k 0 f)
 

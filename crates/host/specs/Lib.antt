@@ -1,3 +1,4 @@
+pub mod DeskNumbers
 pub mod Numbers
 pub mod OperandNumbers
 pub mod ShortNumbers

@@ -6,8 +6,14 @@ ghost use Rattle.short.specs.Short.{madeOf, bufferAfter};
 ghost use Rattle.run.specs.Contract.{PassContract, CleanContract, buffers, spares};
 ghost use Rattle.host.specs.Numbers.{numbersOf, numbersOfOutcome, numbersOfCleaning};
 ghost use Rattle.host.specs.OperandNumbers.{OperandContract};
+ghost use Rattle.again.specs.LaidOut.{laidAnswer, outputLaid};
+ghost use Rattle.desk.specs.Answer.{deskAnswer, stepAnswer};
+ghost use Rattle.host.specs.DeskNumbers.{stopNumbersOf, nextNumbersOf, laidNumbersOf};
 ghost use Rattle.host.specs.ShortNumbers.{madeNumbersOf, FoundContract};
+use again::Laid;
 use clean::clean;
+use desk::Next;
+use desk::Stop;
 use operand::Operand;
 use operand::smallest;
 use optimize::Answer;
@@ -166,4 +172,126 @@ pub extern "C" fn lampruda_short_number(unit: &[u8]) -> FoundNumbers
         Found::At(number) => FoundNumbers { kind: 0, number },
         Found::None => FoundNumbers { kind: 1, number: 0 },
     }
+}
+
+// How a run at the desk stops: kind 0 returned, with the first slot and the count of the words that it read; 1 refused,
+// with number and place; 2 panicked, as 0; 3 the end of the code; 4 another instruction, with its place; 5 the limit.
+// Of one step also 6: the run goes on, with the place that is due.
+#[repr(C)]
+pub struct StopNumbers {
+    pub kind: u32,
+    pub first: u32,
+    pub second: u32,
+}
+
+fn stop_numbers(s: Stop) -> StopNumbers
+    ensures numbers { λ r. ⌜ r ≡ stopNumbersOf s ⌝ }
+{
+    match s {
+        Stop::Returned(first, second) => StopNumbers {
+            kind: 0,
+            first,
+            second,
+        },
+        Stop::Refused(first, second) => StopNumbers {
+            kind: 1,
+            first,
+            second,
+        },
+        Stop::Panicked(first, second) => StopNumbers {
+            kind: 2,
+            first,
+            second,
+        },
+        Stop::Ended => StopNumbers {
+            kind: 3,
+            first: 0,
+            second: 0,
+        },
+        Stop::Other(first) => StopNumbers {
+            kind: 4,
+            first,
+            second: 0,
+        },
+        Stop::Limit => StopNumbers {
+            kind: 5,
+            first: 0,
+            second: 0,
+        },
+    }
+}
+
+// A run at the desk.
+#[no_mangle]
+pub extern "C" fn lampruda_run(unit: &[u8], frame: &mut [u64], limit: u32) -> StopNumbers
+    ensures answer { λ r. ⌜ r ≡ stopNumbersOf (deskAnswer (now (unit .entry)) (now (frame .entry)) limit .stop) ⌝ }
+    ensures frame { λ _. ⌜ now (frame .exit) ≡ deskAnswer (now (unit .entry)) (now (frame .entry)) limit .frame ⌝ }
+{
+    stop_numbers(desk::run(unit, frame, limit))
+}
+
+fn next_numbers(n: Next) -> StopNumbers
+    ensures numbers { λ r. ⌜ r ≡ nextNumbersOf n ⌝ }
+{
+    match n {
+        Next::Goes(place) => StopNumbers {
+            kind: 6,
+            first: place,
+            second: 0,
+        },
+        Next::Stops(s) => stop_numbers(s),
+    }
+}
+
+// One step of it.
+#[no_mangle]
+pub extern "C" fn lampruda_step(unit: &[u8], frame: &mut [u64], place: u32) -> StopNumbers
+    ensures answer { λ r. ⌜ r ≡ nextNumbersOf (stepAnswer (now (unit .entry)) (now (frame .entry)) place .next) ⌝ }
+    ensures frame { λ _. ⌜ now (frame .exit) ≡ stepAnswer (now (unit .entry)) (now (frame .entry)) place .frame ⌝ }
+{
+    next_numbers(desk::step(unit, frame, place))
+}
+
+// A result as a unit again: kind 0 a unit, with its length in bytes; 1 refused, with number and place; 2 no result.
+#[repr(C)]
+pub struct LaidNumbers {
+    pub kind: u32,
+    pub number: u32,
+    pub place: u32,
+    pub length: u64,
+}
+
+fn laid_numbers(l: Laid) -> LaidNumbers
+    ensures numbers { λ r. ⌜ r ≡ laidNumbersOf l ⌝ }
+{
+    match l {
+        Laid::Unit(size) => LaidNumbers {
+            kind: 0,
+            number: 0,
+            place: 0,
+            length: size as u64,
+        },
+        Laid::Refused(number, place) => LaidNumbers {
+            kind: 1,
+            number,
+            place,
+            length: 0,
+        },
+        Laid::None => LaidNumbers {
+            kind: 2,
+            number: 0,
+            place: 0,
+            length: 0,
+        },
+    }
+}
+
+// A result laid out as a unit again.
+#[no_mangle]
+pub extern "C" fn lampruda_lay_out(unit: &[u8], result: &[u8], out: &mut [u8]) -> LaidNumbers
+    ensures answer { λ r. ⌜ r ≡ laidNumbersOf (laidAnswer (now (unit .entry)) (now (result .entry))
+        (length (now (out .entry)))) ⌝ }
+    ensures out { λ _. ⌜ now (out .exit) ≡ outputLaid (now (unit .entry)) (now (result .entry)) (now (out .entry)) ⌝ }
+{
+    laid_numbers(again::lay_out(unit, result, out))
 }
