@@ -4,6 +4,8 @@ mod arena;
 mod bench;
 mod chart;
 mod compare;
+mod differences;
+mod faults;
 mod fuzz;
 mod guarded;
 mod mutate;
