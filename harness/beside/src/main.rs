@@ -4,6 +4,7 @@ mod arena;
 mod bench;
 mod chart;
 mod compare;
+mod desk;
 mod differences;
 mod faults;
 mod fuzz;
@@ -12,6 +13,7 @@ mod mutate;
 mod operand;
 mod options;
 mod parallel;
+mod run;
 mod short;
 mod table;
 mod tally;
@@ -23,7 +25,8 @@ const USAGE: &str = "usage: beside compare [--seed S] [--count N] [--profile NAM
        beside bench [--seed S] [--longest N] [--svg FILE] | --unit FILE
        beside fuzz [--seed S] [--count N] [--from INDEX] [--seconds T]
        beside operand [--seed S] [--count N]
-       beside short [--seed S] [--count N]";
+       beside short [--seed S] [--count N]
+       beside run [--seed S] [--count N] [--from INDEX]";
 
 fn main() -> ExitCode {
     let arguments: Vec<String> = std::env::args().skip(1).collect();
@@ -34,6 +37,7 @@ fn main() -> ExitCode {
             "fuzz" => fuzz::run(options),
             "operand" => operand::run(options),
             "short" => short::run(options),
+            "run" => run::run(options),
             _ => Err(USAGE.into()),
         }),
         None => Err(USAGE.into()),
