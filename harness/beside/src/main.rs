@@ -9,6 +9,8 @@ mod differences;
 mod faults;
 mod fuzz;
 mod guarded;
+mod lay_out;
+mod likewise;
 mod mutate;
 mod operand;
 mod options;
@@ -26,7 +28,9 @@ const USAGE: &str = "usage: beside compare [--seed S] [--count N] [--profile NAM
        beside fuzz [--seed S] [--count N] [--from INDEX] [--seconds T]
        beside operand [--seed S] [--count N]
        beside short [--seed S] [--count N]
-       beside run [--seed S] [--count N] [--from INDEX]";
+       beside run [--seed S] [--count N] [--from INDEX]
+       beside likewise [--seed S] [--count N] [--from INDEX]
+       beside lay-out [--seed S] [--count N] [--from INDEX]";
 
 fn main() -> ExitCode {
     let arguments: Vec<String> = std::env::args().skip(1).collect();
@@ -38,6 +42,8 @@ fn main() -> ExitCode {
             "operand" => operand::run(options),
             "short" => short::run(options),
             "run" => run::run(options),
+            "likewise" => likewise::run(options),
+            "lay-out" => lay_out::run(options),
             _ => Err(USAGE.into()),
         }),
         None => Err(USAGE.into()),
