@@ -5,6 +5,7 @@ mod bench;
 mod chart;
 mod compare;
 mod desk;
+mod desk_bench;
 mod differences;
 mod faults;
 mod fuzz;
@@ -24,7 +25,7 @@ use options::Options;
 use std::process::ExitCode;
 
 const USAGE: &str = "usage: beside compare [--seed S] [--count N] [--profile NAME] [--small-world]
-       beside bench [--seed S] [--longest N] [--svg FILE] | --unit FILE
+       beside bench [--seed S] [--longest N] [--svg FILE] | --unit FILE | --desk
        beside fuzz [--seed S] [--count N] [--from INDEX] [--seconds T]
        beside operand [--seed S] [--count N]
        beside short [--seed S] [--count N]

@@ -13,7 +13,7 @@ use unit::{Entry, Header, Unit, HEADER_LEN, MAX_LOCAL_SLOTS};
 /// So many units show every answer.
 const COUNT: u64 = 50_000;
 
-/// A run of which more steps are known is not asked for, unless it ends.
+/// A run that takes more steps, and more than twice as many as there are instructions, is taken for one without end.
 const PATIENCE: u32 = 2_000;
 
 /// So many instructions are checked when a run is made step by step: each step checks them all.
@@ -177,8 +177,9 @@ fn wrong_length(rng: &mut Rng, s: usize) -> usize {
 fn limit(rng: &mut Rng, desk: &Result<Desk, Stop>, words: &[u64]) -> u32 {
     let few = rng.below(30) as u32;
     let Ok(desk) = desk else { return rng.pick(&[0, 1, few, u32::MAX]) };
-    let (stopped, steps) = desk.run(&mut words.to_vec(), PATIENCE);
-    let enough = if stopped.kind == sys::LIMIT { PATIENCE } else { u32::MAX };
+    let patience = PATIENCE.max(2 * desk.n() as u32);
+    let (stopped, steps) = desk.run(&mut words.to_vec(), patience);
+    let enough = if stopped.kind == sys::LIMIT { patience } else { u32::MAX };
     match rng.below(10) {
         0 => 0,
         1 => 1,
@@ -186,7 +187,7 @@ fn limit(rng: &mut Rng, desk: &Result<Desk, Stop>, words: &[u64]) -> u32 {
         3 | 4 => steps.saturating_sub(1),
         5 | 6 => steps,
         7 => steps + 1,
-        _ => rng.pick(&[PATIENCE, enough]),
+        _ => rng.pick(&[patience, enough]),
     }
 }
 
