@@ -176,7 +176,7 @@ fn wrong_length(rng: &mut Rng, s: usize) -> usize {
 /// 0, 1, a few, about the number of steps that the run takes, or more than enough.
 fn limit(rng: &mut Rng, desk: &Result<Desk, Stop>, words: &[u64]) -> u32 {
     let few = rng.below(30) as u32;
-    let Ok(desk) = desk else { return rng.pick(&[0, 1, few, u32::MAX]) };
+    let Ok(desk) = desk else { return rng.pick(&[0, 1, few, PATIENCE]) };
     let patience = PATIENCE.max(2 * desk.n() as u32);
     let (stopped, steps) = desk.run(&mut words.to_vec(), patience);
     let enough = if stopped.kind == sys::LIMIT { patience } else { u32::MAX };
