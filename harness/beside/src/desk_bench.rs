@@ -17,13 +17,13 @@ extern "C" {
 }
 
 /// Steps of a sample: each function goes round until then.
-const STEPS: u32 = 1_000_000;
+const STEPS: u32 = 100_000;
 
 /// Instructions that a sample of starts checks at least.
-const CHECKED: usize = 500_000;
+const CHECKED: usize = 40_000;
 
 /// Samples of each, taken in turn.
-const SAMPLES: usize = 41;
+const SAMPLES: usize = 601;
 
 const LAWS: [usize; 3] = [20, 970, 9_700];
 
