@@ -167,7 +167,7 @@ fn wanted(unit: &[u8], result: &[u8]) -> Result<Vec<u8>, Made> {
 }
 
 /// What stands at the front of these bytes, if it is laid out as a result and has no more instructions, metadata and
-/// lines than the unit, since "A buffer of the given unit's length is long enough".
+/// lines than the unit: a buffer of the unit's length is to be long enough.
 fn result_of(unit: &Unit, bytes: &[u8]) -> Option<Rewritten> {
     let front = bytes.get(..RESULT_HEADER_LEN)?;
     let result = Rewritten::decode(bytes.get(..Rewritten::len_at(front))?)?;

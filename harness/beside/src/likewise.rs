@@ -126,12 +126,11 @@ impl Worker {
             let unit = Unit::check(bytes).expect("what is rewritten is a unit");
             let wanted = Rewritten::decode(result).expect("rewritten to a result").as_unit(&unit);
             let lent = Lent { unit: &mut self.unit, result: &mut self.result, out: &mut self.out };
-            let laid = lent.lay_out(rng, bytes, result);
-            laid.and_then(
-                |laid| if laid == wanted { Ok(()) } else { Err("laid out as another unit".into()) },
-            )
-            .and_then(|()| likewise(rng, bytes, &wanted, counts))
-            .map_err(|text| format!("{call:?}: {text}"))?;
+            let of_call = |text: String| format!("{call:?}: {text}");
+            if lent.lay_out(rng, bytes, result).map_err(of_call)? != wanted {
+                return Err(of_call("laid out as another unit".into()));
+            }
+            likewise(rng, bytes, &wanted, counts).map_err(of_call)?;
         }
         Ok(())
     }
@@ -145,7 +144,7 @@ struct Lent<'a> {
 }
 
 impl<'a> Lent<'a> {
-    /// "A buffer of the given unit's length is long enough; its rest stays".
+    /// In a buffer of the given unit's length, which is always long enough, and whose rest stays.
     fn lay_out(self, rng: &mut Rng, unit: &[u8], result: &[u8]) -> Result<&'a [u8], String> {
         let noise = rng.word() as u8;
         let given = self.unit.lend::<u8>(unit.len(), rng.percent(50));
