@@ -12,7 +12,7 @@ fn main() {
     let compiler = env::var("CC").unwrap_or_else(|_| "cc".into());
     let object = PathBuf::from(env::var_os("OUT_DIR").unwrap()).join("plain.o");
     let flags = ["-std=c99", "-Wall", "-Wextra", "-O2", "-fPIC"];
-    // Elsewhere its loop takes up to one and a half times as long, as the linker happens to place it.
+    // Left to the compiler, its loop takes up to one and a half times as long: docs/BENCHMARK.md.
     let aligned = ["-falign-functions=64", "-falign-labels=16"];
     let compiled =
         Command::new(&compiler).args(flags).args(aligned).args(["-c", SOURCE, "-o"]).arg(&object).status();
