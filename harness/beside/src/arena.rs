@@ -28,6 +28,9 @@ pub struct Arena {
     pages: usize,
 }
 
+// SAFETY: the mapping is its own, and is lent by it alone.
+unsafe impl Send for Arena {}
+
 impl Arena {
     pub fn new(pages: usize) -> Self {
         let length = (pages + 2) * PAGE;

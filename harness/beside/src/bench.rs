@@ -1,9 +1,11 @@
 //! `beside bench`: one pass, ours beside the reference, in nanoseconds an instruction.
 //!
 //! Ours is the whole call over a unit: the layout's check, the work, the result, the zeroing of what was lent.
-//! The reference starts from a module already built, and copying that module for each run is not timed.
+//! The reference starts from a module already built, and copying that module for each run is not timed. The desk run
+//! comes last, in `desk_bench`.
 
 use crate::chart::{self, Curve, Panel};
+use crate::desk_bench;
 use crate::options::Options;
 use generate::{Shape, EXTREMES, SHAPES};
 use lampruda::Workspace;
@@ -27,7 +29,11 @@ pub fn run(mut options: Options) -> Result<(), String> {
     let longest = options.number("longest", 65_536)? as usize;
     let svg = options.text("svg");
     let unit = options.text("unit");
+    let desk = options.text("desk").is_some();
     options.done()?;
+    if desk {
+        return desk_bench::run(seed);
+    }
     println!("one pass, nanoseconds an instruction, the least of {SAMPLES:?} samples; seed {seed}");
     println!("{:<18}{:>13}{:>10}{:>11}{:>8}", "shape", "instructions", "ours", "reference", "times");
     if let Some(file) = unit {
@@ -46,14 +52,12 @@ pub fn run(mut options: Options) -> Result<(), String> {
             row(shape.name, &shape.unit(seed, n));
         }
     }
-    match svg {
-        Some(file) => {
-            let title = "One pass: nanoseconds an instruction";
-            let text = chart::svg(title, "instructions", &panels);
-            fs::write(&file, text).map_err(|error| format!("{file}: {error}"))
-        }
-        None => Ok(()),
+    if let Some(file) = svg {
+        let title = "One pass: nanoseconds an instruction";
+        let text = chart::svg(title, "instructions", &panels);
+        fs::write(&file, text).map_err(|error| format!("{file}: {error}"))?;
     }
+    desk_bench::run(seed)
 }
 
 /// Times one shape at all lengths.

@@ -1,16 +1,13 @@
 //! `beside compare`: every answer and every byte, ours beside the reference.
 
+use crate::differences::Differences;
 use crate::guarded::{Buffers, Call};
 use crate::options::Options;
 use crate::parallel;
 use crate::table::{first_rows, returned};
 use crate::tally::Tally;
 use generate::{every_damage, every_opcode, named, small_world, Rng, SmallWorld, PROFILES};
-use unit::{hex, Answer, Cleaned, Lengths, Unit};
-
-/// How many differences are printed, and how many bytes of a unit.
-const PRINTED: usize = 5;
-const PRINTED_BYTES: usize = 4_096;
+use unit::{Answer, Cleaned, Lengths, Unit};
 
 /// Units whose buffers have more elements are called twice only, with buffers as stated and in one other way.
 const LARGE: usize = 200_000;
@@ -44,7 +41,7 @@ pub fn run(mut options: Options) -> Result<(), String> {
 }
 
 /// The named examples, every damage of one unit and every opcode.
-fn fixed(seed: u64) -> Vec<(String, Vec<u8>)> {
+pub fn fixed(seed: u64) -> Vec<(String, Vec<u8>)> {
     let named = named::all().into_iter().map(|named| (named.name.into(), named.unit));
     let damages = every_damage(seed).into_iter().map(|unit| ("every damage".into(), unit));
     let opcodes = every_opcode(seed).into_iter().map(|unit| ("every opcode".into(), unit));
@@ -56,16 +53,7 @@ fn fixed(seed: u64) -> Vec<(String, Vec<u8>)> {
 struct Compared {
     units: u64,
     tally: Tally,
-    differing: u64,
-    first: Vec<Difference>,
-}
-
-/// A unit on which a call is not as expected.
-struct Difference {
-    number: u64,
-    name: String,
-    text: String,
-    unit: Vec<u8>,
+    differences: Differences,
 }
 
 fn compare(seed: u64, count: u64, unit: impl Fn(u64) -> (String, Vec<u8>) + Sync) -> Compared {
@@ -73,22 +61,18 @@ fn compare(seed: u64, count: u64, unit: impl Fn(u64) -> (String, Vec<u8>) + Sync
         let (name, unit) = unit(number);
         compared.units += 1;
         if let Err(text) = compare_unit(&mut Rng::new(seed, number), &unit, &mut compared.tally) {
-            compared.differing += 1;
-            if compared.first.len() < PRINTED {
-                compared.first.push(Difference { number, name, text, unit });
-            }
+            compared.differences.note(number, name, text, unit);
         }
     });
     workers.into_iter().fold(Compared::default(), |mut all, worker| {
         all.units += worker.units;
         all.tally.add(&worker.tally);
-        all.differing += worker.differing;
-        all.first.extend(worker.first);
+        all.differences.add(worker.differences);
         all
     })
 }
 
-fn report(seed: u64, mut compared: Compared, small_world: bool) -> Result<(), String> {
+fn report(seed: u64, compared: Compared, small_world: bool) -> Result<(), String> {
     println!("seed {seed}: {} units, {} calls", compared.units, compared.tally.calls);
     println!("Answers with buffers as stated; refused 2: every call with a buffer too short.");
     compared.tally.print();
@@ -96,17 +80,7 @@ fn report(seed: u64, mut compared: Compared, small_world: bool) -> Result<(), St
         let [unchanged, rewritten, refused] = compared.tally.pass();
         println!("unchanged {unchanged}\nrewritten {rewritten}\nrefused {refused}");
     }
-    if compared.differing == 0 {
-        println!("no difference");
-        return Ok(());
-    }
-    compared.first.sort_by_key(|difference| difference.number);
-    for Difference { number, name, text, unit } in compared.first.iter().take(PRINTED) {
-        let shown = hex::encode(&unit[..unit.len().min(PRINTED_BYTES)]);
-        let rest = if unit.len() > PRINTED_BYTES { ".." } else { "" };
-        println!("difference in unit {number}, {name}: {text}\n  {shown}{rest}");
-    }
-    Err(format!("{} units differ", compared.differing))
+    compared.differences.report()
 }
 
 /// Both calls with buffers of many lengths.

@@ -1,13 +1,13 @@
 //! `beside fuzz`: any bytes and any lengths, every buffer between pages that may not be touched.
 
 use crate::arena::Arena;
+use crate::faults::{self, again, IDLE};
 use crate::guarded::Call;
 use crate::options::Options;
 use crate::table::{first_rows, returned};
 use crate::{mutate, parallel};
 use generate::Rng;
 use lampruda::{sys, Lent};
-use std::cell::Cell;
 use std::fmt;
 use std::io::{self, IsTerminal, Write};
 use std::process;
@@ -27,9 +27,6 @@ const LONGEST: Duration = Duration::from_secs(60);
 /// One call in so many is held against the reference too.
 const REFERRED: usize = 16;
 
-/// A worker without a call.
-const IDLE: u64 = u64::MAX;
-
 pub fn run(mut options: Options) -> Result<(), String> {
     let seed = options.number("seed", 1)?;
     let from = options.number("from", 0)?;
@@ -44,11 +41,11 @@ pub fn run(mut options: Options) -> Result<(), String> {
         next: AtomicU64::new(from),
         stop: AtomicBool::new(false),
     };
-    report_faults(seed);
+    faults::report("fuzz", seed);
     let current: Vec<AtomicU64> = (0..parallel::threads()).map(|_| AtomicU64::new(IDLE)).collect();
     let done: Vec<Result<Counts, String>> = thread::scope(|scope| {
         let handles: Vec<_> = current.iter().map(|current| scope.spawn(|| fuzz.work(current))).collect();
-        watch(seed, &current, || handles.iter().all(|handle| handle.is_finished()));
+        watch(&current, || handles.iter().all(|handle| handle.is_finished()));
         handles.into_iter().map(|handle| handle.join().expect("a worker panicked")).collect()
     });
     let mut all = Counts::default();
@@ -61,42 +58,8 @@ pub fn run(mut options: Options) -> Result<(), String> {
     Ok(())
 }
 
-thread_local! {
-    /// The call under way.
-    static CALL: Cell<u64> = const { Cell::new(IDLE) };
-}
-
-/// The seed, for a fault's report.
-static SEED: AtomicU64 = AtomicU64::new(0);
-
-const SIGBUS: i32 = 7;
-const SIGSEGV: i32 = 11;
-
-extern "C" {
-    fn signal(number: i32, handler: extern "C" fn(i32)) -> usize;
-}
-
-fn again(seed: u64, call: u64) -> String {
-    format!("again: beside fuzz --seed {seed} --from {call} --count 1")
-}
-
-/// The library holds no lock of ours, so the handler may print.
-extern "C" fn fault(_number: i32) {
-    let (seed, call) = (SEED.load(Ordering::Relaxed), CALL.get());
-    eprintln!("call {call} touched memory that it was not lent; {}", again(seed, call));
-    process::abort();
-}
-
-fn report_faults(seed: u64) {
-    SEED.store(seed, Ordering::Relaxed);
-    for number in [SIGSEGV, SIGBUS] {
-        // SAFETY: the handler ends the process.
-        unsafe { signal(number, fault) };
-    }
-}
-
 /// Shows how far the workers are, and ends the process if one of them hangs.
-fn watch(seed: u64, current: &[AtomicU64], is_done: impl Fn() -> bool) {
+fn watch(current: &[AtomicU64], is_done: impl Fn() -> bool) {
     let mut seen: Vec<(u64, Instant)> = current.iter().map(|_| (IDLE, Instant::now())).collect();
     while !is_done() {
         thread::sleep(Duration::from_millis(200));
@@ -105,7 +68,7 @@ fn watch(seed: u64, current: &[AtomicU64], is_done: impl Fn() -> bool) {
             if call != seen.0 {
                 *seen = (call, Instant::now());
             } else if call != IDLE && seen.1.elapsed() > LONGEST {
-                eprintln!("call {call} does not return; {}", again(seed, call));
+                eprintln!("call {call} does not return; {}", again(call));
                 process::exit(1);
             }
         }
@@ -153,11 +116,11 @@ impl Fuzz {
             }
             for call in first..self.end.min(first + SHARE) {
                 current.store(call, Ordering::Relaxed);
-                CALL.set(call);
+                faults::under_way(call);
                 arenas.call(self.seed, call, &mut counts).map_err(|message| {
                     self.stop.store(true, Ordering::Relaxed);
                     current.store(IDLE, Ordering::Relaxed);
-                    format!("{message}\n{}", again(self.seed, call))
+                    format!("{message}\n{}", again(call))
                 })?;
             }
         }

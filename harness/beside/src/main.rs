@@ -4,12 +4,19 @@ mod arena;
 mod bench;
 mod chart;
 mod compare;
+mod desk;
+mod desk_bench;
+mod differences;
+mod faults;
 mod fuzz;
 mod guarded;
+mod lay_out;
+mod likewise;
 mod mutate;
 mod operand;
 mod options;
 mod parallel;
+mod run;
 mod short;
 mod table;
 mod tally;
@@ -18,10 +25,13 @@ use options::Options;
 use std::process::ExitCode;
 
 const USAGE: &str = "usage: beside compare [--seed S] [--count N] [--profile NAME] [--small-world]
-       beside bench [--seed S] [--longest N] [--svg FILE] | --unit FILE
+       beside bench [--seed S] [--longest N] [--svg FILE] | --unit FILE | --desk
        beside fuzz [--seed S] [--count N] [--from INDEX] [--seconds T]
        beside operand [--seed S] [--count N]
-       beside short [--seed S] [--count N]";
+       beside short [--seed S] [--count N]
+       beside run [--seed S] [--count N] [--from INDEX]
+       beside likewise [--seed S] [--count N] [--from INDEX]
+       beside lay-out [--seed S] [--count N] [--from INDEX]";
 
 fn main() -> ExitCode {
     let arguments: Vec<String> = std::env::args().skip(1).collect();
@@ -32,6 +42,9 @@ fn main() -> ExitCode {
             "fuzz" => fuzz::run(options),
             "operand" => operand::run(options),
             "short" => short::run(options),
+            "run" => run::run(options),
+            "likewise" => likewise::run(options),
+            "lay-out" => lay_out::run(options),
             _ => Err(USAGE.into()),
         }),
         None => Err(USAGE.into()),

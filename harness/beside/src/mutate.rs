@@ -42,7 +42,7 @@ fn sections_of_anything(rng: &mut Rng) -> Vec<u8> {
     bytes
 }
 
-fn spoil(rng: &mut Rng, bytes: &mut Vec<u8>) {
+pub fn spoil(rng: &mut Rng, bytes: &mut Vec<u8>) {
     if bytes.is_empty() {
         return;
     }

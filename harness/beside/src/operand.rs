@@ -10,12 +10,12 @@ use std::time::Instant;
 use text::Opcode::{self, *};
 
 /// The 17 integer binary opcodes.
-const COVERED: [Opcode; 17] =
+pub const COVERED: [Opcode; 17] =
     [AddI, SubI, MulI, EqI, NeI, LtI, LtU, LeI, LeU, GtI, GtU, GeI, GeU, And, Or, Xor, AndNot];
 
 /// Words of so many bits.
 #[derive(Clone, Copy)]
-struct Width(u32);
+pub struct Width(u32);
 
 impl Width {
     fn low(self, x: u64) -> u64 {
@@ -26,7 +26,7 @@ impl Width {
         (x << (64 - self.0)) as i64
     }
 
-    fn fold(self, opcode: Opcode, l: u64, r: u64) -> u64 {
+    pub fn fold(self, opcode: Opcode, l: u64, r: u64) -> u64 {
         let (left, right) = (self.signed(l), self.signed(r));
         let outcome = match opcode {
             AddI => l.wrapping_add(r),
@@ -90,7 +90,7 @@ impl Width {
 }
 
 const BYTES: Width = Width(8);
-const WORDS: Width = Width(64);
+pub const WORDS: Width = Width(64);
 
 pub fn run(mut options: Options) -> Result<(), String> {
     let seed = options.number("seed", 1)?;
@@ -168,7 +168,7 @@ const EDGES: [u64; 12] = [
 ];
 
 /// An edge, or a word of which high bits, low bits or both are random.
-fn any_word(rng: &mut Rng) -> u64 {
+pub fn any_word(rng: &mut Rng) -> u64 {
     let word = rng.word();
     match rng.below(5) {
         0 => rng.pick(&EDGES),

@@ -12,7 +12,7 @@ mod shapes;
 pub mod small_world;
 
 pub use lines::on_every_place;
-pub use profiles::{every_damage, every_opcode, many_blocks, slow_liveness, Profile, PROFILES};
+pub use profiles::{every_damage, every_opcode, many_blocks, slow_liveness, Profile, DESK, PROFILES};
 pub use rng::Rng;
 pub use shapes::{Shape, EXTREMES, SHAPES};
 pub use small_world::SmallWorld;

@@ -1,6 +1,7 @@
 //! The generator: the same units on every machine, and units at all.
 
-use generate::PROFILES;
+use generate::{DESK, PROFILES};
+use reference::Opcode::{self, *};
 use unit::{Parts, Unit};
 
 const SEED: u64 = 1;
@@ -29,6 +30,25 @@ fn profiles_draw_units() {
             assert_eq!(Parts::decode(&unit).encode(), bytes, "{} {index}", profile.name);
         }
     }
+}
+
+/// All instructions that a run at the desk executes occur, and others; some functions are short, and some have defer.
+#[test]
+fn desk_draws_units() {
+    let units: Vec<Vec<u8>> = (0..2_000).map(|index| DESK.unit(SEED, index)).collect();
+    let units: Vec<Parts> =
+        units.iter().map(|bytes| Parts::decode(&Unit::check(bytes).expect("a unit"))).collect();
+    for n in [0, 1] {
+        assert!(units.iter().any(|parts| parts.code.len() == n));
+    }
+    assert!(units.iter().any(|parts| parts.defer == 1));
+    let occurs =
+        |opcode: Opcode| units.iter().flat_map(|parts| &parts.code).any(|code| code.op == opcode as u8);
+    let executed = [
+        Hint, LoadInt, LoadConst, Copy, CopyN, AddI, SubI, MulI, NegI, EqI, NeI, LtI, LtU, LeI, LeU, GtI,
+        GtU, GeI, GeU, And, Or, Xor, AndNot, Not, BoolNot, Jump, JumpIf, JumpIfNot, Return, Trunc, Panic,
+    ];
+    assert!(executed.into_iter().chain([ForLoop, AddF, Call]).all(occurs));
 }
 
 #[test]

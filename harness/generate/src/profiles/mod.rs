@@ -1,6 +1,7 @@
 //! The profiles: each draws units of one sort.
 
 mod counts;
+mod desk;
 mod flow;
 mod limits;
 mod operands;
@@ -64,3 +65,6 @@ pub const PROFILES: [Profile; 18] = [
     Profile { name: "limits", weight: 3, draw: |rng| limits::limits(rng).encode() },
     Profile { name: "long", weight: 2, draw: |rng| limits::long(rng).encode() },
 ];
+
+/// Functions to be run at the desk. The survey does not draw them.
+pub const DESK: Profile = Profile { name: "desk", weight: 0, draw: |rng| desk::desk(rng).encode() };
