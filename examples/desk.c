@@ -144,12 +144,12 @@ static unit clean(unit given)
         exit(1);
     }
     if (cleaned.kind == LAMPRUDA_REWRITTEN) {
-        lampruda_made laid;
+        lampruda_laid laid;
         shorter.bytes = buffer(given.length, 1);
         laid = lampruda_lay_out(given.bytes, given.length, out, out_length, shorter.bytes, given.length);
         if (laid.kind != LAMPRUDA_LAID_UNIT)
             exit(2);
-        shorter.length = laid.number;
+        shorter.length = laid.length;
     }
     free(second);
     free(first);

@@ -203,17 +203,25 @@ lampruda_stop lampruda_step(const uint8_t *unit, size_t unit_length, uint64_t *f
 
 /* What `kind` says of a result that is laid out. */
 enum {
-    LAMPRUDA_LAID_UNIT = 0,    /* the unit stands at the buffer's front; number is its length in bytes, place is 0 */
+    LAMPRUDA_LAID_UNIT = 0,    /* the unit stands at the buffer's front, of so many bytes in length */
     LAMPRUDA_LAID_REFUSED = 1, /* number is 1, 11 or 13 for the unit, 2 for a buffer too short; place says where */
-    LAMPRUDA_LAID_NONE = 2     /* the bytes do not begin with a result of this unit; number and place are 0 */
+    LAMPRUDA_LAID_NONE = 2     /* the bytes do not begin with a result of this unit */
 };
+
+/* A result that is laid out; what does not belong to the kind is 0. */
+typedef struct {
+    uint32_t kind, number, place;
+    uint64_t length;
+} lampruda_laid;
 
 /*
  * A result as a unit again: the code, metadata and lines of a result of one pass or of the cleaning, with the given
- * unit's other sections. The result stands at the front of its buffer. A buffer of the given unit's length is long
- * enough; its rest stays, and all of it where nothing is laid out.
+ * unit's other sections. The result stands at the front of its buffer: its six words are those above, the buffer
+ * holds all of it, and it has no more instructions than the unit has instructions and metadata entries, and no more
+ * lines. What its entries hold is not looked at. A buffer of the given unit's length is long enough; its rest stays,
+ * and all of it where nothing is laid out.
  */
-lampruda_made lampruda_lay_out(const uint8_t *unit, size_t unit_length, const uint8_t *result, size_t result_length,
+lampruda_laid lampruda_lay_out(const uint8_t *unit, size_t unit_length, const uint8_t *result, size_t result_length,
                                uint8_t *out, size_t out_length);
 
 /* Word i of a unit's header. */

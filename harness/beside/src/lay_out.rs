@@ -7,7 +7,7 @@ use crate::options::Options;
 use crate::run::Units;
 use crate::{faults, mutate, parallel};
 use generate::Rng;
-use lampruda::sys::{self, Made};
+use lampruda::sys::{self, Laid};
 use lampruda::{Answer, Workspace};
 use unit::{Instruction, Line, Metadata, Retained, Rewritten, Section, Unit, RESULT_HEADER_LEN};
 
@@ -120,7 +120,7 @@ impl Worker {
         let (wanted, laid) = match wanted {
             Err(made) => (made, Vec::new()),
             Ok(laid) if laid.len() > out.len() => (refused(2, 0), Vec::new()),
-            Ok(laid) => (Made { kind: sys::LAID_UNIT, number: laid.len() as u32, place: 0 }, laid),
+            Ok(laid) => (Laid { kind: sys::LAID_UNIT, number: 0, place: 0, length: laid.len() as u64 }, laid),
         };
         self.counts[answer(wanted)] += 1;
         let (front, rest) = out.split_at(laid.len());
@@ -136,12 +136,12 @@ impl Worker {
     }
 }
 
-fn refused(number: u32, place: u32) -> Made {
-    Made { kind: sys::LAID_REFUSED, number, place }
+fn refused(number: u32, place: u32) -> Laid {
+    Laid { kind: sys::LAID_REFUSED, number, place, length: 0 }
 }
 
 /// Where an answer stands in `ANSWERS`.
-fn answer(made: Made) -> usize {
+fn answer(made: Laid) -> usize {
     match (made.kind, made.number) {
         (sys::LAID_UNIT, _) => 0,
         (sys::LAID_REFUSED, 1) => 1,
@@ -154,15 +154,16 @@ fn answer(made: Made) -> usize {
 
 /// The unit that is laid out if there is room, or the answer where there is none: 1, 11 and 13 for the unit, then that
 /// the bytes do not begin with a result of it.
-fn wanted(unit: &[u8], result: &[u8]) -> Result<Vec<u8>, Made> {
+fn wanted(unit: &[u8], result: &[u8]) -> Result<Vec<u8>, Laid> {
     let unit = Unit::check(unit).ok_or(refused(1, 0))?;
     if let Some(unit::Answer::Refused { number, place }) = unit.refusal() {
         return Err(refused(number, place));
     }
-    result_of(&unit, result).map(|result| result.as_unit(&unit)).ok_or(Made {
+    result_of(&unit, result).map(|result| result.as_unit(&unit)).ok_or(Laid {
         kind: sys::LAID_NONE,
         number: 0,
         place: 0,
+        length: 0,
     })
 }
 

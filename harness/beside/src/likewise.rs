@@ -154,8 +154,8 @@ impl<'a> Lent<'a> {
         let out = self.out.lend::<u8>(unit.len(), rng.percent(50));
         out.fill(noise);
         let laid = lay_out(given, made, out);
-        let (front, rest) = out.split_at((laid.number as usize).min(unit.len()));
-        if laid.kind != sys::LAID_UNIT || laid.place != 0 {
+        let (front, rest) = out.split_at((laid.length as usize).min(unit.len()));
+        if laid.kind != sys::LAID_UNIT || laid.number != 0 || laid.place != 0 {
             return Err(format!("{laid:?}"));
         }
         if given != unit || made != result || rest.iter().any(|&byte| byte != noise) {
@@ -165,7 +165,7 @@ impl<'a> Lent<'a> {
     }
 }
 
-pub fn lay_out(unit: &[u8], result: &[u8], out: &mut [u8]) -> sys::Made {
+pub fn lay_out(unit: &[u8], result: &[u8], out: &mut [u8]) -> sys::Laid {
     // All are lent for the call alone.
     unsafe {
         sys::lampruda_lay_out(

@@ -29,7 +29,7 @@ pub fn as_unit(unit: &[u8], result: &[u8]) -> Option<Vec<u8>> {
             out.len(),
         )
     };
-    out.truncate(laid.number as usize);
+    out.truncate(laid.length as usize);
     (laid.kind == sys::LAID_UNIT).then_some(out)
 }
 

@@ -82,6 +82,16 @@ pub const OTHER: u32 = 4;
 pub const LIMIT: u32 = 5;
 pub const GOES: u32 = 6;
 
+/// `lampruda_laid`
+#[repr(C)]
+#[derive(Clone, Copy, Debug, Eq, PartialEq)]
+pub struct Laid {
+    pub kind: u32,
+    pub number: u32,
+    pub place: u32,
+    pub length: u64,
+}
+
 pub const LAID_UNIT: u32 = 0;
 pub const LAID_REFUSED: u32 = 1;
 pub const LAID_NONE: u32 = 2;
@@ -142,5 +152,5 @@ extern "C" {
         result_length: usize,
         out: *mut u8,
         out_length: usize,
-    ) -> Made;
+    ) -> Laid;
 }

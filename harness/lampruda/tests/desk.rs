@@ -1,7 +1,7 @@
 //! Runs at the desk: the smallest units on which the readings of document 02's L6 part. `beside run`, `beside likewise`
 //! and `beside lay-out` compare them at scale.
 
-use lampruda::sys::{self, Made, Stop};
+use lampruda::sys::{self, Laid, Stop};
 use lampruda::{Answer, Workspace};
 use text::Opcode::{self, *};
 use unit::{Constant, Instruction, Kind, Metadata, Parts, Rewritten, Unit};
@@ -209,7 +209,7 @@ fn thirty_one_opcodes_are_executed() {
     }
 }
 
-fn lay_out(unit: &[u8], result: &[u8], out: &mut [u8]) -> Made {
+fn lay_out(unit: &[u8], result: &[u8], out: &mut [u8]) -> Laid {
     // All are lent for the call alone.
     unsafe {
         sys::lampruda_lay_out(
@@ -230,7 +230,7 @@ fn rewritten(unit: &[u8]) -> Vec<u8> {
     let mut out = vec![0; unit.len()];
     let made = lay_out(unit, result, &mut out);
     assert_eq!((made.kind, made.place), (sys::LAID_UNIT, 0));
-    out.truncate(made.number as usize);
+    out.truncate(made.length as usize);
     let result = Rewritten::decode(result).unwrap();
     assert_eq!(out, result.as_unit(&Unit::check(unit).unwrap()));
     out
@@ -258,8 +258,8 @@ fn a_result_is_a_unit_again() {
     assert_eq!(run(&again, &mut [1, 0, 2], 99), returned(0, 1));
 
     // Refused 1, 11 or 13 before it is no result, and that before there is no room.
-    let none = Made { kind: sys::LAID_NONE, number: 0, place: 0 };
-    let refused = |number, place| Made { kind: sys::LAID_REFUSED, number, place };
+    let none = Laid { kind: sys::LAID_NONE, number: 0, place: 0, length: 0 };
+    let refused = |number, place| Laid { kind: sys::LAID_REFUSED, number, place, length: 0 };
     let mut workspace = Workspace::default();
     let Answer::Rewritten(result) = workspace.pass(&given) else { panic!("not rewritten") };
     let mut out = vec![0xa5; again.len() - 1];
@@ -272,7 +272,7 @@ fn a_result_is_a_unit_again() {
     assert!(out.iter().all(|&byte| byte == 0xa5));
     // A longer buffer for the result, and for the unit.
     let mut out = vec![0xa5; again.len() + 3];
-    assert_eq!(lay_out(&given, &[result, &[1; 5]].concat(), &mut out).number as usize, again.len());
+    assert_eq!(lay_out(&given, &[result, &[1; 5]].concat(), &mut out).length as usize, again.len());
     assert_eq!(out, [&again[..], &[0xa5; 3]].concat());
 }
 

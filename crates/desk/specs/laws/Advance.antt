@@ -87,8 +87,8 @@ module _ (S : Sections) (cells : List Cell) where
     where
       go : (t : Bool) → ltb p (length cells) ≡ t → (d : Due) → dueAt S cells p f ≡ d
           → let a = cond t (onward p 1 f (advanced 0) d) (stands p 1 f) in
-            (a .left ≡ 0 → cond t (stepped p f d) (steppedWith (Stops Ended) f) ≡ steppedWith (Goes (a .place)) (a .frame))
-            × (0 < a .left → cond t (stepped p f d) (steppedWith (Stops Ended) f) ≡ steppedWith (Stops (stopAt 1 (a .place) (a .frame))) (a .frame))
+          (a .left ≡ 0 → cond t (stepped p f d) (steppedWith (Stops Ended) f) ≡ steppedWith (Goes (a .place)) (a .frame))
+          × (0 < a .left → cond t (stepped p f d) (steppedWith (Stops Ended) f) ≡ steppedWith (Stops (stopAt 1 (a .place) (a .frame))) (a .frame))
       go true e (goes q g) h = (λ l. refl, λ l. absurd (omega arith))
       go true e (stops s) h = (λ l. absurd (omega arith), λ l. rw (e, h))
       go true e notExecuted h = (λ l. absurd (omega arith), λ l. rw (e, h))

@@ -107,9 +107,9 @@ table = refl
 stays : (o : ℕ) → isIn o going ≡ false → staysBy o (classOf o) ≡ true
 unfolding classOf staysBy
 stays o e = elim (decLe 136 o) [
-    | yes h ↦ invalid o h
-    | no h ↦ rw e at (every-at 136 (λ o. isIn o going || staysBy o (classOf o)) table o (omega arith))
-  ]
+  | yes h ↦ invalid o h
+  | no h ↦ rw e at (every-at 136 (λ o. isIn o going || staysBy o (classOf o)) table o (omega arith))
+]
   where
     invalid : (o : ℕ) → 136 ≤ o → staysBy o (classOf o) ≡ true
     invalid o h = rw (lt-ltb op.maxValid o (omega arith))

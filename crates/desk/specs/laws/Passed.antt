@@ -90,11 +90,11 @@ passed-run u words e =
     record {
       laid = unit-passed u (layoutOf u) refl (one .0);
       runnable =
-        record {
-          described = rw (cells-long u) (omega arith);
-          operands = passed-at (S .locals) (S .tables) cells (three .0);
-          targets = λ p h b. (let l = branches-passed (suc (length cells)) cells (four .0) p h b in omega arith);
-        };
+          record {
+            described = rw (cells-long u) (omega arith);
+            operands = passed-at (S .locals) (S .tables) cells (three .0);
+            targets = λ p h b. (let l = branches-passed (suc (length cells)) cells (four .0) p h b in omega arith);
+          };
       frame = eqb-true words (S .locals) (if-passed (eqb words (S .locals)) Passed frameLength 0 (four .1) .0);
     }
 

@@ -217,22 +217,37 @@ module _ (u : List ℕ) (laid : isUnit u ≡ true) (code : List ℕ) (c : code �
       go (suc k) true e t = absurd (true≢false (rw (lt-ltb 0 (suc k) (omega arith)) at t))
       go (suc k) false e t = at-once (sectionsOf u) (cellsOf u) (suc k) p f (rw (← places u laid c) (ltb-false p (length code / 8) e))
 
-module _ (u : List ℕ) (b : Bytes u) (laid : isUnit u ≡ true) (A : Runnable (givenFunction u)) (code constants : List ℕ) (c : code ≡ codeOf u) (k : constants ≡ constantsOf u)
-    (left p : ℕ) (f : List ℕ) (some : 0 < left) (h : p < length (cellsOf u)) (long : length f ≡ sectionsOf u .locals)
-    (q : ℕ) (g : List ℕ) (place : q ≡ goesTo (dueIn code constants p f)) (frame : g ≡ frameAfter f (dueIn code constants p f)) where
+-- a turn: a step is left, and the instruction at p is one of the function's
+pub record Turn (u code constants : List ℕ) (left p : ℕ) (f : List ℕ) : Type 0 where
+  pub bytes : Bytes u
+  pub laid : isUnit u ≡ true
+  pub runnable : Runnable (givenFunction u)
+  pub code-found : code ≡ codeOf u
+  pub constants-found : constants ≡ constantsOf u
+  pub some : 0 < left
+  pub inside : p < length (cellsOf u)
+  pub frame : length f ≡ sectionsOf u .locals
+
+module _ {u code constants : List ℕ} {left p : ℕ} {f : List ℕ} (t : Turn u code constants left p f) where
+  pub turn-executable : (8 * p + 8 ≤ length code) × Executable (length f) p (instructionAt code p)
+  turn-executable =
+      (place-inside u (t .laid) code p (t .code-found) (t .inside), executable u (t .bytes) (t .laid) (t .runnable) code (t .code-found) p (t .inside) (length f) (t .frame))
+
   abbrev here : Advance
   here = advanced (sectionsOf u) (cellsOf u) left p f
 
   due : dueAt (sectionsOf u) (cellsOf u) p f ≡ dueIn code constants p f
-  due = due-in u laid code constants p f c k h
+  due = due-in u (t .laid) code constants p f (t .code-found) (t .constants-found) (t .inside)
 
   again : suc (left - 1) ≡ left
-  again = omega arith
+  again = let h = t .some in omega arith
 
-  pub turn-goes : q < 2 ^ 32 → (here ≡ advanced (sectionsOf u) (cellsOf u) (left - 1) q g) × (length g ≡ sectionsOf u .locals)
-  unfolding givenFunction
-  turn-goes l = rw again at (goes-on (givenFunction u) A (left - 1) p f q g h long (rw due place) (rw due frame) l)
+  module _ {q : ℕ} {g : List ℕ} (done : (q ≡ goesTo (dueIn code constants p f)) × (g ≡ frameAfter f (dueIn code constants p f))) where
+    pub turn-goes : q < 2 ^ 32 → (advanced (sectionsOf u) (cellsOf u) left p f ≡ advanced (sectionsOf u) (cellsOf u) (left - 1) q g) × (length g ≡ sectionsOf u .locals)
+    unfolding givenFunction
+    turn-goes l = rw again at (goes-on (givenFunction u) (t .runnable) (left - 1) p f q g (t .inside) (t .frame) (rw due (done .0)) (rw due (done .1)) l)
 
-  pub turn-stays : 2 ^ 32 ≤ q → (here ≡ stands p left f) × (g ≡ f)
-  unfolding givenFunction
-  turn-stays l = rw again at (stays-there (givenFunction u) A (left - 1) p f q g (places-few u b) h long (rw due place) (rw due frame) l)
+    pub turn-stays : 2 ^ 32 ≤ q → (advanced (sectionsOf u) (cellsOf u) left p f ≡ stands p left f) × (g ≡ f)
+    unfolding givenFunction
+    turn-stays l =
+        rw again at (stays-there (givenFunction u) (t .runnable) (left - 1) p f q g (places-few u (t .bytes)) (t .inside) (t .frame) (rw due (done .0)) (rw due (done .1)) l)

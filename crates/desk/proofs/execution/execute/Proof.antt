@@ -21,115 +21,115 @@ use Rattle.instruction.proofs.read.Reads as read-reads
 
 store-requires : tie.Need-store-requires
 unfolding Named classOf single
-store-requires c κs = let x = executable-same _ _ (c .before .before .before .read .ensures) (c .before .before .before .before .before .before .before .pre .1) in (x .place, named-as LoadInt 1 _ _ (c .before .before .match .keys2) refl (x .named))
+store-requires c κs = let s = c .before .before .before .before .before .before .before in let x = executable-same _ _ (c .before .before .before .read .ensures) (s .pre .1) in (x .place, named-as LoadInt 1 _ _ (c .before .before .match .keys2) refl (x .named))
 
 load-requires : tie.Need-load-requires
 unfolding Named classOf single
-load-requires c κs = let x = executable-same _ _ (c .before .before .read .ensures) (c .before .before .before .before .before .before .pre .1) in (x .place, named-as LoadConst 2 _ _ (c .before .match .keys3) refl (x .named))
+load-requires c κs = let s = c .before .before .before .before .before .before in let x = executable-same _ _ (c .before .before .read .ensures) (s .pre .1) in (x .place, named-as LoadConst 2 _ _ (c .before .match .keys3) refl (x .named))
 
 slice-read-w : tie.Need-slice-read-w
 unfolding Named classOf single
-slice-read-w c = let x = executable-same _ _ (c .before .before .before .read .ensures) (c .before .before .before .before .before .before .before .pre .1) in (named-as Copy 3 _ _ (c .before .before .match .keys4) refl (x .named)) .0
+slice-read-w c = let s = c .before .before .before .before .before .before .before in let x = executable-same _ _ (c .before .before .before .read .ensures) (s .pre .1) in (named-as Copy 3 _ _ (c .before .before .match .keys4) refl (x .named)) .0
 
 store-requires-2 : tie.Need-store-requires-2
 unfolding Named classOf single
-store-requires-2 c κs = let x = executable-same _ _ (c .before .before .before .before .read .ensures) (c .before .before .before .before .before .before .before .before .pre .1) in (x .place, (named-as Copy 3 _ _ (c .before .before .before .match .keys4) refl (x .named)) .1)
+store-requires-2 c κs = let s = c .before .before .before .before .before .before .before .before in let x = executable-same _ _ (c .before .before .before .before .read .ensures) (s .pre .1) in (x .place, (named-as Copy 3 _ _ (c .before .before .before .match .keys4) refl (x .named)) .1)
 
 copy-words-requires : tie.Need-copy-words-requires
 unfolding Named classOf single
-copy-words-requires c κs = let x = executable-same _ _ (c .before .before .before .before .before .read .ensures) (c .before .before .before .before .before .before .before .before .before .pre .1) in let k = class-as CopyN 4 (c .before .before .before .before .before .read .result) (c .before .before .before .before .match .keys5) refl in (λ z. x .read k z, λ z. x .written k z)
+copy-words-requires c κs = let s = c .before .before .before .before .before .before .before .before .before in let x = executable-same _ _ (c .before .before .before .before .before .read .ensures) (s .pre .1) in let k = class-as CopyN 4 (c .before .before .before .before .before .read .result) (c .before .before .before .before .match .keys5) refl in (λ z. x .read k z, λ z. x .written k z)
 
 slice-read-holds : tie.Need-slice-read-holds
 unfolding Named classOf single
-slice-read-holds c = let x = executable-same _ _ (c .before .before .before .read .ensures) (c .before .before .before .before .before .before .before .pre .1) in named-as JumpIf 58 _ _ (c .before .before .match .keys7) refl (x .named)
+slice-read-holds c = let s = c .before .before .before .before .before .before .before in let x = executable-same _ _ (c .before .before .before .read .ensures) (s .pre .1) in named-as JumpIf 58 _ _ (c .before .before .match .keys7) refl (x .named)
 
 slice-read-holds-2 : tie.Need-slice-read-holds-2
 unfolding Named classOf single
-slice-read-holds-2 c = let x = executable-same _ _ (c .before .before .before .read .ensures) (c .before .before .before .before .before .before .before .pre .1) in named-as JumpIfNot 59 _ _ (c .before .before .match .keys8) refl (x .named)
+slice-read-holds-2 c = let s = c .before .before .before .before .before .before .before in let x = executable-same _ _ (c .before .before .before .read .ensures) (s .pre .1) in named-as JumpIfNot 59 _ _ (c .before .before .match .keys8) refl (x .named)
 
 operate-unary-requires : tie.Need-operate-unary-requires
 unfolding Named classOf single
-operate-unary-requires c κs = let x = executable-same _ _ (c .before .before .read .ensures) (c .before .before .before .before .before .before .pre .1) in (x .place, named-as Unary 26 _ _ (c .before .match .keys9) refl (x .named))
+operate-unary-requires c κs = let s = c .before .before .before .before .before .before in let x = executable-same _ _ (c .before .before .read .ensures) (s .pre .1) in (x .place, named-as Unary 26 _ _ (c .before .match .keys9) refl (x .named))
 
 operate-unary-requires-2 : tie.Need-operate-unary-requires-2
 unfolding Named classOf single
-operate-unary-requires-2 c κs = let x = executable-same _ _ (c .before .before .read .ensures) (c .before .before .before .before .before .before .pre .1) in (x .place, named-as Unary 52 _ _ (c .before .match .keys10) refl (x .named))
+operate-unary-requires-2 c κs = let s = c .before .before .before .before .before .before in let x = executable-same _ _ (c .before .before .read .ensures) (s .pre .1) in (x .place, named-as Unary 52 _ _ (c .before .match .keys10) refl (x .named))
 
 operate-unary-requires-3 : tie.Need-operate-unary-requires-3
 unfolding Named classOf single
-operate-unary-requires-3 c κs = let x = executable-same _ _ (c .before .before .read .ensures) (c .before .before .before .before .before .before .pre .1) in (x .place, named-as Unary 56 _ _ (c .before .match .keys11) refl (x .named))
+operate-unary-requires-3 c κs = let s = c .before .before .before .before .before .before in let x = executable-same _ _ (c .before .before .read .ensures) (s .pre .1) in (x .place, named-as Unary 56 _ _ (c .before .match .keys11) refl (x .named))
 
 operate-unary-requires-4 : tie.Need-operate-unary-requires-4
 unfolding Named classOf single
-operate-unary-requires-4 c κs = let x = executable-same _ _ (c .before .before .read .ensures) (c .before .before .before .before .before .before .pre .1) in (x .place, named-as Unary 120 _ _ (c .before .match .keys12) refl (x .named))
+operate-unary-requires-4 c κs = let s = c .before .before .before .before .before .before in let x = executable-same _ _ (c .before .before .read .ensures) (s .pre .1) in (x .place, named-as Unary 120 _ _ (c .before .match .keys12) refl (x .named))
 
 operate-binary-requires : tie.Need-operate-binary-requires
 unfolding Named classOf single
-operate-binary-requires c κs = let x = executable-same _ _ (c .before .before .read .ensures) (c .before .before .before .before .before .before .pre .1) in (x .place, named-as Binary 19 _ _ (c .before .match .keys13) refl (x .named))
+operate-binary-requires c κs = let s = c .before .before .before .before .before .before in let x = executable-same _ _ (c .before .before .read .ensures) (s .pre .1) in (x .place, named-as Binary 19 _ _ (c .before .match .keys13) refl (x .named))
 
 operate-binary-requires-2 : tie.Need-operate-binary-requires-2
 unfolding Named classOf single
-operate-binary-requires-2 c κs = let x = executable-same _ _ (c .before .before .read .ensures) (c .before .before .before .before .before .before .pre .1) in (x .place, named-as Binary 20 _ _ (c .before .match .keys14) refl (x .named))
+operate-binary-requires-2 c κs = let s = c .before .before .before .before .before .before in let x = executable-same _ _ (c .before .before .read .ensures) (s .pre .1) in (x .place, named-as Binary 20 _ _ (c .before .match .keys14) refl (x .named))
 
 operate-binary-requires-3 : tie.Need-operate-binary-requires-3
 unfolding Named classOf single
-operate-binary-requires-3 c κs = let x = executable-same _ _ (c .before .before .read .ensures) (c .before .before .before .before .before .before .pre .1) in (x .place, named-as Binary 21 _ _ (c .before .match .keys15) refl (x .named))
+operate-binary-requires-3 c κs = let s = c .before .before .before .before .before .before in let x = executable-same _ _ (c .before .before .read .ensures) (s .pre .1) in (x .place, named-as Binary 21 _ _ (c .before .match .keys15) refl (x .named))
 
 operate-binary-requires-4 : tie.Need-operate-binary-requires-4
 unfolding Named classOf single
-operate-binary-requires-4 c κs = let x = executable-same _ _ (c .before .before .read .ensures) (c .before .before .before .before .before .before .pre .1) in (x .place, named-as Binary 32 _ _ (c .before .match .keys16) refl (x .named))
+operate-binary-requires-4 c κs = let s = c .before .before .before .before .before .before in let x = executable-same _ _ (c .before .before .read .ensures) (s .pre .1) in (x .place, named-as Binary 32 _ _ (c .before .match .keys16) refl (x .named))
 
 operate-binary-requires-5 : tie.Need-operate-binary-requires-5
 unfolding Named classOf single
-operate-binary-requires-5 c κs = let x = executable-same _ _ (c .before .before .read .ensures) (c .before .before .before .before .before .before .pre .1) in (x .place, named-as Binary 33 _ _ (c .before .match .keys17) refl (x .named))
+operate-binary-requires-5 c κs = let s = c .before .before .before .before .before .before in let x = executable-same _ _ (c .before .before .read .ensures) (s .pre .1) in (x .place, named-as Binary 33 _ _ (c .before .match .keys17) refl (x .named))
 
 operate-binary-requires-6 : tie.Need-operate-binary-requires-6
 unfolding Named classOf single
-operate-binary-requires-6 c κs = let x = executable-same _ _ (c .before .before .read .ensures) (c .before .before .before .before .before .before .pre .1) in (x .place, named-as Binary 34 _ _ (c .before .match .keys18) refl (x .named))
+operate-binary-requires-6 c κs = let s = c .before .before .before .before .before .before in let x = executable-same _ _ (c .before .before .read .ensures) (s .pre .1) in (x .place, named-as Binary 34 _ _ (c .before .match .keys18) refl (x .named))
 
 operate-binary-requires-7 : tie.Need-operate-binary-requires-7
 unfolding Named classOf single
-operate-binary-requires-7 c κs = let x = executable-same _ _ (c .before .before .read .ensures) (c .before .before .before .before .before .before .pre .1) in (x .place, named-as Binary 35 _ _ (c .before .match .keys19) refl (x .named))
+operate-binary-requires-7 c κs = let s = c .before .before .before .before .before .before in let x = executable-same _ _ (c .before .before .read .ensures) (s .pre .1) in (x .place, named-as Binary 35 _ _ (c .before .match .keys19) refl (x .named))
 
 operate-binary-requires-8 : tie.Need-operate-binary-requires-8
 unfolding Named classOf single
-operate-binary-requires-8 c κs = let x = executable-same _ _ (c .before .before .read .ensures) (c .before .before .before .before .before .before .pre .1) in (x .place, named-as Binary 36 _ _ (c .before .match .keys20) refl (x .named))
+operate-binary-requires-8 c κs = let s = c .before .before .before .before .before .before in let x = executable-same _ _ (c .before .before .read .ensures) (s .pre .1) in (x .place, named-as Binary 36 _ _ (c .before .match .keys20) refl (x .named))
 
 operate-binary-requires-9 : tie.Need-operate-binary-requires-9
 unfolding Named classOf single
-operate-binary-requires-9 c κs = let x = executable-same _ _ (c .before .before .read .ensures) (c .before .before .before .before .before .before .pre .1) in (x .place, named-as Binary 37 _ _ (c .before .match .keys21) refl (x .named))
+operate-binary-requires-9 c κs = let s = c .before .before .before .before .before .before in let x = executable-same _ _ (c .before .before .read .ensures) (s .pre .1) in (x .place, named-as Binary 37 _ _ (c .before .match .keys21) refl (x .named))
 
 operate-binary-requires-10 : tie.Need-operate-binary-requires-10
 unfolding Named classOf single
-operate-binary-requires-10 c κs = let x = executable-same _ _ (c .before .before .read .ensures) (c .before .before .before .before .before .before .pre .1) in (x .place, named-as Binary 38 _ _ (c .before .match .keys22) refl (x .named))
+operate-binary-requires-10 c κs = let s = c .before .before .before .before .before .before in let x = executable-same _ _ (c .before .before .read .ensures) (s .pre .1) in (x .place, named-as Binary 38 _ _ (c .before .match .keys22) refl (x .named))
 
 operate-binary-requires-11 : tie.Need-operate-binary-requires-11
 unfolding Named classOf single
-operate-binary-requires-11 c κs = let x = executable-same _ _ (c .before .before .read .ensures) (c .before .before .before .before .before .before .pre .1) in (x .place, named-as Binary 39 _ _ (c .before .match .keys23) refl (x .named))
+operate-binary-requires-11 c κs = let s = c .before .before .before .before .before .before in let x = executable-same _ _ (c .before .before .read .ensures) (s .pre .1) in (x .place, named-as Binary 39 _ _ (c .before .match .keys23) refl (x .named))
 
 operate-binary-requires-12 : tie.Need-operate-binary-requires-12
 unfolding Named classOf single
-operate-binary-requires-12 c κs = let x = executable-same _ _ (c .before .before .read .ensures) (c .before .before .before .before .before .before .pre .1) in (x .place, named-as Binary 40 _ _ (c .before .match .keys24) refl (x .named))
+operate-binary-requires-12 c κs = let s = c .before .before .before .before .before .before in let x = executable-same _ _ (c .before .before .read .ensures) (s .pre .1) in (x .place, named-as Binary 40 _ _ (c .before .match .keys24) refl (x .named))
 
 operate-binary-requires-13 : tie.Need-operate-binary-requires-13
 unfolding Named classOf single
-operate-binary-requires-13 c κs = let x = executable-same _ _ (c .before .before .read .ensures) (c .before .before .before .before .before .before .pre .1) in (x .place, named-as Binary 41 _ _ (c .before .match .keys25) refl (x .named))
+operate-binary-requires-13 c κs = let s = c .before .before .before .before .before .before in let x = executable-same _ _ (c .before .before .read .ensures) (s .pre .1) in (x .place, named-as Binary 41 _ _ (c .before .match .keys25) refl (x .named))
 
 operate-binary-requires-14 : tie.Need-operate-binary-requires-14
 unfolding Named classOf single
-operate-binary-requires-14 c κs = let x = executable-same _ _ (c .before .before .read .ensures) (c .before .before .before .before .before .before .pre .1) in (x .place, named-as Binary 48 _ _ (c .before .match .keys26) refl (x .named))
+operate-binary-requires-14 c κs = let s = c .before .before .before .before .before .before in let x = executable-same _ _ (c .before .before .read .ensures) (s .pre .1) in (x .place, named-as Binary 48 _ _ (c .before .match .keys26) refl (x .named))
 
 operate-binary-requires-15 : tie.Need-operate-binary-requires-15
 unfolding Named classOf single
-operate-binary-requires-15 c κs = let x = executable-same _ _ (c .before .before .read .ensures) (c .before .before .before .before .before .before .pre .1) in (x .place, named-as Binary 49 _ _ (c .before .match .keys27) refl (x .named))
+operate-binary-requires-15 c κs = let s = c .before .before .before .before .before .before in let x = executable-same _ _ (c .before .before .read .ensures) (s .pre .1) in (x .place, named-as Binary 49 _ _ (c .before .match .keys27) refl (x .named))
 
 operate-binary-requires-16 : tie.Need-operate-binary-requires-16
 unfolding Named classOf single
-operate-binary-requires-16 c κs = let x = executable-same _ _ (c .before .before .read .ensures) (c .before .before .before .before .before .before .pre .1) in (x .place, named-as Binary 50 _ _ (c .before .match .keys28) refl (x .named))
+operate-binary-requires-16 c κs = let s = c .before .before .before .before .before .before in let x = executable-same _ _ (c .before .before .read .ensures) (s .pre .1) in (x .place, named-as Binary 50 _ _ (c .before .match .keys28) refl (x .named))
 
 operate-binary-requires-17 : tie.Need-operate-binary-requires-17
 unfolding Named classOf single
-operate-binary-requires-17 c κs = let x = executable-same _ _ (c .before .before .read .ensures) (c .before .before .before .before .before .before .pre .1) in (x .place, named-as Binary 51 _ _ (c .before .match .keys29) refl (x .named))
+operate-binary-requires-17 c κs = let s = c .before .before .before .before .before .before in let x = executable-same _ _ (c .before .before .read .ensures) (s .pre .1) in (x .place, named-as Binary 51 _ _ (c .before .match .keys29) refl (x .named))
 
 returns : tie.Need-returns
 returns c = does-hint _ _ _ _ _ (c .before .read .ensures) _ (c .match .keys1) (omega arith)
