@@ -1,6 +1,6 @@
+pub mod Copying
 pub mod Step
 pub mod Stands
-pub mod Copying
 pub mod Checking
 pub mod Execution
 pub mod Advance

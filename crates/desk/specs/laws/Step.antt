@@ -7,7 +7,7 @@ use Prim.Native.Nat.{ℕ, suc, _+_, _-_, _≤_, _<_}
 use native.Mathlib.Decide.{decLe}
 use native.Mathlib.Omega.{arith}
 use lib.Dec.{eqb, ltb, leb}
-use lib.ListN.{length, getD, set, length-set, take-append-drop}
+use lib.ListN.{length, getD, set, length-set}
 use lib.Seq.{getD-set-same, getD-set-other}
 use borrow.Author.Tests.{eqb-true, eqb-false, lt-ltb, le-ltb, le-leb, lt-leb}
 use borrow.Rule.Slice.PartMut.{midOf, putMid}
@@ -36,6 +36,7 @@ use Rattle.run.specs.laws.Gives.{given-by-class}
 use Rattle.run.specs.laws.Justified.{doAt, Meant, meant, gave, jumps, do-single, do-quiet, Quiet, hint, jump, jumpIf, jumpIfNot, single-slot, oneSlot, one-slot}
 use Rattle.desk.specs.declared.Stop.the-variants.{Returned, Panicked, Ended, Other, Limit, Refused}
 use Rattle.desk.specs.Desk.{Due, goes, stops, notExecuted, loads, dueBy}
+use Rattle.desk.specs.laws.Copying.{none-copied}
 
 -- the words of a frame
 abbrev pub wordsIn : List ℕ → Words
@@ -55,7 +56,7 @@ set-words f a v h i t = each t i
 -- CopyN reads all before writing
 module _ (f : List ℕ) (a b c : ℕ) (r : 0 < c → b + c ≤ length f) (w : 0 < c → a + c ≤ length f) where
   copy-none : c ≡ 0 → putMid a c f (midOf b c f) ≡ f
-  copy-none e = rw e (take-append-drop a f)
+  copy-none e = sym (none-copied f a b c e)
 
   pub copy-long : length (putMid a c f (midOf b c f)) ≡ length f
   copy-long = elim (decLe c 0) [
