@@ -65,7 +65,8 @@ fn load(constants: &[u8], frame: &mut [u64], p: usize, a: u16, b: u16) -> u64
     }
 }
 
-// The word that a folding opcode gives of slot b. The opcode is said by number, so that the compiler has one case.
+// Stores the word that a folding opcode gives of slot b. The opcode is handed over as a constant, so that the compiler
+// leaves one case of the fold.
 fn operate_unary(frame: &mut [u64], p: usize, i: Instruction, op: u8) -> u64
     requires place { ⌜ p + 1 < 2 ^ 32 ⌝ }
     requires slots { ⌜ (i .b < length (now frame)) × (i .a < length (now frame)) ⌝ }
@@ -77,7 +78,7 @@ fn operate_unary(frame: &mut [u64], p: usize, i: Instruction, op: u8) -> u64
     store(frame, p, i.a, w)
 }
 
-// The same of slots b and c.
+// Stores the word that it gives of slots b and c.
 fn operate_binary(frame: &mut [u64], p: usize, i: Instruction, op: u8) -> u64
     requires place { ⌜ p + 1 < 2 ^ 32 ⌝ }
     requires slots { ⌜ (i .b < length (now frame)) × (i .c < length (now frame)) × (i .a < length (now frame)) ⌝ }

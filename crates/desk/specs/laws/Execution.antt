@@ -134,7 +134,7 @@ named-as k o s i e c h = let is : class i ≡ k = ap classOf e ∙ c in rw is at
 pub class-as : (k : Class) (o : ℕ) (i : Instruction) → i .op ≡ o → classOf o ≡ k → class i ≡ k
 class-as k o i e c = ap classOf e ∙ c
 
-module _ (constants : List ℕ) (p : ℕ) (f : List ℕ) (i j : Instruction) (same : i ≡ j) where
+module _ (constants : List ℕ) (p : ℕ) (f : List ℕ) {i j : Instruction} (same : i ≡ j) where
   abbrev due : Due
   due = dueBy constants (class j) p j f
 
@@ -149,17 +149,17 @@ module _ (constants : List ℕ) (p : ℕ) (f : List ℕ) (i j : Instruction) (sa
   unfolding dueBy classOf single
   does-hint r e t = does-goes Hint op.Hint (suc p) f r f e refl refl t refl
 
-  pub does-load-int : (r : ℕ) (h : List ℕ) → i .op ≡ op.LoadInt → r ≡ suc p → h ≡ set f (i .a) (imm32 i) → Does f due r h
+  pub does-load-int : (r : ℕ) (h : List ℕ) → i .op ≡ op.LoadInt → (r ≡ suc p) × (h ≡ set f (i .a) (imm32 i)) → Does f due r h
   unfolding dueBy classOf single
-  does-load-int r h e t l = does-goes LoadInt op.LoadInt _ _ r h e refl refl t l
+  does-load-int r h e d = does-goes LoadInt op.LoadInt _ _ r h e refl refl (d .0) (d .1)
 
   pub does-load : (r : ℕ) (h : List ℕ) → i .op ≡ op.LoadConst → Does f (loads p f (i .a) (constantAt constants (i .b))) r h → Does f due r h
   unfolding dueBy classOf single
   does-load r h e d = rw (by-class LoadConst op.LoadConst e refl) d
 
-  pub does-copy : (r : ℕ) (h : List ℕ) → i .op ≡ op.Copy → r ≡ suc p → h ≡ set f (i .a) (getD f (i .b) 0) → Does f due r h
+  pub does-copy : (r : ℕ) (h : List ℕ) → i .op ≡ op.Copy → (r ≡ suc p) × (h ≡ set f (i .a) (getD f (i .b) 0)) → Does f due r h
   unfolding dueBy classOf single
-  does-copy r h e t l = does-goes Copy op.Copy _ _ r h e refl refl t l
+  does-copy r h e d = does-goes Copy op.Copy _ _ r h e refl refl (d .0) (d .1)
 
   pub does-copy-n : (r : ℕ) (h : List ℕ) → i .op ≡ op.CopyN → r ≡ suc p → h ≡ putMid (i .a) (i .c) f (midOf (i .b) (i .c) f) → Does f due r h
   unfolding dueBy classOf single
@@ -177,14 +177,14 @@ module _ (constants : List ℕ) (p : ℕ) (f : List ℕ) (i j : Instruction) (sa
   unfolding dueBy classOf single targetBy
   does-jump-if-not r e t = does-goes JumpIfNot op.JumpIfNot _ f r f e refl refl t refl
 
-  pub does-unary : (o r : ℕ) (h : List ℕ) → classOf o ≡ Unary → isIn o foldingUnary ≡ true → i .op ≡ o → r ≡ suc p → h ≡ set f (i .a) (foldWord o (i .flags) (getD f (i .b) 0) 0) → Does f due r h
+  pub does-unary : (o r : ℕ) (h : List ℕ) → classOf o ≡ Unary → isIn o foldingUnary ≡ true → i .op ≡ o → (r ≡ suc p) × (h ≡ set f (i .a) (foldWord o (i .flags) (getD f (i .b) 0) 0)) → Does f due r h
   unfolding dueBy
-  does-unary o r h c n e t l = does-goes Unary o _ _ r h e c (rw (e, n)) t l
+  does-unary o r h c n e d = does-goes Unary o _ _ r h e c (rw (e, n)) (d .0) (d .1)
 
-  pub does-binary : (o r : ℕ) (h : List ℕ) → classOf o ≡ Binary → isIn o foldingBinary ≡ true → i .op ≡ o → r ≡ suc p
-      → h ≡ set f (i .a) (foldWord o (i .flags) (getD f (i .b) 0) (getD f (i .c) 0)) → Does f due r h
+  pub does-binary : (o r : ℕ) (h : List ℕ) → classOf o ≡ Binary → isIn o foldingBinary ≡ true → i .op ≡ o
+      → (r ≡ suc p) × (h ≡ set f (i .a) (foldWord o (i .flags) (getD f (i .b) 0) (getD f (i .c) 0))) → Does f due r h
   unfolding dueBy
-  does-binary o r h c n e t l = does-goes Binary o _ _ r h e c (rw (e, n)) t l
+  does-binary o r h c n e d = does-goes Binary o _ _ r h e c (rw (e, n)) (d .0) (d .1)
 
   -- any other opcode goes nowhere
   stays-due : (k : Class) → staysBy (j .op) k ≡ true → Does f (dueBy constants k p j f) (2 ^ 32) f

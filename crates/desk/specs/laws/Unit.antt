@@ -118,37 +118,45 @@ unfolding stopBy
 stop-stops p zero s h = absurd (omega arith)
 stop-stops p (suc l) s h = refl
 
-module _ (u : List ℕ) (laid : isUnit u ≡ true) (code constants : List ℕ) (c : code ≡ codeOf u) (k : constants ≡ constantsOf u) (l p : ℕ) (f : List ℕ) where
+pub at-end : (u : List ℕ) (l p : ℕ) (f : List ℕ) → length (cellsOf u) ≤ p → Ended ≡ stopAt (sectionsOf u) (cellsOf u) l p f
+unfolding stopAt
+at-end u l p f h = rw (le-ltb p (length (cellsOf u)) h)
+
+-- a place that has an instruction
+pub record At (u code constants : List ℕ) (p : ℕ) : Type 0 where
+  pub laid : isUnit u ≡ true
+  pub code-found : code ≡ codeOf u
+  pub constants-found : constants ≡ constantsOf u
+  pub inside : p < length (cellsOf u)
+
+module _ {u code constants : List ℕ} {p : ℕ} (a : At u code constants p) (l : ℕ) (f : List ℕ) where
   abbrev i : Instruction
   i = instructionAt code p
 
-  abbrev stop : Stop
-  stop = stopAt (sectionsOf u) (cellsOf u) l p f
-
-  pub at-end : length (cellsOf u) ≤ p → Ended ≡ stop
+  due-here : stopAt (sectionsOf u) (cellsOf u) l p f ≡ stopBy p l (dueIn code constants p f)
   unfolding stopAt
-  at-end h = rw (le-ltb p (length (cellsOf u)) h)
+  due-here = rw (lt-ltb p (length (cellsOf u)) (a .inside), due-in u (a .laid) code constants p f (a .code-found) (a .constants-found) (a .inside))
 
-  inside : p < length (cellsOf u) → stop ≡ stopBy p l (dueIn code constants p f)
-  unfolding stopAt
-  inside h = rw (lt-ltb p (length (cellsOf u)) h, due-in u laid code constants p f c k h)
+  pub at-other : isExecuted (dueIn code constants p f) ≡ false → Other p ≡ stopAt (sectionsOf u) (cellsOf u) l p f
+  at-other e = sym (due-here ∙ stop-none p l _ e)
 
-  pub at-other : p < length (cellsOf u) → isExecuted (dueIn code constants p f) ≡ false → Other p ≡ stop
-  at-other h e = sym (inside h ∙ stop-none p l _ e)
+  pub at-limit : isExecuted (dueIn code constants p f) ≡ true → l ≡ 0 → Limit ≡ stopAt (sectionsOf u) (cellsOf u) l p f
+  at-limit e z = sym (due-here ∙ rw z (stop-limit p _ e))
 
-  pub at-limit : p < length (cellsOf u) → isExecuted (dueIn code constants p f) ≡ true → l ≡ 0 → Limit ≡ stop
-  at-limit h e z = sym (inside h ∙ rw z (stop-limit p _ e))
+  module _ {j : Instruction} (same : j ≡ instructionAt code p) where
+    number-of : {n : ℕ} → numberOf (class j) ≡ n → numberOf (class (instructionAt code p)) ≡ n
+    number-of e = rw same at e
 
-  pub at-return : p < length (cellsOf u) → 0 < l → numberOf (class i) ≡ 11 → Returned (i .a) (i .b) ≡ stop
-  unfolding dueBy namedClass
-  at-return h z n = let is : class i ≡ Return = sym (named-number (class i)) ∙ ap namedClass n in sym (inside h ∙ rw is (stop-stops p l _ z))
+    pub at-return : 0 < l → numberOf (class j) ≡ 11 → Returned (j .a) (j .b) ≡ stopAt (sectionsOf u) (cellsOf u) l p f
+    unfolding dueBy namedClass
+    at-return z n = let is : class i ≡ Return = sym (named-number (class i)) ∙ ap namedClass (number-of n) in rw same (sym (due-here ∙ rw is (stop-stops p l _ z)))
 
-  pub at-panic : p < length (cellsOf u) → 0 < l → numberOf (class i) ≡ 12 → Panicked (i .a) 2 ≡ stop
-  unfolding dueBy namedClass
-  at-panic h z n = let is : class i ≡ Panic = sym (named-number (class i)) ∙ ap namedClass n in sym (inside h ∙ rw is (stop-stops p l _ z))
+    pub at-panic : 0 < l → numberOf (class j) ≡ 12 → Panicked (j .a) 2 ≡ stopAt (sectionsOf u) (cellsOf u) l p f
+    unfolding dueBy namedClass
+    at-panic z n = let is : class i ≡ Panic = sym (named-number (class i)) ∙ ap namedClass (number-of n) in rw same (sym (due-here ∙ rw is (stop-stops p l _ z)))
 
-  pub at-going : p < length (cellsOf u) → isExecuted (dueIn code constants p f) ≡ true → (numberOf (class i) ≡ 11 → ⊥) → (numberOf (class i) ≡ 12 → ⊥) → Limit ≡ stop
-  at-going h e r n = sym (inside h ∙ stop-going p l _ (going constants (class i) p i f r n) e)
+    pub at-going : isExecuted (dueIn code constants p f) ≡ true → (numberOf (class j) ≡ 11 → ⊥) → (numberOf (class j) ≡ 12 → ⊥) → Limit ≡ stopAt (sectionsOf u) (cellsOf u) l p f
+    at-going e r n = sym (due-here ∙ stop-going p l _ (going constants (class i) p i f (rw same at r) (rw same at n)) e)
 
 -- ---- what its instructions ask of a frame
 

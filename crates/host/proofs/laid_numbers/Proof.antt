@@ -1,5 +1,4 @@
 use Rattle.host.specs.DeskNumbers.{laidNumbersOf}
-use mathlib.Core.Path.{_≡_, refl, sym, ap, _∙_}
 use borrow.Author.Needs.{needs}
 use Rattle.host.proofs.laid_numbers.Statement.{statement}
 use Rattle.host.proofs.laid_numbers.Tie as tie
@@ -17,4 +16,12 @@ unfolding laidNumbersOf
 returns-3 c = rw (c .enum-told .given .1)
 
 pub laid-numbers-spec : {M : Type 1} → statement M
-laid-numbers-spec = tie.close (tie.spec (λ c. search needs) (λ c. search needs) (λ c. search needs) returns returns-2 returns-3)
+laid-numbers-spec =
+    tie.close
+    (tie.spec
+    (λ c. search needs)
+    (λ c. search needs)
+    (λ c. search needs)
+    returns
+    returns-2
+    returns-3)

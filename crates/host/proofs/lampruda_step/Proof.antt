@@ -1,13 +1,17 @@
+use mathlib.Core.Path.{ap, _∙_}
 use Rattle.host.specs.DeskNumbers.{nextNumbersOf}
-use mathlib.Core.Path.{_≡_, refl, sym, ap, _∙_}
 use borrow.Author.Needs.{needs}
 use Rattle.host.proofs.lampruda_step.Statement.{statement}
 use Rattle.host.proofs.lampruda_step.Tie as tie
-use Rattle.desk.proofs.step.Reads as step-reads
-use Rattle.host.proofs.next_numbers.Reads as next-numbers-reads
 
 returns : tie.Need-returns
 returns c = (c .next-numbers .ensures ∙ ap nextNumbersOf (c .before .before .before .step .ensures .0), c .before .before .before .step .ensures .1)
 
 pub lampruda-step-spec : {M : Type 1} → statement M
-lampruda-step-spec = tie.close (tie.spec (λ c κs. search needs) (λ c κs. search needs) (λ c. search needs) returns)
+lampruda-step-spec =
+    tie.close
+    (tie.spec
+    (λ c κs. search needs)
+    (λ c κs. search needs)
+    (λ c. search needs)
+    returns)

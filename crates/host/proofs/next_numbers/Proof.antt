@@ -1,9 +1,8 @@
-use Rattle.host.specs.DeskNumbers.{stopNumbersOf, nextNumbersOf}
-use mathlib.Core.Path.{_≡_, refl, sym, ap, _∙_}
+use mathlib.Core.Path.{_∙_}
+use Rattle.host.specs.DeskNumbers.{nextNumbersOf}
 use borrow.Author.Needs.{needs}
 use Rattle.host.proofs.next_numbers.Statement.{statement}
 use Rattle.host.proofs.next_numbers.Tie as tie
-use Rattle.host.proofs.stop_numbers.Reads as stop-numbers-reads
 
 returns : tie.Need-returns
 unfolding nextNumbersOf
@@ -14,4 +13,11 @@ unfolding nextNumbersOf
 returns-2 c = c .stop-numbers .ensures ∙ rw (c .before .before .n2 .given .1)
 
 pub next-numbers-spec : {M : Type 1} → statement M
-next-numbers-spec = tie.close (tie.spec (λ c. search needs) (λ c. search needs) (λ c κs. search needs) returns returns-2)
+next-numbers-spec =
+    tie.close
+    (tie.spec
+    (λ c. search needs)
+    (λ c. search needs)
+    (λ c κs. search needs)
+    returns
+    returns-2)

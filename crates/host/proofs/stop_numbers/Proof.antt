@@ -1,5 +1,4 @@
 use Rattle.host.specs.DeskNumbers.{stopNumbersOf}
-use mathlib.Core.Path.{_≡_, refl, sym, ap, _∙_}
 use borrow.Author.Needs.{needs}
 use Rattle.host.proofs.stop_numbers.Statement.{statement}
 use Rattle.host.proofs.stop_numbers.Tie as tie
@@ -29,4 +28,18 @@ unfolding stopNumbersOf
 returns-6 c = rw (c .enum-told2 .given .1)
 
 pub stop-numbers-spec : {M : Type 1} → statement M
-stop-numbers-spec = tie.close (tie.spec (λ c. search needs) (λ c. search needs) (λ c. search needs) (λ c. search needs) (λ c. search needs) (λ c. search needs) returns returns-2 returns-3 returns-4 returns-5 returns-6)
+stop-numbers-spec =
+    tie.close
+    (tie.spec
+    (λ c. search needs)
+    (λ c. search needs)
+    (λ c. search needs)
+    (λ c. search needs)
+    (λ c. search needs)
+    (λ c. search needs)
+    returns
+    returns-2
+    returns-3
+    returns-4
+    returns-5
+    returns-6)

@@ -1,5 +1,4 @@
 use Rattle.desk.specs.laws.Execution.{hasWord}
-use mathlib.Core.Path.{refl, sym, _∙_}
 use borrow.Author.Needs.{needs}
 use Rattle.desk.proofs.execution.has_word.Statement.{statement}
 use Rattle.desk.proofs.execution.has_word.Tie as tie
@@ -29,4 +28,18 @@ unfolding hasWord
 returns-6 c = rw (c .enum-told6 .given .1)
 
 pub has-word-spec : {M : Type 1} → statement M
-has-word-spec = tie.close (tie.spec (λ c. search needs) (λ c. search needs) (λ c. search needs) (λ c. search needs) (λ c. search needs) (λ c. search needs) returns returns-2 returns-3 returns-4 returns-5 returns-6)
+has-word-spec =
+    tie.close
+    (tie.spec
+    (λ c. search needs)
+    (λ c. search needs)
+    (λ c. search needs)
+    (λ c. search needs)
+    (λ c. search needs)
+    (λ c. search needs)
+    returns
+    returns-2
+    returns-3
+    returns-4
+    returns-5
+    returns-6)

@@ -1,17 +1,11 @@
+use mathlib.Core.Path.{refl, sym, _∙_}
+use Rattle.instruction.specs.Instruction.{class}
 use Rattle.desk.specs.Desk.{dueBy}
 use Rattle.desk.specs.laws.Execution.{loads-executed, cond-executed}
 use Rattle.desk.specs.laws.Stands.{isExecuted}
-use Rattle.instruction.specs.Instruction.{class}
-use mathlib.Core.Path.{refl, sym, ap, _∙_}
 use borrow.Author.Needs.{needs}
 use Rattle.desk.proofs.execution.is_executed.Statement.{statement}
 use Rattle.desk.proofs.execution.is_executed.Tie as tie
-use Rattle.desk.proofs.execution.has_word.Reads as has-word-reads
-use Rattle.instruction.proofs.Instruction.class.Reads as class-reads
-use Rattle.instruction.proofs.read.Reads as read-reads
-use Rattle.unit.proofs.entry.constant.Reads as constant-reads
-use Rattle.values.proofs.fold.folds_binary.Reads as folds-binary-reads
-use Rattle.values.proofs.fold.folds_unary.Reads as folds-unary-reads
 
 returns : tie.Need-returns
 unfolding dueBy isExecuted
@@ -74,4 +68,43 @@ unfolding dueBy isExecuted
 returns-15 c = λ f. rw (← c .before .before .before .read .ensures, sym (c .before .before .class .ensures) ∙ c .enum-told15 .given .1) refl
 
 pub is-executed-spec : {M : Type 1} → statement M
-is-executed-spec = tie.close (tie.spec (λ c κs. search needs) (λ c κs. search needs) (λ c. search needs) (λ c. search needs) (λ c. search needs) (λ c. search needs) (λ c κs. search needs) (λ c κs. search needs) (λ c. search needs) (λ c. search needs) (λ c. search needs) (λ c κs. search needs) (λ c. search needs) (λ c κs. search needs) (λ c. search needs) (λ c. search needs) (λ c. search needs) (λ c. search needs) (λ c. search needs) (λ c. search needs) (λ c. search needs) (λ c. search needs) returns returns-2 returns-3 returns-4 returns-5 returns-6 returns-7 returns-8 returns-9 returns-10 returns-11 returns-12 returns-13 returns-14 returns-15)
+is-executed-spec =
+    tie.close
+    (tie.spec
+    (λ c κs. search needs)
+    (λ c κs. search needs)
+    (λ c. search needs)
+    (λ c. search needs)
+    (λ c. search needs)
+    (λ c. search needs)
+    (λ c κs. search needs)
+    (λ c κs. search needs)
+    (λ c. search needs)
+    (λ c. search needs)
+    (λ c. search needs)
+    (λ c κs. search needs)
+    (λ c. search needs)
+    (λ c κs. search needs)
+    (λ c. search needs)
+    (λ c. search needs)
+    (λ c. search needs)
+    (λ c. search needs)
+    (λ c. search needs)
+    (λ c. search needs)
+    (λ c. search needs)
+    (λ c. search needs)
+    returns
+    returns-2
+    returns-3
+    returns-4
+    returns-5
+    returns-6
+    returns-7
+    returns-8
+    returns-9
+    returns-10
+    returns-11
+    returns-12
+    returns-13
+    returns-14
+    returns-15)

@@ -1,11 +1,9 @@
+use mathlib.Core.Path.{refl, sym, _∙_}
 use Rattle.desk.specs.Desk.{loads}
 use Rattle.desk.specs.laws.Execution.{goesTo, frameAfter}
-use mathlib.Core.Path.{refl, sym, _∙_}
 use borrow.Author.Needs.{needs}
 use Rattle.desk.proofs.execution.load.Statement.{statement}
 use Rattle.desk.proofs.execution.load.Tie as tie
-use Rattle.desk.proofs.execution.store.Reads as store-reads
-use Rattle.unit.proofs.entry.constant.Reads as constant-reads
 
 returns : tie.Need-returns
 unfolding loads goesTo frameAfter
@@ -32,4 +30,27 @@ unfolding loads goesTo frameAfter
 returns-6 c = rw (sym (c .before .before .constant .ensures) ∙ c .enum-told3 .given .1) (refl, refl)
 
 pub load-spec : {M : Type 1} → statement M
-load-spec = tie.close (tie.spec (λ c κs. search needs) (λ c. search needs) (λ c κs. search needs) (λ c. search needs) (λ c κs. search needs) (λ c. search needs) (λ c κs. search needs) (λ c. search needs) (λ c κs. search needs) (λ c. search needs) (λ c. search needs) (λ c. search needs) returns (λ c. search needs) returns-2 (λ c. search needs) returns-3 (λ c. search needs) returns-4 returns-5 returns-6)
+load-spec =
+    tie.close
+    (tie.spec
+    (λ c κs. search needs)
+    (λ c. search needs)
+    (λ c κs. search needs)
+    (λ c. search needs)
+    (λ c κs. search needs)
+    (λ c. search needs)
+    (λ c κs. search needs)
+    (λ c. search needs)
+    (λ c κs. search needs)
+    (λ c. search needs)
+    (λ c. search needs)
+    (λ c. search needs)
+    returns
+    (λ c. search needs)
+    returns-2
+    (λ c. search needs)
+    returns-3
+    (λ c. search needs)
+    returns-4
+    returns-5
+    returns-6)

@@ -1,12 +1,19 @@
-use mathlib.Core.Path.{refl, sym, _∙_}
+use mathlib.Core.Path.{_∙_}
 use borrow.Author.Needs.{needs}
 use Rattle.desk.proofs.execution.operate_unary.Statement.{statement}
 use Rattle.desk.proofs.execution.operate_unary.Tie as tie
-use Rattle.desk.proofs.execution.store.Reads as store-reads
-use Rattle.values.proofs.fold.fold_word.Reads as fold-word-reads
 
 returns : tie.Need-returns
 returns c = (c .before .before .store .ensures .0, c .before .before .store .ensures .1 ∙ rw (c .before .before .before .before .fold-word .ensures))
 
 pub operate-unary-spec : {M : Type 1} → statement M
-operate-unary-spec = tie.close (tie.spec (λ c. search needs) (λ c. search needs) (λ c. search needs) (λ c κs. search needs) (λ c κs. search needs) (λ c. search needs) returns)
+operate-unary-spec =
+    tie.close
+    (tie.spec
+    (λ c. search needs)
+    (λ c. search needs)
+    (λ c. search needs)
+    (λ c κs. search needs)
+    (λ c κs. search needs)
+    (λ c. search needs)
+    returns)
