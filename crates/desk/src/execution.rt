@@ -69,7 +69,8 @@ fn load(constants: &[u8], frame: &mut [u64], p: usize, a: u16, b: u16) -> u64
 // leaves one case of the fold.
 fn operate_unary(frame: &mut [u64], p: usize, i: Instruction, op: u8) -> u64
     requires place { ⌜ p + 1 < 2 ^ 32 ⌝ }
-    requires slots { ⌜ (i .b < length (now frame)) × (i .a < length (now frame)) ⌝ }
+    requires left { ⌜ i .b < length (now frame) ⌝ }
+    requires slot { ⌜ i .a < length (now frame) ⌝ }
     ensures place { λ r. ⌜ r ≡ suc p ⌝ }
     ensures frame { λ _. ⌜ now (frame .exit) ≡ set (now (frame .entry)) (i .a)
         (foldWord op (i .flags) (getD (now (frame .entry)) (i .b) 0) 0) ⌝ }
@@ -81,7 +82,9 @@ fn operate_unary(frame: &mut [u64], p: usize, i: Instruction, op: u8) -> u64
 // Stores the word that it gives of slots b and c.
 fn operate_binary(frame: &mut [u64], p: usize, i: Instruction, op: u8) -> u64
     requires place { ⌜ p + 1 < 2 ^ 32 ⌝ }
-    requires slots { ⌜ (i .b < length (now frame)) × (i .c < length (now frame)) × (i .a < length (now frame)) ⌝ }
+    requires left { ⌜ i .b < length (now frame) ⌝ }
+    requires right { ⌜ i .c < length (now frame) ⌝ }
+    requires slot { ⌜ i .a < length (now frame) ⌝ }
     ensures place { λ r. ⌜ r ≡ suc p ⌝ }
     ensures frame { λ _. ⌜ now (frame .exit) ≡ set (now (frame .entry)) (i .a)
         (foldWord op (i .flags) (getD (now (frame .entry)) (i .b) 0) (getD (now (frame .entry)) (i .c) 0)) ⌝ }

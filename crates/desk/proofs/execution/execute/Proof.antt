@@ -45,87 +45,87 @@ slice-read-holds-2 c = let m = c .before .before in let x = executable (m .befor
 
 operate-unary-requires : tie.Need-operate-unary-requires
 unfolding Named classOf single
-operate-unary-requires c κs = let m = c .before in let x = executable (m .before) in (x .place, named-as Unary op.NegI _ _ (m .match .keys9) refl (x .named))
+operate-unary-requires c κs = let m = c .before in let x = executable (m .before) in let n = named-as Unary op.NegI _ _ (m .match .keys9) refl (x .named) in (x .place, (n .0, n .1))
 
 operate-unary-requires-2 : tie.Need-operate-unary-requires-2
 unfolding Named classOf single
-operate-unary-requires-2 c κs = let m = c .before in let x = executable (m .before) in (x .place, named-as Unary op.Not _ _ (m .match .keys10) refl (x .named))
+operate-unary-requires-2 c κs = let m = c .before in let x = executable (m .before) in let n = named-as Unary op.Not _ _ (m .match .keys10) refl (x .named) in (x .place, (n .0, n .1))
 
 operate-unary-requires-3 : tie.Need-operate-unary-requires-3
 unfolding Named classOf single
-operate-unary-requires-3 c κs = let m = c .before in let x = executable (m .before) in (x .place, named-as Unary op.BoolNot _ _ (m .match .keys11) refl (x .named))
+operate-unary-requires-3 c κs = let m = c .before in let x = executable (m .before) in let n = named-as Unary op.BoolNot _ _ (m .match .keys11) refl (x .named) in (x .place, (n .0, n .1))
 
 operate-unary-requires-4 : tie.Need-operate-unary-requires-4
 unfolding Named classOf single
-operate-unary-requires-4 c κs = let m = c .before in let x = executable (m .before) in (x .place, named-as Unary op.Trunc _ _ (m .match .keys12) refl (x .named))
+operate-unary-requires-4 c κs = let m = c .before in let x = executable (m .before) in let n = named-as Unary op.Trunc _ _ (m .match .keys12) refl (x .named) in (x .place, (n .0, n .1))
 
 operate-binary-requires : tie.Need-operate-binary-requires
 unfolding Named classOf single
-operate-binary-requires c κs = let m = c .before in let x = executable (m .before) in (x .place, named-as Binary op.AddI _ _ (m .match .keys13) refl (x .named))
+operate-binary-requires c κs = let m = c .before in let x = executable (m .before) in let n = named-as Binary op.AddI _ _ (m .match .keys13) refl (x .named) in (x .place, (n .0, (n .1, n .2)))
 
 operate-binary-requires-2 : tie.Need-operate-binary-requires-2
 unfolding Named classOf single
-operate-binary-requires-2 c κs = let m = c .before in let x = executable (m .before) in (x .place, named-as Binary op.SubI _ _ (m .match .keys14) refl (x .named))
+operate-binary-requires-2 c κs = let m = c .before in let x = executable (m .before) in let n = named-as Binary op.SubI _ _ (m .match .keys14) refl (x .named) in (x .place, (n .0, (n .1, n .2)))
 
 operate-binary-requires-3 : tie.Need-operate-binary-requires-3
 unfolding Named classOf single
-operate-binary-requires-3 c κs = let m = c .before in let x = executable (m .before) in (x .place, named-as Binary op.MulI _ _ (m .match .keys15) refl (x .named))
+operate-binary-requires-3 c κs = let m = c .before in let x = executable (m .before) in let n = named-as Binary op.MulI _ _ (m .match .keys15) refl (x .named) in (x .place, (n .0, (n .1, n .2)))
 
 operate-binary-requires-4 : tie.Need-operate-binary-requires-4
 unfolding Named classOf single
-operate-binary-requires-4 c κs = let m = c .before in let x = executable (m .before) in (x .place, named-as Binary op.EqI _ _ (m .match .keys16) refl (x .named))
+operate-binary-requires-4 c κs = let m = c .before in let x = executable (m .before) in let n = named-as Binary op.EqI _ _ (m .match .keys16) refl (x .named) in (x .place, (n .0, (n .1, n .2)))
 
 operate-binary-requires-5 : tie.Need-operate-binary-requires-5
 unfolding Named classOf single
-operate-binary-requires-5 c κs = let m = c .before in let x = executable (m .before) in (x .place, named-as Binary op.NeI _ _ (m .match .keys17) refl (x .named))
+operate-binary-requires-5 c κs = let m = c .before in let x = executable (m .before) in let n = named-as Binary op.NeI _ _ (m .match .keys17) refl (x .named) in (x .place, (n .0, (n .1, n .2)))
 
 operate-binary-requires-6 : tie.Need-operate-binary-requires-6
 unfolding Named classOf single
-operate-binary-requires-6 c κs = let m = c .before in let x = executable (m .before) in (x .place, named-as Binary op.LtI _ _ (m .match .keys18) refl (x .named))
+operate-binary-requires-6 c κs = let m = c .before in let x = executable (m .before) in let n = named-as Binary op.LtI _ _ (m .match .keys18) refl (x .named) in (x .place, (n .0, (n .1, n .2)))
 
 operate-binary-requires-7 : tie.Need-operate-binary-requires-7
 unfolding Named classOf single
-operate-binary-requires-7 c κs = let m = c .before in let x = executable (m .before) in (x .place, named-as Binary op.LtU _ _ (m .match .keys19) refl (x .named))
+operate-binary-requires-7 c κs = let m = c .before in let x = executable (m .before) in let n = named-as Binary op.LtU _ _ (m .match .keys19) refl (x .named) in (x .place, (n .0, (n .1, n .2)))
 
 operate-binary-requires-8 : tie.Need-operate-binary-requires-8
 unfolding Named classOf single
-operate-binary-requires-8 c κs = let m = c .before in let x = executable (m .before) in (x .place, named-as Binary op.LeI _ _ (m .match .keys20) refl (x .named))
+operate-binary-requires-8 c κs = let m = c .before in let x = executable (m .before) in let n = named-as Binary op.LeI _ _ (m .match .keys20) refl (x .named) in (x .place, (n .0, (n .1, n .2)))
 
 operate-binary-requires-9 : tie.Need-operate-binary-requires-9
 unfolding Named classOf single
-operate-binary-requires-9 c κs = let m = c .before in let x = executable (m .before) in (x .place, named-as Binary op.LeU _ _ (m .match .keys21) refl (x .named))
+operate-binary-requires-9 c κs = let m = c .before in let x = executable (m .before) in let n = named-as Binary op.LeU _ _ (m .match .keys21) refl (x .named) in (x .place, (n .0, (n .1, n .2)))
 
 operate-binary-requires-10 : tie.Need-operate-binary-requires-10
 unfolding Named classOf single
-operate-binary-requires-10 c κs = let m = c .before in let x = executable (m .before) in (x .place, named-as Binary op.GtI _ _ (m .match .keys22) refl (x .named))
+operate-binary-requires-10 c κs = let m = c .before in let x = executable (m .before) in let n = named-as Binary op.GtI _ _ (m .match .keys22) refl (x .named) in (x .place, (n .0, (n .1, n .2)))
 
 operate-binary-requires-11 : tie.Need-operate-binary-requires-11
 unfolding Named classOf single
-operate-binary-requires-11 c κs = let m = c .before in let x = executable (m .before) in (x .place, named-as Binary op.GtU _ _ (m .match .keys23) refl (x .named))
+operate-binary-requires-11 c κs = let m = c .before in let x = executable (m .before) in let n = named-as Binary op.GtU _ _ (m .match .keys23) refl (x .named) in (x .place, (n .0, (n .1, n .2)))
 
 operate-binary-requires-12 : tie.Need-operate-binary-requires-12
 unfolding Named classOf single
-operate-binary-requires-12 c κs = let m = c .before in let x = executable (m .before) in (x .place, named-as Binary op.GeI _ _ (m .match .keys24) refl (x .named))
+operate-binary-requires-12 c κs = let m = c .before in let x = executable (m .before) in let n = named-as Binary op.GeI _ _ (m .match .keys24) refl (x .named) in (x .place, (n .0, (n .1, n .2)))
 
 operate-binary-requires-13 : tie.Need-operate-binary-requires-13
 unfolding Named classOf single
-operate-binary-requires-13 c κs = let m = c .before in let x = executable (m .before) in (x .place, named-as Binary op.GeU _ _ (m .match .keys25) refl (x .named))
+operate-binary-requires-13 c κs = let m = c .before in let x = executable (m .before) in let n = named-as Binary op.GeU _ _ (m .match .keys25) refl (x .named) in (x .place, (n .0, (n .1, n .2)))
 
 operate-binary-requires-14 : tie.Need-operate-binary-requires-14
 unfolding Named classOf single
-operate-binary-requires-14 c κs = let m = c .before in let x = executable (m .before) in (x .place, named-as Binary op.And _ _ (m .match .keys26) refl (x .named))
+operate-binary-requires-14 c κs = let m = c .before in let x = executable (m .before) in let n = named-as Binary op.And _ _ (m .match .keys26) refl (x .named) in (x .place, (n .0, (n .1, n .2)))
 
 operate-binary-requires-15 : tie.Need-operate-binary-requires-15
 unfolding Named classOf single
-operate-binary-requires-15 c κs = let m = c .before in let x = executable (m .before) in (x .place, named-as Binary op.Or _ _ (m .match .keys27) refl (x .named))
+operate-binary-requires-15 c κs = let m = c .before in let x = executable (m .before) in let n = named-as Binary op.Or _ _ (m .match .keys27) refl (x .named) in (x .place, (n .0, (n .1, n .2)))
 
 operate-binary-requires-16 : tie.Need-operate-binary-requires-16
 unfolding Named classOf single
-operate-binary-requires-16 c κs = let m = c .before in let x = executable (m .before) in (x .place, named-as Binary op.Xor _ _ (m .match .keys28) refl (x .named))
+operate-binary-requires-16 c κs = let m = c .before in let x = executable (m .before) in let n = named-as Binary op.Xor _ _ (m .match .keys28) refl (x .named) in (x .place, (n .0, (n .1, n .2)))
 
 operate-binary-requires-17 : tie.Need-operate-binary-requires-17
 unfolding Named classOf single
-operate-binary-requires-17 c κs = let m = c .before in let x = executable (m .before) in (x .place, named-as Binary op.AndNot _ _ (m .match .keys29) refl (x .named))
+operate-binary-requires-17 c κs = let m = c .before in let x = executable (m .before) in let n = named-as Binary op.AndNot _ _ (m .match .keys29) refl (x .named) in (x .place, (n .0, (n .1, n .2)))
 
 returns : tie.Need-returns
 returns c = let m = c in does-hint _ _ _ (m .before .read .ensures) _ (m .match .keys1) (omega arith)
