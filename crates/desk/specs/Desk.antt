@@ -1,6 +1,6 @@
 -- Definitions. Document 02, L6: the desk run, over the cells of a function. A frame is a list of words, so that it computes.
 -- Assumes nothing.
-use mathlib.Core.Bool.{Bool, true, false, cond, not}
+use mathlib.Core.Bool.{Bool, cond, not}
 use mathlib.Core.List.{List}
 use Prim.Native.Nat.{ℕ, zero, suc}
 use lib.Dec.{eqb, ltb}

@@ -11,7 +11,7 @@ use native.Mathlib.Decide.{decLe}
 use native.Mathlib.Omega.{arith}
 use lib.Dec.{eqb, ltb}
 use lib.ListN.{length}
-use borrow.Author.Tests.{ltb-true, ltb-false, lt-ltb, le-ltb, eq-eqb}
+use borrow.Author.Tests.{ltb-true, lt-ltb, le-ltb, eq-eqb}
 use Rattle.words.specs.Bytes.{Bytes}
 use Rattle.words.specs.Lists.{isIn}
 use Rattle.instruction.specs.declared.Instruction.{Instruction}
@@ -31,7 +31,7 @@ use Rattle.answer.specs.Answer.{Lent, cellsOf, sectionsOf, roomFor, answerWith,
 use Rattle.answer.specs.Clean.{cellsAfter, cleanedFirst, spareFor, cleanAnswer}
 use Rattle.answer.specs.Pass.{Outcome, unchanged, refused, rewritten}
 use Rattle.run.specs.System.{System, after}
-use Rattle.run.specs.Machine.{Words, Event, Way, byReturn, byPanic, byReply, byCode, World, Program, State, at, over, step, step-stays, wayOf, logOf, start}
+use Rattle.run.specs.Machine.{Words, Event, Way, byReturn, byPanic, byReply, byCode, World, Program, State, at, over, step, step-stays, wayOf, logOf}
 use Rattle.run.specs.Program.{Function, programOf}
 use Rattle.run.specs.Given.{cells-long, answer-optimized, worked-well, answer-returnable, clean-kept}
 use Rattle.run.specs.Returned.{givenFunction, resultFunction}
@@ -40,7 +40,7 @@ use Rattle.run.specs.laws.Checked.{target-inside}
 use Rattle.run.specs.laws.Passed.{optimized-kept}
 use Rattle.run.specs.laws.Runnable.{Runnable}
 use Rattle.run.specs.laws.Simulation.{after-stays}
-use Rattle.run.specs.laws.Visited.{Visited, now, later, visited-inside, visited-hold}
+use Rattle.run.specs.laws.Visited.{Visited, now, later, visited-hold}
 use Rattle.desk.specs.declared.Stop.{Stop}
 use Rattle.desk.specs.declared.Stop.the-variants.{Returned, Panicked, Ended, Other, Limit, Refused}
 use Rattle.desk.specs.Desk.{Stopped, stoppedWith, Due, goes, stops, notExecuted, loads, dueBy, halted, taken, dueAt, runFrom}
@@ -349,7 +349,7 @@ module _ (u : List ℕ) (b : Bytes u) (room : Bool) where
       record {
         described = rw (cells-long u, w .described) (omega arith);
         operands = passed-at (sectionsOf u .locals) (sectionsOf u .tables) (cellsOf u) (passed .0);
-        targets = λ p h t. (let i = target-inside (cellsOf u) (passed .1) p h t in omega arith);
+        targets = λ p h t. (let i = target-inside (cellsOf u) (length (cellsOf u)) (passed .1) p h t in omega arith);
       }
 
 abbrev pub RunsLikewise : List ℕ → List Retained → Type 0

@@ -4,25 +4,25 @@
 use mathlib.Core.Path.{_≡_, refl, sym, ap, _∙_}
 use mathlib.Core.Bool.{Bool, true, false, cond}
 use mathlib.Core.List.{List}
-use Prim.Native.Nat.{ℕ, zero, suc, _≤_, _<_}
-use native.Mathlib.Numerals.{add-one}
+use Prim.Native.Nat.{ℕ, suc, _<_}
+use native.Mathlib.Nat.{zero-add}
 use native.Mathlib.Omega.{arith}
-use lib.Dec.{eqb, ltb}
+use lib.Dec.{ltb}
 use lib.ListN.{length}
 use borrow.Author.Tests.{eq-eqb, lt-ltb}
 use Rattle.words.specs.Bytes.{Bytes}
 use Rattle.instruction.specs.Instruction.{class}
-use Rattle.unit.specs.Layout.{headerOf, layoutOf}
+use Rattle.unit.specs.Layout.{headerOf}
 use Rattle.unit.specs.Refusal.{branchOutside}
 use Rattle.unit.specs.Result.{Retained}
-use Rattle.unit.specs.declared.Header.{Header}
 use Rattle.unit.specs.declared.Line.{Line}
 use Rattle.unit.specs.laws.UnitLaws.{layout-unit}
 use Rattle.effects.specs.declared.Check.{Check}
 use Rattle.effects.specs.declared.Check.the-variants.{Passed, Refused}
 use Rattle.effects.specs.Check.{lowest, operandRefusal, operandCheck}
-use Rattle.effects.specs.Shape.{Sections, Cell, cellAt}
+use Rattle.effects.specs.Shape.{Cell, cellAt}
 use Rattle.flow.specs.Branch.{branches, target, branchInside, branchCheckIn}
+use Rattle.flow.specs.laws.Checking.{lowest-all}
 use Rattle.answer.specs.Pass.{rewritten}
 use Rattle.answer.specs.Answer.{Lent, cellsOf, sectionsOf, countCheck, roomFor, passAnswer, passLines}
 use Rattle.answer.specs.Clean.{cellsAfter, cleanAnswer, cleanLines}
@@ -30,12 +30,11 @@ use Rattle.run.specs.Given.{answer-worked, answer-returnable, clean-kept}
 use Rattle.run.specs.Program.{Function}
 use Rattle.run.specs.Returned.{givenFunction, resultFunction}
 use Rattle.run.specs.laws.Runnable.{Runnable}
-use Rattle.again.specs.Again.{countsWith, offsetsOf, headerWith, unitOf}
+use Rattle.again.specs.Again.{countsWith, headerWith, unitOf}
 use Rattle.again.specs.Units.{UnitAgain, pass-unit, clean-unit}
 use Rattle.desk.specs.Answer.{andThen, layoutCheck, frameCheck, deskCheck, stoppedBy, deskAnswer}
-use Rattle.desk.specs.Desk.{Stopped, runFrom}
+use Rattle.desk.specs.Desk.{runFrom}
 use Rattle.desk.specs.Likewise.{Likewise, RunsLikewise, pass-likewise, clean-likewise}
-use Rattle.desk.specs.laws.Checking.{Clear, clear-first, clear-later, clear-none}
 use Rattle.desk.specs.laws.Passed.{passed-run}
 
 -- what stands for a unit at the desk: refused for its frame alone, and ending likewise from every frame within every limit
@@ -49,12 +48,8 @@ frame-passed : {s words : ℕ} → words ≡ s → frameCheck s words ≡ Passed
 unfolding frameCheck
 frame-passed {s} {words} e = rw (eq-eqb words s e)
 
-all-clear : (test : ℕ → Cell → ℕ) (cells : List Cell) → ((k : ℕ) → k < length cells → test k (cellAt cells k) ≡ 0) → (p : ℕ) → p ≤ length cells → Clear test cells p
-all-clear test cells z zero h = clear-first
-all-clear test cells z (suc p) h = rw (add-one p) at (clear-later (all-clear test cells z p (omega arith)) (omega arith) refl (z p (omega arith)))
-
 all-passed : (test : ℕ → Cell → ℕ) (cells : List Cell) → ((k : ℕ) → k < length cells → test k (cellAt cells k) ≡ 0) → lowest test 0 cells ≡ Passed
-all-passed test cells z = sym (clear-none (all-clear test cells z (length cells) (omega arith)) (omega arith))
+all-passed test cells z = lowest-all test 0 cells (λ k h. rw zero-add (z k h))
 
 module _ (F : Function) (A : Runnable F) where
   operands-passed : operandCheck (F .sections .locals) (F .sections .tables) (F .cells) ≡ Passed

@@ -1,6 +1,5 @@
 -- Definitions. How a run at the desk stops, what a step does, and a result as a unit again, as numbers.
 -- Assumes nothing.
-use Prim.Native.Nat.{ℕ}
 use Rattle.again.specs.declared.Laid.{Laid}
 use Rattle.again.specs.declared.Laid.the-variants as laid
 use Rattle.desk.specs.declared.Next.{Next}

@@ -1,14 +1,12 @@
 //! `beside lay-out`: results as units again, from any bytes and in buffers of any lengths, between guarded pages.
 
-use crate::arena::Arena;
-use crate::differences::Differences;
-use crate::likewise::lay_out;
+use crate::likewise::Lent;
+use crate::mutate;
 use crate::options::Options;
-use crate::run::Units;
-use crate::{faults, mutate, parallel};
+use crate::run::{each_unit, Units};
 use generate::Rng;
 use lampruda::sys::{self, Laid};
-use lampruda::{Answer, Workspace};
+use lampruda::{lay_out, Answer, Workspace};
 use unit::{Instruction, Line, Metadata, Retained, Rewritten, Section, Unit, RESULT_HEADER_LEN};
 
 /// So many calls show every answer.
@@ -17,54 +15,31 @@ const COUNT: u64 = 50_000;
 /// The answers: laid out; refused 1, 11, 13 and 2; none.
 const ANSWERS: [&str; 6] = ["laid out", "refused 1", "refused 11", "refused 13", "refused 2", "none"];
 
-pub fn run(mut options: Options) -> Result<(), String> {
-    let seed = options.number("seed", 1)?;
-    let from = options.number("from", 0)?;
-    let count = options.number("count", COUNT)?;
-    options.done()?;
-    faults::report("lay-out", seed);
-    let units = Units::new(seed);
-    let workers = parallel::each(count, Worker::default, |worker, index| {
-        let number = from + index;
-        let (name, unit) = units.draw(number);
-        faults::under_way(number);
-        let rng = &mut Rng::new(seed, number);
-        let result = worker.result(rng, &unit, &units);
-        if let Err(text) = worker.compare(rng, &unit, &result) {
-            let text = format!("{text}, of the result {}", unit::hex::encode(&result));
-            worker.differences.note(number, name, text, unit);
-        }
-    });
-    let mut all = Worker::default();
-    for worker in workers {
-        all.counts.iter_mut().zip(worker.counts).for_each(|(count, other)| *count += other);
-        all.differences.add(worker.differences);
+pub fn run(options: Options) -> Result<(), String> {
+    let found = each_unit("lay-out", options, COUNT, |worker: &mut Worker, rng, units, unit| {
+        let result = worker.result(rng, unit, units);
+        let of_result = |text| format!("{text}, of the result {}", unit::hex::encode(&result));
+        worker.compare(rng, unit, &result).map_err(of_result)
+    })?;
+    let mut counts = [0; ANSWERS.len()];
+    for worker in found.workers {
+        counts.iter_mut().zip(worker.counts).for_each(|(count, other)| *count += other);
     }
     let said: Vec<String> =
-        ANSWERS.iter().zip(all.counts).map(|(answer, found)| format!("{answer} {found}")).collect();
-    println!("seed {seed}: {count} calls: {}", said.join(", "));
-    all.differences.report()?;
-    match ANSWERS.iter().zip(all.counts).find(|(_, found)| *found == 0) {
-        Some((answer, _)) if count >= COUNT => Err(format!("not every answer occurred: {answer}")),
+        ANSWERS.iter().zip(counts).map(|(answer, found)| format!("{answer} {found}")).collect();
+    println!("seed {}: {} calls: {}", found.seed, found.count, said.join(", "));
+    found.differences.report()?;
+    match ANSWERS.iter().zip(counts).find(|(_, found)| *found == 0) {
+        Some((answer, _)) if found.count >= COUNT => Err(format!("not every answer occurred: {answer}")),
         _ => Ok(()),
     }
 }
 
+#[derive(Default)]
 struct Worker {
     workspace: Workspace,
-    unit: Arena,
-    result: Arena,
-    out: Arena,
+    lent: Lent,
     counts: [u64; ANSWERS.len()],
-    differences: Differences,
-}
-
-impl Default for Worker {
-    fn default() -> Self {
-        let [unit, result, out] = [(); 3].map(|()| Arena::new(640));
-        let workspace = Workspace::default();
-        Self { workspace, unit, result, out, counts: Default::default(), differences: Default::default() }
-    }
 }
 
 impl Worker {
@@ -87,7 +62,7 @@ impl Worker {
             let more = rng.below(60);
             result.extend((0..more).map(|_| rng.word() as u8));
         }
-        result.truncate(self.result.room::<u8>());
+        result.truncate(self.lent.result.room::<u8>());
         result
     }
 
@@ -110,11 +85,11 @@ impl Worker {
             _ => rng.below(2 * exact + 1),
         };
         let (noise, at_end) = (rng.word() as u8, [(); 3].map(|()| rng.percent(50)));
-        let given = self.unit.lend::<u8>(unit.len(), at_end[0]);
+        let given = self.lent.unit.lend::<u8>(unit.len(), at_end[0]);
         given.copy_from_slice(unit);
-        let lent = self.result.lend::<u8>(result.len(), at_end[1]);
+        let lent = self.lent.result.lend::<u8>(result.len(), at_end[1]);
         lent.copy_from_slice(result);
-        let out = self.out.lend::<u8>(len.min(self.out.room::<u8>()), at_end[2]);
+        let out = self.lent.out.lend::<u8>(len.min(self.lent.out.room::<u8>()), at_end[2]);
         out.fill(noise);
         let made = lay_out(given, lent, out);
         let (wanted, laid) = match wanted {

@@ -5,14 +5,12 @@
 
 use crate::arena::Arena;
 use crate::desk::Desk;
-use crate::differences::Differences;
 use crate::guarded::Call;
 use crate::options::Options;
-use crate::run::{frame_words, run_at_the_desk, Units};
-use crate::{faults, parallel};
+use crate::run::{each_unit, frame_words, run_at_the_desk};
 use generate::Rng;
 use lampruda::sys::{self, Stop};
-use lampruda::{Answer, Workspace};
+use lampruda::{lay_out, Answer, Workspace};
 use unit::{Rewritten, Unit};
 
 /// So many units show every end.
@@ -24,35 +22,22 @@ const PATIENCE: u32 = 5_000;
 /// So many frames are tried with each result.
 const FRAMES: usize = 4;
 
-pub fn run(mut options: Options) -> Result<(), String> {
-    let seed = options.number("seed", 1)?;
-    let from = options.number("from", 0)?;
-    let count = options.number("count", COUNT)?;
-    options.done()?;
-    faults::report("likewise", seed);
-    let units = Units::new(seed);
-    let workers = parallel::each(count, Worker::default, |worker, index| {
-        let number = from + index;
-        let (name, unit) = units.draw(number);
-        faults::under_way(number);
-        if let Err(text) = worker.compare(&mut Rng::new(seed, number), &unit) {
-            worker.differences.note(number, name, text, unit);
-        }
-    });
-    let mut all = Worker::default();
-    for worker in workers {
-        all.counts.iter_mut().zip(worker.counts).for_each(|(counts, others)| counts.add(&others));
-        all.differences.add(worker.differences);
+pub fn run(options: Options) -> Result<(), String> {
+    let found =
+        each_unit("likewise", options, COUNT, |worker: &mut Worker, rng, _, unit| worker.compare(rng, unit))?;
+    let mut all = <[Counts; 2]>::default();
+    for worker in found.workers {
+        all.iter_mut().zip(worker.counts).for_each(|(counts, others)| counts.add(&others));
     }
-    println!("seed {seed}: {count} units");
+    println!("seed {}: {} units", found.seed, found.count);
     println!("{:<12}{:>12}{:>12}", "", "one pass", "cleaned");
-    let [pass, clean] = all.counts.map(|counts| counts.rows());
+    let [pass, clean] = all.map(|counts| counts.rows());
     for ((name, passed), (_, cleaned)) in pass.iter().zip(clean) {
         println!("{name:<12}{passed:>12}{cleaned:>12}");
     }
-    all.differences.report()?;
+    found.differences.report()?;
     match pass.iter().chain(&clean).find(|(_, found)| *found == 0) {
-        Some((name, _)) if count >= COUNT => Err(format!("not everything occurred: {name}")),
+        Some((name, _)) if found.count >= COUNT => Err(format!("not everything occurred: {name}")),
         _ => Ok(()),
     }
 }
@@ -96,22 +81,11 @@ impl Counts {
     }
 }
 
+#[derive(Default)]
 struct Worker {
     workspace: Workspace,
-    unit: Arena,
-    result: Arena,
-    out: Arena,
+    lent: Lent,
     counts: [Counts; 2],
-    differences: Differences,
-}
-
-impl Default for Worker {
-    fn default() -> Self {
-        // Room for the longest function that is worked on, with a line on every place.
-        let [unit, result, out] = [(); 3].map(|()| Arena::new(640));
-        let workspace = Workspace::default();
-        Self { workspace, unit, result, out, counts: Default::default(), differences: Default::default() }
-    }
 }
 
 impl Worker {
@@ -125,9 +99,8 @@ impl Worker {
             counts.rewritten += 1;
             let unit = Unit::check(bytes).expect("what is rewritten is a unit");
             let wanted = Rewritten::decode(result).expect("rewritten to a result").as_unit(&unit);
-            let lent = Lent { unit: &mut self.unit, result: &mut self.result, out: &mut self.out };
             let of_call = |text: String| format!("{call:?}: {text}");
-            if lent.lay_out(rng, bytes, result).map_err(of_call)? != wanted {
+            if self.lent.lay_out(rng, bytes, result).map_err(of_call)? != wanted {
                 return Err(of_call("laid out as another unit".into()));
             }
             likewise(rng, bytes, &wanted, counts).map_err(of_call)?;
@@ -137,15 +110,23 @@ impl Worker {
 }
 
 /// The memory that a result is laid out in.
-struct Lent<'a> {
-    unit: &'a mut Arena,
-    result: &'a mut Arena,
-    out: &'a mut Arena,
+pub struct Lent {
+    pub unit: Arena,
+    pub result: Arena,
+    pub out: Arena,
 }
 
-impl<'a> Lent<'a> {
+impl Default for Lent {
+    fn default() -> Self {
+        // Room for the longest function that is worked on, with a line on every place.
+        let [unit, result, out] = [(); 3].map(|()| Arena::new(640));
+        Self { unit, result, out }
+    }
+}
+
+impl Lent {
     /// In a buffer of the given unit's length, which is always long enough, and whose rest stays.
-    fn lay_out(self, rng: &mut Rng, unit: &[u8], result: &[u8]) -> Result<&'a [u8], String> {
+    fn lay_out(&mut self, rng: &mut Rng, unit: &[u8], result: &[u8]) -> Result<&[u8], String> {
         let noise = rng.word() as u8;
         let given = self.unit.lend::<u8>(unit.len(), rng.percent(50));
         given.copy_from_slice(unit);
@@ -162,20 +143,6 @@ impl<'a> Lent<'a> {
             return Err("touched more than the unit that is laid out".into());
         }
         Ok(front)
-    }
-}
-
-pub fn lay_out(unit: &[u8], result: &[u8], out: &mut [u8]) -> sys::Laid {
-    // All are lent for the call alone.
-    unsafe {
-        sys::lampruda_lay_out(
-            unit.as_ptr(),
-            unit.len(),
-            result.as_ptr(),
-            result.len(),
-            out.as_mut_ptr(),
-            out.len(),
-        )
     }
 }
 

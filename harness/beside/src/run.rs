@@ -19,33 +19,55 @@ const PATIENCE: u32 = 2_000;
 /// So many instructions are checked when a run is made step by step: each step checks them all.
 const CHECKED: usize = 20_000;
 
-pub fn run(mut options: Options) -> Result<(), String> {
+pub fn run(options: Options) -> Result<(), String> {
+    let found =
+        each_unit("run", options, COUNT, |worker: &mut Worker, rng, _, unit| worker.compare(rng, unit))?;
+    let mut tally = Tally::default();
+    found.workers.iter().for_each(|worker| tally.add(&worker.tally));
+    println!("seed {}: {} units, {} runs, {} steps", found.seed, found.count, tally.runs(), tally.steps());
+    tally.print();
+    found.differences.report()?;
+    if found.count >= COUNT {
+        tally.is_full()?;
+    }
+    Ok(())
+}
+
+/// What a subcommand over `Units` has found: its workers, and where the library differs.
+pub struct Found<W> {
+    pub seed: u64,
+    pub count: u64,
+    pub workers: Vec<W>,
+    pub differences: Differences,
+}
+
+/// Has as many units compared as `--count` says, from the number `--from` on.
+pub fn each_unit<W: Default + Send>(
+    command: &'static str,
+    mut options: Options,
+    count: u64,
+    compare: impl Fn(&mut W, &mut Rng, &Units, &[u8]) -> Result<(), String> + Sync,
+) -> Result<Found<W>, String> {
     let seed = options.number("seed", 1)?;
     let from = options.number("from", 0)?;
-    let count = options.number("count", COUNT)?;
+    let count = options.number("count", count)?;
     options.done()?;
-    faults::report("run", seed);
+    faults::report(command, seed);
     let units = Units::new(seed);
-    let workers = parallel::each(count, Worker::default, |worker, index| {
+    let done = parallel::each(count, <(W, Differences)>::default, |(worker, differences), index| {
         let number = from + index;
         let (name, unit) = units.draw(number);
         faults::under_way(number);
-        if let Err(text) = worker.compare(&mut Rng::new(seed, number), &unit) {
-            worker.differences.note(number, name, text, unit);
+        if let Err(text) = compare(worker, &mut Rng::new(seed, number), &units, &unit) {
+            differences.note(number, name, text, unit);
         }
     });
-    let mut all = Worker::default();
-    for worker in workers {
-        all.tally.add(&worker.tally);
-        all.differences.add(worker.differences);
+    let mut found = Found { seed, count, workers: Vec::new(), differences: Differences::default() };
+    for (worker, differences) in done {
+        found.workers.push(worker);
+        found.differences.add(differences);
     }
-    println!("seed {seed}: {count} units, {} runs, {} steps", all.tally.runs(), all.tally.steps());
-    all.tally.print();
-    all.differences.report()?;
-    if count >= COUNT {
-        all.tally.is_full()?;
-    }
-    Ok(())
+    Ok(found)
 }
 
 /// Units of all sorts: first those of `beside compare` that are always there, then drawn ones.
@@ -106,18 +128,12 @@ struct Worker {
     unit: Arena,
     frame: Arena,
     tally: Tally,
-    differences: Differences,
 }
 
 impl Default for Worker {
     fn default() -> Self {
         // Room for a function that is too long for one pass, with a line on every place, and for the longest frame.
-        Self {
-            unit: Arena::new(640),
-            frame: Arena::new(136),
-            tally: Tally::default(),
-            differences: Differences::default(),
-        }
+        Self { unit: Arena::new(640), frame: Arena::new(136), tally: Tally::default() }
     }
 }
 

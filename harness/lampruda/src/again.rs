@@ -2,6 +2,22 @@
 
 use crate::sys;
 
+/// The library's own answer, with the unit at the front of `out` where there is one.
+pub fn lay_out(unit: &[u8], result: &[u8], out: &mut [u8]) -> sys::Laid {
+    // SAFETY: the pointers and lengths are those of three slices that do not overlap. The library reads the first two,
+    // writes the third, and touches nothing else.
+    unsafe {
+        sys::lampruda_lay_out(
+            unit.as_ptr(),
+            unit.len(),
+            result.as_ptr(),
+            result.len(),
+            out.as_mut_ptr(),
+            out.len(),
+        )
+    }
+}
+
 /// The code, metadata and lines of a result of one pass or of the cleaning, with the given unit's other sections.
 /// `None` where the given bytes are refused, or the others do not begin with a result of them.
 ///
@@ -17,18 +33,7 @@ use crate::sys;
 pub fn as_unit(unit: &[u8], result: &[u8]) -> Option<Vec<u8>> {
     // It is no longer than the given unit.
     let mut out = vec![0; unit.len()];
-    // SAFETY: the pointers and lengths are those of three slices that do not overlap. The library reads the first two,
-    // writes the third, and touches nothing else.
-    let laid = unsafe {
-        sys::lampruda_lay_out(
-            unit.as_ptr(),
-            unit.len(),
-            result.as_ptr(),
-            result.len(),
-            out.as_mut_ptr(),
-            out.len(),
-        )
-    };
+    let laid = lay_out(unit, result, &mut out);
     out.truncate(laid.length as usize);
     (laid.kind == sys::LAID_UNIT).then_some(out)
 }

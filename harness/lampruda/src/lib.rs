@@ -29,7 +29,7 @@ mod passes;
 mod short;
 pub mod sys;
 
-pub use again::as_unit;
+pub use again::{as_unit, lay_out};
 pub use desk::{run, step, Next, Stop};
 pub use fate::{fates, Fate};
 pub use lengths::needed;

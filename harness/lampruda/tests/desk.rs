@@ -2,7 +2,7 @@
 //! and `beside lay-out` compare them at scale.
 
 use lampruda::sys::{self, Laid, Stop};
-use lampruda::{Answer, Workspace};
+use lampruda::{lay_out, Answer, Workspace};
 use text::Opcode::{self, *};
 use unit::{Constant, Instruction, Kind, Metadata, Parts, Rewritten, Unit};
 use unit::{CONSTANT_BOOL, CONSTANT_FLOAT, CONSTANT_INT, CONSTANT_NIL, CONSTANT_STRING};
@@ -206,20 +206,6 @@ fn thirty_one_opcodes_are_executed() {
         let stop = stops.into_iter().find(|stop| stop.kind != sys::REFUSED);
         let wanted = if named.contains(&opcode) { LIMIT } else { other(0) };
         assert_eq!(stop, Some(wanted), "{opcode:?}");
-    }
-}
-
-fn lay_out(unit: &[u8], result: &[u8], out: &mut [u8]) -> Laid {
-    // All are lent for the call alone.
-    unsafe {
-        sys::lampruda_lay_out(
-            unit.as_ptr(),
-            unit.len(),
-            result.as_ptr(),
-            result.len(),
-            out.as_mut_ptr(),
-            out.len(),
-        )
     }
 }
 

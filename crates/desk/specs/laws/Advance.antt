@@ -1,20 +1,20 @@
 -- How far a run goes, and how it stops there.
 -- Assumes nothing.
-use mathlib.Core.Path.{_≡_, refl, sym, ap, _∙_}
+use mathlib.Core.Path.{_≡_, refl}
 use mathlib.Core.Bool.{Bool, true, false, cond}
 use mathlib.Core.List.{List, []}
-use Prim.Native.Nat.{ℕ, zero, suc, _+_, _^_, _≤_, _<_}
+use Prim.Native.Nat.{ℕ, zero, suc, _^_, _≤_, _<_}
 use native.Mathlib.Omega.{arith}
 use lib.Dec.{ltb}
 use lib.ListN.{length}
-use borrow.Author.Tests.{ltb-true, lt-ltb, le-ltb}
+use borrow.Author.Tests.{lt-ltb, le-ltb}
 use Rattle.effects.specs.Shape.{Sections, Cell}
 use Rattle.run.specs.Program.{Function}
 use Rattle.run.specs.laws.Runnable.{Runnable}
 use Rattle.desk.specs.declared.Next.the-variants.{Goes, Stops}
 use Rattle.desk.specs.declared.Stop.{Stop}
 use Rattle.desk.specs.declared.Stop.the-variants.{Ended, Other, Limit}
-use Rattle.desk.specs.Answer.{Stepped, steppedWith, stepped, stepFrom}
+use Rattle.desk.specs.Answer.{steppedWith, stepped, stepFrom}
 use Rattle.desk.specs.Desk.{Stopped, stoppedWith, Due, goes, stops, notExecuted, halted, taken, dueAt, runFrom}
 use Rattle.desk.specs.laws.Execution.{goesTo, frameAfter}
 use Rattle.desk.specs.laws.Stands.{mute, goes-there}

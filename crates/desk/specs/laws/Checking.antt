@@ -2,14 +2,13 @@
 -- Assumes nothing.
 use mathlib.Core.Path.{_≡_, refl, sym, ap, _∙_}
 use mathlib.Core.Bool.{Bool, true, false, cond}
-use mathlib.Core.List.{List, _∷_}
+use mathlib.Core.List.{List}
 use Prim.Native.Nat.{ℕ, suc, _+_, _*_, _/_, _^_, _≤_, _<_}
 use native.Mathlib.Numerals.{add-one}
 use native.Mathlib.Omega.{arith}
 use lib.Dec.{eqb}
-use lib.ListN.{length, drop}
-use lib.Seq.{drop-cons, drop-length}
-use borrow.Author.Tests.{eqb-true, eq-eqb, ne-eqb}
+use lib.ListN.{length}
+use borrow.Author.Tests.{eqb-true}
 use Rattle.words.specs.Bytes.{Bytes}
 use Rattle.words.specs.laws.Bytes.{bytes-mid, le-fits}
 use Rattle.instruction.specs.declared.Instruction.{Instruction}
@@ -25,42 +24,13 @@ use Rattle.unit.specs.Size.{instructionSize, metadataSize, caseSize, maxLocalSl
 use Rattle.unit.specs.laws.UnitLaws.{unit-laid, layout-unit}
 use Rattle.effects.specs.declared.Check.{Check}
 use Rattle.effects.specs.declared.Check.the-variants.{Passed, Refused}
-use Rattle.effects.specs.Check.{lowest, operandRefusal, operandCheck}
-use Rattle.effects.specs.Shape.{Cell, cellAt, noCell, tablesOf}
+use Rattle.effects.specs.Check.{operandRefusal, operandCheck}
+use Rattle.effects.specs.Shape.{Cell, cellAt, tablesOf}
 use Rattle.effects.specs.laws.Cells.{cellOf}
 use Rattle.flow.specs.Branch.{branchInside, branchCheckIn}
 use Rattle.answer.specs.Answer.{cellsOf, sectionsOf, countCheck}
 use Rattle.run.specs.Given.{instruction-fields, cell-at, cells-long}
 use Rattle.desk.specs.Answer.{andThen, layoutCheck, frameCheck, deskCheck}
-
--- ---- a sweep over cells
-
--- no place below p is refused, so what is left decides
-pub record Clear (test : ℕ → Cell → ℕ) (cells : List Cell) (p : ℕ) : Type 0 where
-  pub within : p ≤ length cells
-  pub decides : lowest test p (drop p cells) ≡ lowest test 0 cells
-
-pub clear-first : {test : ℕ → Cell → ℕ} {cells : List Cell} → Clear test cells 0
-clear-first = record { within = omega arith; decides = refl }
-
-module _ {test : ℕ → Cell → ℕ} {cells : List Cell} {p : ℕ} (u : Clear test cells p) where
-  pub clear-none : length cells ≤ p → Passed ≡ lowest test 0 cells
-  unfolding lowest
-  clear-none h =
-      let end : p ≡ length cells = let a = u .within in omega arith in
-      rw (end, drop-length cells) at (u .decides)
-
-  module _ (h : p < length cells) {r : ℕ} (e : r ≡ test p (cellAt cells p)) where
-    split : drop p cells ≡ cellAt cells p ∷ drop (suc p) cells
-    split = drop-cons cells p noCell h
-
-    pub clear-later : r ≡ 0 → Clear test cells (p + 1)
-    unfolding lowest
-    clear-later z = record { within = omega arith; decides = rw (add-one p) (rw (split, ← e, eq-eqb r 0 z) at (u .decides)) }
-
-    pub clear-here : (r ≡ 0 → ⊥) → Refused r p ≡ lowest test 0 cells
-    unfolding lowest
-    clear-here z = rw (split, ← e, ne-eqb r 0 z) at (u .decides)
 
 -- ---- the cells of a unit
 
@@ -85,11 +55,17 @@ branchTest m p x = cond (branchInside m p (x .instruction)) 0 branchOutside
 pub branch-tested : (p : ℕ) {m n : ℕ} {i j : Instruction} {r : ℕ} → r ≡ cond (branchInside (n + 1) p i) 0 branchOutside → n ≡ m → i ≡ j → r ≡ cond (branchInside (suc m) p j) 0 branchOutside
 branch-tested p {n = n} t e f = rw (← e, ← f, ← add-one n) t
 
+-- a row that lets pass
+pub not-passed : {k p : ℕ} → Refused k p ≡ Passed → ⊥
+not-passed e = let z : _≡_ {A = ℕ} 0 1 = cc in omega arith
+
+pub if-passed : (t : Bool) (c : Check) (k p : ℕ) → cond t c (Refused k p) ≡ Passed → (t ≡ true) × (c ≡ Passed)
+if-passed true c k p e = (refl, e)
+if-passed false c k p e = absurd (not-passed e)
+
 -- refusals 3 and 4 are past
 counts-past : (s t : Bool) → cond s (cond t Passed (Refused typeCount 0)) (Refused metadataCount 0) ≡ Passed → (s ≡ true) × (t ≡ true)
-counts-past true true e = (refl, refl)
-counts-past true false e = let z : _≡_ {A = ℕ} 0 1 = cc in absurd (omega arith)
-counts-past false t e = let z : _≡_ {A = ℕ} 0 1 = cc in absurd (omega arith)
+counts-past s t e = let a = if-passed s (cond t Passed (Refused typeCount 0)) metadataCount 0 e in (a .0, if-passed t Passed typeCount 0 (a .1) .0)
 
 -- the sections that the operands are looked up in
 pub record Found (u code metadata types functions externs cases : List ℕ) : Type 0 where

@@ -6,8 +6,8 @@ use mathlib.Core.List.{List, [], _∷_}
 use Prim.Native.Nat.{ℕ, suc, _+_, _%_, _^_, _≤_, _<_}
 use native.Mathlib.Decide.{decLe}
 use native.Mathlib.Omega.{arith}
-use lib.Dec.{eqb, ltb}
-use lib.ListN.{length, getD, set}
+use lib.Dec.{eqb}
+use lib.ListN.{getD, set}
 use borrow.Author.Tests.{lt-ltb}
 use borrow.Rule.Slice.PartMut.{midOf, putMid}
 use Rattle.words.specs.Lists.{isIn, every}
@@ -24,7 +24,7 @@ use Rattle.unit.specs.Entry.{constantAt}
 use Rattle.flow.specs.Branch.{targetBy}
 use Rattle.values.specs.Fold.{foldWord, foldingUnary, foldingBinary}
 use Rattle.values.specs.laws.Named.{Named}
-use Rattle.desk.specs.Desk.{Due, goes, stops, notExecuted, stores, loads, dueBy}
+use Rattle.desk.specs.Desk.{Due, goes, stops, notExecuted, loads, dueBy}
 use Rattle.desk.specs.laws.Stands.{isExecuted}
 
 -- what is due at a place of a code section

@@ -3,54 +3,43 @@
 use mathlib.Core.Path.{_≡_, refl, sym, ap, _∙_}
 use mathlib.Core.Bool.{Bool, true, false, cond}
 use mathlib.Core.List.{List, []}
-use Prim.Native.Nat.{ℕ, zero, suc, _+_, _^_, _≤_, _<_}
-use native.Mathlib.Nat.{zero-add}
+use Prim.Native.Nat.{ℕ, suc, _^_, _≤_, _<_}
 use native.Mathlib.Omega.{arith}
 use lib.Dec.{eqb, ltb}
 use lib.ListN.{length}
-use borrow.Author.Tests.{eqb-true, ltb-true, lt-ltb}
+use borrow.Author.Tests.{eqb-true, ltb-true}
 use Rattle.words.specs.Bytes.{Bytes}
-use Rattle.instruction.specs.Instruction.{class}
 use Rattle.unit.specs.Layout.{headerOf, isUnit, layoutOf}
-use Rattle.unit.specs.Refusal.{branchOutside, frameLength, metadataCount, typeCount}
+use Rattle.unit.specs.Refusal.{frameLength, metadataCount}
 use Rattle.unit.specs.declared.Layout.{Layout}
 use Rattle.unit.specs.declared.Layout.the-variants.{Unit}
 use Rattle.unit.specs.declared.Layout.the-variants as layout
 use Rattle.unit.specs.laws.UnitLaws.{layout-unit}
 use Rattle.effects.specs.declared.Check.{Check}
 use Rattle.effects.specs.declared.Check.the-variants.{Passed, Refused}
-use Rattle.effects.specs.Check.{operandCheck}
-use Rattle.effects.specs.Shape.{Sections, Cell, cellAt}
-use Rattle.effects.specs.laws.Sound.{lowest-passed, passed-at}
-use Rattle.flow.specs.Branch.{branches, target, branchInside, branchCheckIn}
+use Rattle.effects.specs.Shape.{Sections, Cell}
+use Rattle.effects.specs.laws.Sound.{passed-at}
 use Rattle.answer.specs.Answer.{cellsOf, sectionsOf, countCheck}
 use Rattle.run.specs.Given.{cells-long}
 use Rattle.run.specs.Program.{Function}
 use Rattle.run.specs.Returned.{givenFunction}
+use Rattle.run.specs.laws.Checked.{target-inside}
 use Rattle.run.specs.laws.Runnable.{Runnable}
-use Rattle.desk.specs.Answer.{andThen, layoutCheck, frameCheck, deskCheck, stoppedBy, deskAnswer, Stepped, steppedWith, stepFrom, steppedBy, stepAnswer}
-use Rattle.desk.specs.Desk.{Stopped, stoppedWith, Due, goes, stops, notExecuted, dueAt, runFrom}
-use Rattle.desk.specs.declared.Next.{Next}
+use Rattle.desk.specs.Answer.{andThen, layoutCheck, frameCheck, deskCheck, stoppedBy, deskAnswer, steppedBy, stepAnswer}
+use Rattle.desk.specs.Desk.{Due, goes, stops, notExecuted, dueAt}
 use Rattle.desk.specs.declared.Next.the-variants.{Goes, Stops}
 use Rattle.desk.specs.declared.Stop.{Stop}
 use Rattle.desk.specs.declared.Stop.the-variants as stop
 use Rattle.desk.specs.laws.Advance.{Advance, Placed, onward, advanced, stopAt, run-advances, step-advances}
-use Rattle.desk.specs.laws.Checking.{places-few}
+use Rattle.desk.specs.laws.Checking.{places-few, not-passed, if-passed}
 use Rattle.desk.specs.laws.Stands.{mute, goes-there}
 
 -- ---- the rows, one by one
-
-not-passed : {k p : ℕ} → Refused k p ≡ Passed → ⊥
-not-passed e = let z : _≡_ {A = ℕ} 0 1 = cc in omega arith
 
 and-passed : (a b : Check) → andThen a b ≡ Passed → (a ≡ Passed) × (b ≡ Passed)
 unfolding andThen
 and-passed Passed b e = (refl, e)
 and-passed (Refused k p) b e = absurd (not-passed e)
-
-if-passed : (t : Bool) (c : Check) (k p : ℕ) → cond t c (Refused k p) ≡ Passed → (t ≡ true) × (c ≡ Passed)
-if-passed true c k p e = (refl, e)
-if-passed false c k p e = absurd (not-passed e)
 
 unit-passed : (u : List ℕ) (l : Layout) → layoutOf u ≡ l → layoutCheck l ≡ Passed → isUnit u ≡ true
 unfolding layoutCheck
@@ -62,19 +51,6 @@ pub record Run (u : List ℕ) (words : ℕ) : Type 0 where
   pub laid : isUnit u ≡ true
   pub runnable : Runnable (givenFunction u)
   pub frame : words ≡ sectionsOf u .locals
-
-inside-from : (n p : ℕ) (x : Cell) → cond (branchInside n p (x .instruction)) 0 branchOutside ≡ 0 → branches (class (x .instruction)) ≡ true → target p (x .instruction) < n
-unfolding branchInside
-inside-from n p x e b = go (ltb (target p (x .instruction)) n) refl (rw b at e)
-  where
-    go : (t : Bool) → ltb (target p (x .instruction)) n ≡ t → cond t 0 branchOutside ≡ 0 → target p (x .instruction) < n
-    go true e z = ltb-true (target p (x .instruction)) n e
-    go false e z = absurd (omega arith)
-
-branches-passed : (m : ℕ) (cells : List Cell) → branchCheckIn m cells ≡ Passed → (p : ℕ) → p < length cells → branches (class (cellAt cells p .instruction)) ≡ true
-    → target p (cellAt cells p .instruction) < m
-unfolding branchCheckIn
-branches-passed m cells e p h b = inside-from m p (cellAt cells p) (rw zero-add at (lowest-passed (λ p x. cond (branchInside m p (x .instruction)) 0 branchOutside) 0 cells e p h)) b
 
 pub passed-run : (u : List ℕ) (words : ℕ) → deskCheck u words ≡ Passed → Run u words
 unfolding deskCheck countCheck frameCheck givenFunction
@@ -93,7 +69,7 @@ passed-run u words e =
           record {
             described = rw (cells-long u) (omega arith);
             operands = passed-at (S .locals) (S .tables) cells (three .0);
-            targets = λ p h b. (let l = branches-passed (suc (length cells)) cells (four .0) p h b in omega arith);
+            targets = λ p h b. (let l = target-inside cells (suc (length cells)) (four .0) p h b in omega arith);
           };
       frame = eqb-true words (S .locals) (if-passed (eqb words (S .locals)) Passed frameLength 0 (four .1) .0);
     }

@@ -15,7 +15,7 @@ use Rattle.instruction.specs.Instruction.{class, instructionAt}
 use Rattle.instruction.specs.declared.Class.{Class}
 use Rattle.instruction.specs.declared.Class.the-variants.{Hint, LoadInt, LoadConst, Copy, CopyN, Unary, Binary, Jump, JumpIf, JumpIfNot, ForLoop, Return, Panic, Outside, Invalid}
 use Rattle.instruction.specs.declared.Instruction.{Instruction}
-use Rattle.unit.specs.Layout.{headerOf, isUnit, codeOf, constantsOf}
+use Rattle.unit.specs.Layout.{isUnit, codeOf, constantsOf}
 use Rattle.unit.specs.laws.UnitLaws.{unit-laid}
 use Rattle.unit.specs.declared.Constant.{Constant}
 use Rattle.unit.specs.declared.Constant.the-variants.{Nil, Bool as BoolConstant, Int, Float, String, Missing}
@@ -24,7 +24,6 @@ use Rattle.effects.specs.Check.{operandRefusal}
 use Rattle.effects.specs.Shape.{Cell, cellAt}
 use Rattle.answer.specs.Answer.{cellsOf, sectionsOf}
 use Rattle.run.specs.Given.{cell-at, cells-long}
-use Rattle.run.specs.Program.{Function}
 use Rattle.run.specs.Returned.{givenFunction}
 use Rattle.run.specs.laws.Runnable.{Runnable}
 use Rattle.run.specs.laws.Slots.{named-of}

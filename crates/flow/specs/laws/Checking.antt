@@ -13,7 +13,7 @@ use Rattle.effects.specs.laws.Cells.{cellOf, cellsBy, cells-long, cell-at}
 use Rattle.effects.specs.Check.{lowest}
 use Rattle.effects.specs.laws.Sound.{lowest-passed}
 
-lowest-all : (test : ℕ → Cell → ℕ) (p : ℕ) (cells : List Cell) → ((k : ℕ) → k < length cells → test (p + k) (cellAt cells k) ≡ 0) → lowest test p cells ≡ Passed
+pub lowest-all : (test : ℕ → Cell → ℕ) (p : ℕ) (cells : List Cell) → ((k : ℕ) → k < length cells → test (p + k) (cellAt cells k) ≡ 0) → lowest test p cells ≡ Passed
 unfolding lowest
 lowest-all test p [] f = refl
 lowest-all test p (x ∷ xs) f =

@@ -12,7 +12,6 @@ use lib.Dec.{eqb, ltb}
 use lib.ListN.{length}
 use borrow.Author.Tests.{eq-eqb, ltb-true}
 use Rattle.words.specs.Lists.{isIn}
-use Rattle.instruction.specs.Opcode as op
 use Rattle.instruction.specs.declared.Instruction.{Instruction}
 use Rattle.instruction.specs.declared.Class.{Class}
 use Rattle.instruction.specs.declared.Class.the-variants.{Hint, LoadInt, LoadConst, Copy, CopyN, Unary, Binary, Jump, JumpIf, JumpIfNot, ForLoop, Return, Panic, Outside, Invalid}
@@ -115,17 +114,17 @@ module _ (cells : List Cell) where
       let i : isIn (suc p) (blockEnds 0 cells) ≡ true = rw zero-add at (in-ends cells 0 p (omega arith) e) in
       marked (suc p) h (rw i (or-true (eqb (suc p) 0 || isIn (suc p) (branchTargets 0 cells))))
 
-  -- refusal 8 did not happen
-  pub target-inside : branchCheck cells ≡ Passed → (p : ℕ) → p < length cells → branches (class (cellAt cells p .instruction)) ≡ true
-      → target p (cellAt cells p .instruction) < length cells
+  -- refusal 8, over any number of places, did not happen
+  pub target-inside : (m : ℕ) → branchCheckIn m cells ≡ Passed → (p : ℕ) → p < length cells → branches (class (cellAt cells p .instruction)) ≡ true
+      → target p (cellAt cells p .instruction) < m
   unfolding branchCheckIn branchInside
-  target-inside e p h b =
-      let z : cond (branchInside (length cells) p (cellAt cells p .instruction)) 0 branchOutside ≡ 0 =
-      rw zero-add at (lowest-passed (λ p x. cond (branchInside (length cells) p (x .instruction)) 0 branchOutside) 0 cells e p h) in
-      let y : cond (ltb (target p (cellAt cells p .instruction)) (length cells)) 0 branchOutside ≡ 0 = rw b at z in
-      go (ltb (target p (cellAt cells p .instruction)) (length cells)) refl y
+  target-inside m e p h b =
+      let z : cond (branchInside m p (cellAt cells p .instruction)) 0 branchOutside ≡ 0 =
+      rw zero-add at (lowest-passed (λ p x. cond (branchInside m p (x .instruction)) 0 branchOutside) 0 cells e p h) in
+      let y : cond (ltb (target p (cellAt cells p .instruction)) m) 0 branchOutside ≡ 0 = rw b at z in
+      go (ltb (target p (cellAt cells p .instruction)) m) refl y
     where
-      go : (t : Bool) → ltb (target p (cellAt cells p .instruction)) (length cells) ≡ t → cond t 0 branchOutside ≡ 0 → target p (cellAt cells p .instruction) < length cells
+      go : (t : Bool) → ltb (target p (cellAt cells p .instruction)) m ≡ t → cond t 0 branchOutside ≡ 0 → target p (cellAt cells p .instruction) < m
       go true e z = ltb-true _ _ e
       go false e z = absurd (omega arith)
 
@@ -249,7 +248,7 @@ module _ (F : Function) (w : Well F) (some-code : 0 < length (F .cells)) (few : 
     operands = passed-at (S .locals) (S .tables) cells checked-operands;
     fields = w .fields;
     constants = w .constants;
-    targets = λ p h b. target-leads cells p h b (target-inside cells checked-branches p h b);
+    targets = λ p h b. target-leads cells p h b (target-inside cells (length cells) checked-branches p h b);
     nexts = next-leads cells;
   }
 
@@ -280,7 +279,7 @@ module _ (F : Function) (w : Well F) (some-code : 0 < length (F .cells)) (few : 
     targets = λ p h b.
         let k : p < length cells = rw same-length at h in
         let r = branch-given p k b in
-        let l = target-inside cells checked-branches p k (r .0) in
+        let l = target-inside cells (length cells) checked-branches p k (r .0) in
         rw (r .1, same-length) (target-leads cells p k (r .0) l, l);
     nexts = λ p h b.
         let k : suc p < length cells = rw same-length at h in

@@ -5,7 +5,8 @@ use lib.ListN.{length}
 use Rattle.effects.specs.Shape.{cellAt}
 use Rattle.flow.specs.Branch.{branchCheckIn}
 use Rattle.answer.specs.Answer.{cellsOf}
-use Rattle.desk.specs.laws.Checking.{Clear, clear-first, clear-none, clear-later, clear-here, places, places-few, read-cell, branchTest, branch-tested}
+use Rattle.effects.specs.laws.Unrefused.{Clear, clear-first, clear-none, clear-later, clear-here}
+use Rattle.desk.specs.laws.Checking.{places, places-few, read-cell, branchTest, branch-tested}
 use borrow.Author.Needs.{needs}
 use Rattle.desk.proofs.check.check_branches.Statement.{statement}
 use Rattle.desk.proofs.check.check_branches.Tie as tie

@@ -5,7 +5,8 @@ use lib.ListN.{length}
 use Rattle.effects.specs.Shape.{cellAt}
 use Rattle.effects.specs.Check.{operandCheck}
 use Rattle.answer.specs.Answer.{cellsOf}
-use Rattle.desk.specs.laws.Checking.{Clear, clear-first, clear-none, clear-later, clear-here, Found, places, places-few, operandTest, operand-met, operand-tested}
+use Rattle.effects.specs.laws.Unrefused.{Clear, clear-first, clear-none, clear-later, clear-here}
+use Rattle.desk.specs.laws.Checking.{Found, places, places-few, operandTest, operand-met, operand-tested}
 use borrow.Author.Needs.{needs}
 use Rattle.desk.proofs.check.check_operands.Statement.{statement}
 use Rattle.desk.proofs.check.check_operands.Tie as tie
