@@ -1,0 +1,7 @@
+use Rattle.instruction.specs.Instruction.{instruction_at}
+use borrow.Author.Rules.{rules}
+use Rattle.instruction.proofs.read.Goals as goal
+
+pub returns : goal.returns
+unfolding instruction_at
+returns c = cc

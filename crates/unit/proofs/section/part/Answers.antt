@@ -1,0 +1,13 @@
+use mathlib.Core.Path.{◌≡◌}
+use Prim.Native.Nat.{◌*◌, ◌-◌}
+use native.Mathlib.Omega.{arith}
+use Rattle.words.specs.Le.{u32_at}
+use borrow.Author.Rules.{rules}
+use Rattle.unit.proofs.section.part.Goals as goal
+
+pub returns : goal.returns
+returns c =
+    let a = c.args in
+    let start = c.word-start in
+    let long : c.past-end.result - start.result ≡ a.size * u32_at a.unit.now a.count = omega arith in
+    rw (long, start.ensures.0)

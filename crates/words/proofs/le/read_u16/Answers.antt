@@ -1,0 +1,8 @@
+use Rattle.std.proofs.Common.{arith, rules}
+use Rattle.words.specs.laws.Le.{u16_bytes}
+use Rattle.words.proofs.le.read_u16.Goals as goal
+
+pub returns : goal.returns
+returns c =
+    let a = c.args in
+    omega (arith, u16_bytes a.s.now a.at (omega arith))
