@@ -12,7 +12,7 @@ use unit::{Counts, Header, Layout, Offsets, field, refusal, result, section, siz
 use words::le;
 
 // A unit of so many bytes, a refusal with number and place, or none: there is no result of the unit.
-#[derive(Drop)]
+#[derive(Clone, Copy)]
 pub enum Laid {
     Unit(usize),
     Refused(u32, u32),

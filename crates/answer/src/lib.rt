@@ -1,5 +1,5 @@
 // What one pass and the cleaning answer: definitions, and what the rows before the work come to.
-#[derive(Drop)]
+#[derive(Clone, Copy)]
 pub enum Admission {
     Admitted,
     Unchanged,

@@ -23,7 +23,7 @@ use unit::size;
 use words::fill;
 
 // What the cleaning answers, and the number of the last pass run.
-#[derive(Drop)]
+#[derive(Clone, Copy)]
 pub struct Cleaned {
     pub answer: Answer,
     pub passes: u32,

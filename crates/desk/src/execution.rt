@@ -23,7 +23,7 @@ use values::fold;
 const NOWHERE: u64 = 4294967296;
 
 // How far a run went: to a place, with so many steps left, at the price of those that were done.
-#[derive(Drop)]
+#[derive(Clone, Copy)]
 pub struct Progress {
     pub place: usize,
     pub left: u32,

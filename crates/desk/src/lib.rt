@@ -12,7 +12,7 @@ pub mod execution;
 
 // How a run stops: Return or Panic with the first slot and the count of the words that it read, the end of the code,
 // the place of the first other instruction, the limit, or a refusal with number and place.
-#[derive(Drop)]
+#[derive(Clone, Copy)]
 pub enum Stop {
     Returned(u32, u32),
     Panicked(u32, u32),
@@ -23,7 +23,7 @@ pub enum Stop {
 }
 
 // What a step does: it goes to a place, or the run stops.
-#[derive(Drop)]
+#[derive(Clone, Copy)]
 pub enum Next {
     Goes(u32),
     Stops(Stop),
@@ -36,7 +36,7 @@ pub const PRICES: usize = 256;
 const FREE: [u16; PRICES] = [0; PRICES];
 
 // How a charged run stops, and what it costs.
-#[derive(Drop)]
+#[derive(Clone, Copy)]
 pub struct Charged {
     pub stop: Stop,
     pub cents: u64,

@@ -10,14 +10,14 @@ pub mod single;
 pub mod table;
 
 // `count` slots from `start`.
-#[derive(Drop)]
+#[derive(Clone, Copy)]
 pub struct Range {
     pub start: usize,
     pub count: usize,
 }
 
 // The answer of a check over the whole function: the number and place of a refusal, or none.
-#[derive(Drop)]
+#[derive(Clone, Copy)]
 pub enum Check {
     Passed,
     Refused(u32, u32),

@@ -7,7 +7,7 @@ mod mark;
 pub mod reach;
 
 // What the check of all operands answers: the number and place of a refusal, or how many control places it listed.
-#[derive(Drop)]
+#[derive(Clone, Copy)]
 pub enum Listing {
     Refused(u32, u32),
     Listed(usize),

@@ -20,7 +20,7 @@ use short::{Found, Made};
 
 // An answer in numbers: kind 0 unchanged; 1 refused, with number and place; 2 rewritten, with the number of instructions.
 #[repr(C)]
-#[derive(Drop)]
+#[derive(Clone, Copy)]
 pub struct Numbers {
     pub kind: u32,
     pub number: u32,
@@ -29,7 +29,7 @@ pub struct Numbers {
 
 // The same, and the number of the last pass run.
 #[repr(C)]
-#[derive(Drop)]
+#[derive(Clone, Copy)]
 pub struct CleanedNumbers {
     pub kind: u32,
     pub number: u32,
@@ -98,7 +98,7 @@ pub extern "C" fn lampruda_clean(
 
 // An operand in numbers: kind 0 the smallest right word; 1 no word does it; 2 the opcode is not covered.
 #[repr(C)]
-#[derive(Drop)]
+#[derive(Clone, Copy)]
 pub struct OperandNumbers {
     pub kind: u32,
     pub word: u64,
@@ -119,7 +119,7 @@ pub extern "C" fn lampruda_operand(opcode: u8, left: u64, wanted: u64) -> Operan
 
 // What is made of a number: kind 0 a unit, `number` being its length in bytes; 1 refused, with number and place; 2 none.
 #[repr(C)]
-#[derive(Drop)]
+#[derive(Clone, Copy)]
 pub struct MadeNumbers {
     pub kind: u32,
     pub number: u32,
@@ -158,7 +158,7 @@ pub extern "C" fn lampruda_short_unit(number: u32, out: &mut [u8]) -> MadeNumber
 
 // What number a unit has: kind 0 this one; 1 none.
 #[repr(C)]
-#[derive(Drop)]
+#[derive(Clone, Copy)]
 pub struct FoundNumbers {
     pub kind: u32,
     pub number: u32,
@@ -180,7 +180,7 @@ pub extern "C" fn lampruda_short_number(unit: &[u8]) -> FoundNumbers
 // with number and place; 2 panicked, as 0; 3 the end of the code; 4 another instruction, with its place; 5 the limit.
 // Of one step also 6: the run goes on, with the place that is due.
 #[repr(C)]
-#[derive(Drop)]
+#[derive(Clone, Copy)]
 pub struct StopNumbers {
     pub kind: u32,
     pub first: u32,
@@ -257,7 +257,7 @@ pub extern "C" fn lampruda_step(unit: &[u8], frame: &mut [u64], place: u32) -> S
 
 // How a charged run stops, as above, and what it costs; 0 where it is refused.
 #[repr(C)]
-#[derive(Drop)]
+#[derive(Clone, Copy)]
 pub struct ChargedNumbers {
     pub kind: u32,
     pub first: u32,
@@ -294,7 +294,7 @@ pub extern "C" fn lampruda_charge(
 
 // A result as a unit again: kind 0 a unit, with its length in bytes; 1 refused, with number and place; 2 no result.
 #[repr(C)]
-#[derive(Drop)]
+#[derive(Clone, Copy)]
 pub struct LaidNumbers {
     pub kind: u32,
     pub number: u32,

@@ -8,7 +8,7 @@ pub mod number;
 pub mod opcode;
 
 // What an instruction is to the optimizer.
-#[derive(Drop)]
+#[derive(Clone, Copy)]
 pub enum Class {
     Hint,
     LoadInt,
@@ -27,7 +27,7 @@ pub enum Class {
     Invalid,
 }
 
-#[derive(Drop)]
+#[derive(Clone, Copy)]
 pub struct Instruction {
     pub op: u8,
     pub flags: u8,

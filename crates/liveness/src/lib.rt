@@ -8,7 +8,7 @@ pub mod sweep;
 
 // Where sets of slots lie in one buffer of words: behind the code's words one set, and then, for each of the blocks, the set that
 // it uses, the set that it preserves, and the set that is live at its start.
-#[derive(Drop)]
+#[derive(Clone, Copy)]
 pub struct SetLayout {
     pub code: usize,
     pub width: usize,
@@ -20,7 +20,7 @@ pub struct SetLayout {
 }
 
 // Where the two sets of one block stand, and how many words each has.
-#[derive(Drop)]
+#[derive(Clone, Copy)]
 struct BlockSets {
     uses: usize,
     preserved: usize,

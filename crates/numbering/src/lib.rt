@@ -2,7 +2,7 @@
 pub mod walk;
 
 // The kind and the bits of the constant that LoadConst gives.
-#[derive(Drop)]
+#[derive(Clone, Copy)]
 pub enum Loaded {
     Value(u64, u64),
     Unknown,

@@ -12,7 +12,7 @@ pub mod comparison;
 pub mod product;
 
 // What is found: the smallest right word; that no word does it; that the opcode is none of the 17.
-#[derive(Drop)]
+#[derive(Clone, Copy)]
 pub enum Operand {
     Word(u64),
     None,

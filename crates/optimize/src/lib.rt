@@ -4,7 +4,7 @@ pub mod function;
 pub mod pass;
 
 // What a pass answers: unchanged, refused with number and place, or rewritten to so many instructions.
-#[derive(Drop)]
+#[derive(Clone, Copy)]
 pub enum Answer {
     Unchanged,
     Refused(u32, u32),

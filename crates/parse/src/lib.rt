@@ -14,7 +14,7 @@ use words::le;
 
 // What the sweep over the entries finds: is each as "Entries" says, and the lowest metadata entry that is a select of too many
 // cases, or the number of entries.
-#[derive(Drop)]
+#[derive(Clone, Copy)]
 struct Entries {
     good: bool,
     wide: usize,

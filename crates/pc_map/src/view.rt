@@ -3,13 +3,13 @@
 ghost use Rattle.std.specs.Prelude.{◌≡◌, ◌<◌, length, slice_index};
 ghost use Rattle.pc_map.specs.laws.View.{instruction_in};
 
-#[derive(Drop)]
+#[derive(Clone, Copy)]
 pub struct PcMap<'a> {
     pub boundaries: &'a [u32],
 }
 
 // The new place of an instruction.
-#[derive(Drop)]
+#[derive(Clone, Copy)]
 pub enum Moved {
     To(u32),
     Removed,

@@ -17,7 +17,7 @@ const FIRST_OF_FOUR: u32 = 14400;
 const INSTRUCTIONS: u64 = 24;
 
 // What is made of a number: a unit of so many bytes, a refusal with number and place, or nothing.
-#[derive(Drop)]
+#[derive(Clone, Copy)]
 pub enum Made {
     Unit(u32),
     Refused(u32, u32),
@@ -25,7 +25,7 @@ pub enum Made {
 }
 
 // What number a unit has, or that it has none.
-#[derive(Drop)]
+#[derive(Clone, Copy)]
 pub enum Found {
     At(u32),
     None,

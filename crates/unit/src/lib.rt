@@ -8,7 +8,7 @@ pub mod section;
 pub mod size;
 
 // How many entries each section has, and the function's local slots and defer flag.
-#[derive(Drop)]
+#[derive(Clone, Copy)]
 pub struct Counts {
     pub instructions: usize,
     pub metadata: usize,
@@ -23,7 +23,7 @@ pub struct Counts {
 }
 
 // The byte at which each section starts.
-#[derive(Drop)]
+#[derive(Clone, Copy)]
 pub struct Offsets {
     pub code: usize,
     pub metadata: usize,
@@ -35,20 +35,20 @@ pub struct Offsets {
     pub lines: usize,
 }
 
-#[derive(Drop)]
+#[derive(Clone, Copy)]
 pub struct Header {
     pub counts: Counts,
     pub offsets: Offsets,
 }
 
 // A unit, or the number and place of its refusal.
-#[derive(Drop)]
+#[derive(Clone, Copy)]
 pub enum Layout {
     Unit(Header),
     Refused(u32, u32),
 }
 
-#[derive(Drop)]
+#[derive(Clone, Copy)]
 pub struct Metadata {
     pub kind: u8,
     pub ok: u8,
@@ -58,7 +58,7 @@ pub struct Metadata {
     pub end: u32,
 }
 
-#[derive(Drop)]
+#[derive(Clone, Copy)]
 pub enum Constant {
     Nil,
     Bool(u64),
@@ -69,20 +69,20 @@ pub enum Constant {
 }
 
 // A function's parameter and return slots.
-#[derive(Drop)]
+#[derive(Clone, Copy)]
 pub enum Callee {
     Slots(u16, u16),
     Missing,
 }
 
 // An extern's return slots.
-#[derive(Drop)]
+#[derive(Clone, Copy)]
 pub enum Extern {
     Returns(u16),
     Missing,
 }
 
-#[derive(Drop)]
+#[derive(Clone, Copy)]
 pub struct SelectCase {
     pub kind: u8,
     pub ok: u8,
@@ -92,7 +92,7 @@ pub struct SelectCase {
 }
 
 // A place and its line.
-#[derive(Drop)]
+#[derive(Clone, Copy)]
 pub struct Line {
     pub place: u32,
     pub line: u32,

@@ -5,7 +5,7 @@ pub mod region;
 pub mod table;
 
 // The value of a slot: a known 64-bit integer, a float constant's bits, or what the instruction at a place gave to a slot.
-#[derive(Drop)]
+#[derive(Clone, Copy)]
 pub enum Atom {
     Integer(u64),
     Float(u64),
@@ -13,14 +13,14 @@ pub enum Atom {
 }
 
 // What an expression folds to.
-#[derive(Drop)]
+#[derive(Clone, Copy)]
 pub enum Folded {
     Word(u64),
     Not,
 }
 
 // What a look-up finds.
-#[derive(Drop)]
+#[derive(Clone, Copy)]
 pub enum Found {
     At(u64),
     Nothing,

@@ -1,0 +1,5 @@
+use borrow.Author.Rules.{rules}
+use Rattle.effects.proofs.form.callee.Goals as goal
+
+pub returns : goal.returns
+returns c = cc

@@ -1,0 +1,6 @@
+use Rattle.effects.specs.laws.Plain.{field_slot}
+use borrow.Author.Rules.{rules}
+use Rattle.effects.proofs.form.field.Goals as goal
+
+pub returns : goal.returns
+returns c = field_slot _ _ c.requires

@@ -1,0 +1,17 @@
+use borrow.Author.Tests.{not-true, not-false}
+use mathlib.Core.Path.{sym, ap, ◌∙◌}
+use Prim.Native.Nat.{◌-◌}
+use lib.ListN.{get_or}
+use Rattle.words.specs.laws.Every.{Passed, none_passed, more_passed, all_passed, one_failed}
+use Rattle.effects.specs.Shape.{tables_of}
+use Rattle.effects.specs.Effects.{all_reads}
+use Rattle.effects.specs.laws.Form.{empty_range}
+use Rattle.effects.specs.laws.Operands.{range_holds, every_range}
+use borrow.Author.Rules.{rules}
+use Rattle.effects.proofs.operands.reads_hold.Given as goal
+
+abbrev pub invariant-loop-k : goal.invariant-loop-k
+invariant-loop-k l = Passed l.n (λ j. range_holds l.limit (get_or (all_reads (tables_of l.functions l.externs l.cases) (record { instruction = l.i; metadata = l.m })) j empty_range)) l.k
+
+abbrev pub decreases-loop-k : goal.decreases-loop-k
+decreases-loop-k l = l.n - l.k

@@ -1,0 +1,5 @@
+use borrow.Author.Rules.{rules}
+use Rattle.effects.proofs.plain.is_within.Goals as goal
+
+pub returns : goal.returns
+returns c = rw (← c.field-first.ensures, ← c.field-second.ensures, ← c.field-a.ensures)

@@ -1,0 +1,15 @@
+use mathlib.Core.Path.{◌≡◌, refl}
+use Prim.Native.Nat.{ℕ, ◌-◌, ◌≤◌}
+use native.Mathlib.Omega.{arith}
+use lib.ListN.{length}
+use Rattle.words.specs.Lists.{every}
+use Rattle.unit.specs.Entry.{good_type, type_at}
+use Rattle.parse.proofs.Sweeping.{every_more}
+use borrow.Author.Rules.{rules}
+use Rattle.parse.proofs.every_type.Given as goal
+
+abbrev pub invariant-loop-k : goal.invariant-loop-k
+invariant-loop-k l = (l.k ≤ length l.section) × (l.good ≡ every l.k (λ j. good_type (type_at l.section j)))
+
+abbrev pub decreases-loop-k : goal.decreases-loop-k
+decreases-loop-k l = length l.section - l.k

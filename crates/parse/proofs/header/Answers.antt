@@ -1,0 +1,7 @@
+use Rattle.unit.specs.Layout.{header_of}
+use borrow.Author.Rules.{rules}
+use Rattle.parse.proofs.header.Goals as goal
+
+pub returns : goal.returns
+unfolding header_of
+returns c = cc
