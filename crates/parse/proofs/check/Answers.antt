@@ -12,8 +12,8 @@ use Rattle.parse.proofs.check.Goals.{After-word, Else-not-entries, Else-not-has_
 sections : (c : Else-not-has_sections) → has_sections c.args.unit.now ≡ true
 sections c = sym c.has_sections.ensures ∙ c.if-not-has_sections.false
 
-entries : (c : Else-not-entries) → is_unit c.args.unit.now ≡ true
-entries c = by_entries _ true (sections c.before.before.before) (sym c.sweep-entries.ensures.0 ∙ c.if-not-entries.false)
+entries : (c : Else-not-entries) → has_sections c.args.unit.now ≡ true → is_unit c.args.unit.now ≡ true
+entries c there = by_entries _ true there (sym c.sweep-entries.ensures.0 ∙ not-false _ c.if-not-entries.false)
 
 rise : (c : Else-not-lines_rise) → lines_rise c.args.unit.now ≡ true
 rise c = sym c.lines_rise.ensures ∙ c.if-not-lines_rise.false
@@ -25,13 +25,13 @@ pub sweep-entries-requires : goal.sweep-entries-requires
 sweep-entries-requires c = has_sections_lem _ (sections c)
 
 pub returns-then-not-entries : goal.returns-then-not-entries
-returns-then-not-entries c = sym (not_laid_out _ (by_entries _ _ (sections (goal.at.returns-then-not-entries c).Else-not-has_sections) (sym c.sweep-entries.ensures.0 ∙ c.if-not-entries.true)))
+returns-then-not-entries c = sym (not_laid_out _ (by_entries _ _ (sections (goal.at.returns-then-not-entries c).Else-not-has_sections) (sym c.sweep-entries.ensures.0 ∙ not-true _ c.if-not-entries.true)))
 
 pub lines_rise-requires : goal.lines_rise-requires
 lines_rise-requires c = has_sections_lem _ (sections (goal.at.lines_rise-requires c).Else-not-has_sections)
 
 pub returns-then-not-lines_rise : goal.returns-then-not-lines_rise
-returns-then-not-lines_rise c = sym (lines_fall _ (entries (goal.at.returns-then-not-lines_rise c).Else-not-entries) (sym c.lines_rise.ensures ∙ c.if-not-lines_rise.true))
+returns-then-not-lines_rise c = sym (lines_fall _ (entries (goal.at.returns-then-not-lines_rise c).Else-not-entries (sections (goal.at.returns-then-not-lines_rise c).Else-not-has_sections)) (sym c.lines_rise.ensures ∙ c.if-not-lines_rise.true))
 
 pub word-requires : goal.word-requires
 word-requires c = (has_header _ (sections (goal.at.word-requires c).Else-not-has_sections), omega arith)
@@ -42,7 +42,7 @@ unfolding header_of
 returns-then-wide-word c =
     let lines = (goal.at.returns-then-wide-word c).Else-not-lines_rise in
     let found = lines.sweep-entries.ensures.1 in
-    rw found (sym (too_many_cases_lem _ (entries (goal.at.returns-then-wide-word c).Else-not-entries) (rise lines) (rw (found, c.word.ensures.0) at c.if-wide-word.true)))
+    rw found (sym (too_many_cases_lem _ (entries (goal.at.returns-then-wide-word c).Else-not-entries (sections (goal.at.returns-then-wide-word c).Else-not-has_sections)) (rise lines) (rw (found, c.word.ensures.0) at c.if-wide-word.true)))
 
 pub header-requires : goal.header-requires
 header-requires c = has_header _ (sections (goal.at.header-requires c).Else-not-has_sections)
@@ -52,4 +52,4 @@ unfolding header_of
 returns c =
     let word = (goal.at.returns c).After-word in
     let lines = (goal.at.returns c).Else-not-lines_rise in
-    rw c.header.ensures (sym (laid_out_lem _ (entries (goal.at.returns c).Else-not-entries) (rise lines) (rw (lines.sweep-entries.ensures.1, word.word.ensures.0) at c.if-wide-word.false)))
+    rw c.header.ensures (sym (laid_out_lem _ (entries (goal.at.returns c).Else-not-entries (sections (goal.at.returns c).Else-not-has_sections)) (rise lines) (rw (lines.sweep-entries.ensures.1, word.word.ensures.0) at c.if-wide-word.false)))
