@@ -81,7 +81,7 @@ module _ {u b : List ℕ} {h g : Header} {n l : ℕ} (a : Headed u b h g n l) wh
 
   pub lines_below : g.offsets.lines ≤ length u
   unfolding counts_with offsets_of
-  lines_below = let most = no_longer a.of in rw (a.header, a.many, a.lined) most
+  lines_below = let most = no_longer a.of in rw (a.header, a.many) most
 
   size : g.offsets.lines + line_size * l ≡ length (laid_unit u b)
   size = rw a.lined (ap (λ (x : Header). x.offsets.lines + line_size * u32_at b 16) again ∙ sym (again_size (well a.of) (result_found a.of)))

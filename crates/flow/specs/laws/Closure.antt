@@ -22,6 +22,7 @@ mark_grew g (q ∷ qs) = mark_grew (grew_set g q) qs
 
 mark_marks : (m qs : List ℕ) (q : ℕ) → Grew m m → In q qs → q < length m → Marked (mark_all m qs) q
 unfolding mark_all
+mark_marks m [] q g x3 h = elim x3 [ ]
 mark_marks m (x ∷ qs) q g (Memᴰ.head e) h = grew_kept (mark_grew (grew_self (grew_set g x)) qs) q (rw e (get_or-set_same m x 1 0 (rw e at h)))
 mark_marks m (x ∷ qs) q g (Memᴰ.tail i) h = mark_marks (slice_set m x 1) qs q (grew_self (grew_set g x)) i (simp length-set h)
 
@@ -65,7 +66,7 @@ module _ (n : ℕ) (next : ℕ → List ℕ) where
   sweeps_grew : {a b : List ℕ} → Grew a b → (k : ℕ) → Grew a (sweeps n next k b)
   unfolding sweeps
   sweeps_grew g zero = g
-  sweeps_grew g (suc k) = sweeps_grew (sweep_grew g n) k
+  sweeps_grew {b = b} g (suc k) = sweeps_grew {b = sweep next n b} (sweep_grew g n) k
 
   -- each sweep marks one more, or is the last
   settled : (k : ℕ) (m : List ℕ) → Grew m m → length m ≡ n → n ≤ k + sum m → sweep next n (sweeps n next k m) ≡ sweeps n next k m

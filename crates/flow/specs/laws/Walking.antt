@@ -51,6 +51,7 @@ module _ (n : ℕ) where
 
   all_new : (vs st : List ℕ) {q : ℕ} → In q vs → q < n → In q (push_all n vs st)
   unfolding push_all
+  all_new [] st i h = elim i [ ]
   all_new (v ∷ vs) st (Memᴰ.head e) h = all_old vs _ (push_new v st (nat_lt v n) (lt-ltb v n (rw e at h)) e)
   all_new (v ∷ vs) st (Memᴰ.tail i) h = all_new vs _ i h
 

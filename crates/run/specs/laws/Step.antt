@@ -7,7 +7,7 @@ use Rattle.std.proofs.Common.{lt-ltb}
 use Rattle.instruction.specs.declared.Instruction.{Instruction}
 use Rattle.instruction.specs.Instruction.{class}
 use Rattle.instruction.specs.declared.Class.{Class}
-use Rattle.instruction.specs.declared.Class.TheVariants.{Hint, LoadInt, LoadConst, Copy, CopyN, Unary, Binary, Jump, JumpIf, JumpIfNot, ForLoop, Outside}
+use Rattle.instruction.specs.declared.Class.TheVariants.{Hint, LoadInt, LoadConst, Copy, CopyN, Unary, Binary, Jump, JumpIf, JumpIfNot, ForLoop, Return, Panic, Outside, Invalid}
 use Rattle.effects.specs.Shape.{Cell, cell_at}
 use Rattle.flow.specs.Branch.{falls, branches, target_by}
 use Rattle.run.specs.Machine.{Words, Event, World, Reply, words, finish, Act, silent, ask, stop, fail, Node, at, goto, answered, perform, step}
@@ -39,8 +39,11 @@ module _ (F : Function) (W : World) where
   goes_succ JumpIfNot p x σ false g = next refl
   goes_succ ForLoop p x σ true g = branch refl
   goes_succ ForLoop p x σ false g = next refl
+  goes_succ Return p x σ j g = elim g [ ]
+  goes_succ Panic p x σ j g = elim g [ ]
   goes_succ Outside p x σ true g = next refl
   goes_succ Outside p x σ false g = next refl
+  goes_succ Invalid p x σ j g = elim g [ ]
 
   -- a step inside the code is what its cell does
   pub step_do : (p : ℕ) (σ : Words) (R : List Event) → p < length F.cells → step W (program_of F W) (at p σ R) ≡ do_at F W p σ R (cell_at F.cells p)

@@ -111,9 +111,12 @@ pub record Stored (w u : List ℕ) (h epoch count : ℕ) (k : Key) (v : ℕ) : T
 
 module _ {w u : List ℕ} {h epoch count : ℕ} {k : Key} {v : ℕ} (g : Linked w h epoch count) (absent : newest w h count k ≡ 0) (s : Stored w u h epoch count k v) where
   -- what led to an entry still does
+  leads_with : {path p j : ℕ} → Leads w h path p (suc j) → p ≤ count → Leads u h path p (suc j)
+  leads_with here l = here
+  leads_with (down {path = path} {j = i} r) l = down (leads_filled (s.extends i path l) (leads_with r (g.forward.low i path l)))
+
   leads_kept : {path p j : ℕ} → p ≤ count → Leads w h path p (suc j) → Leads u h path p (suc j)
-  leads_kept l here = here
-  leads_kept l (down {path = path} {j = i} r) = down (leads_filled (s.extends i path l) (leads_kept (g.forward.low i path l) r))
+  leads_kept l r = leads_with r l
 
   newest_kept : (l : Key) (m : ℕ) → m ≤ count → newest u h m l ≡ newest w h m l
   unfolding newest
