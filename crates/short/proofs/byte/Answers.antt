@@ -1,0 +1,34 @@
+use mathlib.Core.Path.{◌≡◌, refl, sym, ◌∙◌}
+use Prim.Native.Nat.{ℕ, ◌-◌, ◌/◌}
+use native.Mathlib.Omega.{arith}
+use Rattle.unit.specs.Size.{header_size}
+use Rattle.short.specs.laws.Digits.{at_header, at_code, at_zero}
+use borrow.Author.Rules.{rules}
+use Rattle.short.proofs.byte.Goals as goal
+use Rattle.short.proofs.byte.Goals.{After-digit, After-header_word, After-word}
+
+pub returns-then-i-lt-HEADER : goal.returns-then-i-lt-HEADER
+returns-then-i-lt-HEADER c =
+    let header = (goal.at.returns-then-i-lt-HEADER c).After-header_word in
+    let a = header.args in
+    c.byte_of.ensures ∙ rw header.header_word.ensures (at_header a.n a.rank a.i header.if-i-lt-HEADER.true)
+
+pub word-requires : goal.word-requires
+word-requires c = c.digit.ensures.1
+
+pub returns-then-at-n : goal.returns-then-at-n
+returns-then-at-n c =
+    let word = (goal.at.returns-then-at-n c).After-word in
+    let digit = (goal.at.returns-then-at-n c).After-digit in
+    let inside = digit.if-at-n.true in
+    let low = digit.if-i-lt-HEADER.false in
+    let a = digit.args in
+    c.byte_of-then-at-n.ensures
+    ∙ rw (word.word.ensures, digit.digit.ensures.0) (at_code a.n a.rank a.i ((a.i - header_size) / 8) low (omega arith) refl)
+
+pub returns : goal.returns
+returns c =
+    let a = c.args in
+    let low = c.if-i-lt-HEADER.false in
+    let behind = c.if-at-n.false in
+    at_zero a.n a.rank a.i (omega arith) c.requires.1
