@@ -5,11 +5,10 @@ use Rattle.unit.specs.Size.{header_size}
 use Rattle.short.specs.laws.Digits.{at_header, at_code, at_zero}
 use borrow.Author.Rules.{rules}
 use Rattle.short.proofs.byte.Goals as goal
-use Rattle.short.proofs.byte.Goals.{After-digit, After-header_word, After-word}
 
 pub returns-then-i-lt-HEADER : goal.returns-then-i-lt-HEADER
 returns-then-i-lt-HEADER c =
-    let header = (goal.at.returns-then-i-lt-HEADER c).After-header_word in
+    let header = c.before in
     let a = header.args in
     c.byte_of.ensures ∙ rw header.header_word.ensures (at_header a.n a.rank a.i header.if-i-lt-HEADER.true)
 
@@ -18,8 +17,8 @@ word-requires c = c.digit.ensures.1
 
 pub returns-then-at-n : goal.returns-then-at-n
 returns-then-at-n c =
-    let word = (goal.at.returns-then-at-n c).After-word in
-    let digit = (goal.at.returns-then-at-n c).After-digit in
+    let word = c.before in
+    let digit = word.before in
     let inside = digit.if-at-n.true in
     let low = digit.if-i-lt-HEADER.false in
     let a = digit.args in

@@ -32,7 +32,7 @@ returns-then-branch_target-n c =
     let a = t.args in
     let far : a.n ≤ target a.p a.i = omega (arith, c.branch_target.ensures (branching t)) in
     let outside = inside_no a.n a.p a.i (branching t) far in
-    rw outside
+    record { refusal = rw outside }
 
 pub returns-else-branch_target-n : goal.returns-else-branch_target-n
 returns-else-branch_target-n c =

@@ -6,7 +6,8 @@ use lib.ListN.{get_or}
 use Rattle.unit.specs.Size.{header_size, instruction_size, metadata_size}
 use Rattle.short.specs.Short.{header_words, unit_size}
 use borrow.Author.Rules.{rules}
-use Rattle.short.proofs.header_word.Goals as goal
+use Rattle.short.proofs.header_word.Statement.{statement}
+use Rattle.short.proofs.header_word.Tie as tie
 
 -- the words by the unit's end
 by_end : (n end : ℕ) → end ≡ unit_size n
@@ -16,5 +17,10 @@ by_end n end e =
     let types : end - 2 ≡ header_size + instruction_size * n + metadata_size * n = omega arith in
     rw (types, e)
 
-pub returns : goal.returns
-returns c = ap (λ (l : List ℕ). get_or l c.args.q 0) (by_end c.args.n _ c.unit_size-end.ensures)
+returns : tie.Need-returns
+returns c = ap (λ (l : List ℕ). get_or l c.before.args.q 0) (by_end c.before.args.n _ c.unit_size.ensures)
+
+pub header-word-spec : {M : Type 1} → statement M
+header-word-spec =
+    tie.close
+    (tie.spec (λ c κs. search rules) (λ c. search rules) (λ c. search rules) (λ c. search rules) (λ c. search rules) (λ c. search rules) returns)
