@@ -1,0 +1,19 @@
+use mathlib.Core.Path.{◌≡◌, refl, sym, ap, ◌∙◌}
+use mathlib.Core.Bool.{true, false, true≢false}
+use mathlib.Core.List.{List}
+use Prim.Native.Nat.{ℕ, ◌-◌, ◌≤◌, ◌<◌}
+use native.Mathlib.Omega.{arith}
+use lib.ListN.{length, get_or}
+use lib.Seq.{ext_get_or}
+use borrow.Author.Count.{below_none, below_more}
+use Rattle.short.specs.Short.{unit_at}
+use Rattle.short.specs.laws.Digits.{unit_at_long}
+use borrow.Author.Rules.{rules}
+use Rattle.short.proofs.is_unit_of.Given as goal
+
+-- the bytes below i are the unit's
+abbrev pub invariant-loop-i : goal.invariant-loop-i
+invariant-loop-i l = (l.i ≤ length l.unit) × ((j : ℕ) → j < l.i → get_or l.unit j 0 ≡ get_or (unit_at l.n l.rank) j 0)
+
+abbrev pub decreases-loop-i : goal.decreases-loop-i
+decreases-loop-i l = length l.unit - l.i

@@ -1,0 +1,6 @@
+use Rattle.values.specs.laws.Attaching.{child_shifted}
+use Rattle.std.proofs.Common.{rules}
+use Rattle.values.proofs.entries.child.Goals as goal
+
+pub returns : goal.returns
+returns c = child_shifted c.args.links c.args.path

@@ -1,0 +1,63 @@
+use Rattle.values.proofs.Recording.{Bounded, place_asks, place_long, end_inside, put_asks, near_found, shares_none, shares_found, shares_other}
+use Rattle.std.proofs.Common.{length, refl, arith, rules}
+use Rattle.values.proofs.table.share.Goals as goal
+use Rattle.values.proofs.table.share.Tie as tie
+use Rattle.values.proofs.table.share.Lts
+use Rattle.values.proofs.table.share.Reads
+
+abbrev After-end_of-end : Type 0
+After-end_of-end = Lts.After-end_of tie.the-claims Reads.Pre Reads.Post
+
+abbrev Start : Type 0
+Start = Lts.Start tie.the-claims Reads.Pre Reads.Post
+
+abbrev start : After-end_of-end → Start
+start c = c.before.before.before.before.before.before.before.before.before
+
+bounded : (c : After-end_of-end) → Bounded (start c).args.n (length (start c).args.types.now) (start c).args.types.now (start c).args.t.now (start c).args.s (start c).args.d
+    c.bounds_place-at.result c.first_of-first.result c.end_of-end.result
+bounded c =
+    record {
+      ready = (start c).requires.0;
+      typed = refl;
+      slot = (start c).requires.1;
+      used = (start c).requires.2;
+      place = c.bounds_place-at.ensures;
+      first_is = c.first_of-first.ensures;
+      end_is = c.end_of-end.ensures;
+    }
+
+pub bounds_place-at-requires : goal.bounds_place-at-requires
+bounds_place-at-requires c = let h = c.requires in place_asks h.0 h.2
+
+pub offset_bounds-t-at : goal.offset_bounds-t-at
+offset_bounds-t-at c = let h = c.requires in let a = place_asks h.0 h.2 in record { fits = omega (arith, a.0, a.1, c.bounds_place-at.ensures) }
+
+pub bounds-t-at : goal.bounds-t-at
+bounds-t-at c = let h = c.requires in place_long h.0 h.2 (omega (arith, c.bounds_place-at.ensures))
+
+pub lowest-near-requires : goal.lowest-near-requires
+lowest-near-requires c = ((bounded c.before.before).ready, end_inside (bounded c.before.before))
+
+pub put-requires : goal.put-requires
+put-requires c = put_asks (bounded c.before.before.before.before.before) (omega arith)
+
+pub returns-then-end-near : goal.returns-then-end-near
+returns-then-end-near c = shares_none (bounded c.before.before.before.before.before.before.before.before) c.lowest-near.ensures c.if-end-near.true c.put.ensures
+
+pub lowest_typed-r-requires : goal.lowest_typed-r-requires
+lowest_typed-r-requires c =
+    let w = bounded c.before.before.before.before.before in
+    let l = c.if-end-near.false in
+    (w.ready, end_inside w, omega (arith, end_inside w), near_found w c.lowest-near.ensures l)
+
+pub put-requires-2 : goal.put-requires-2
+put-requires-2 c = let w = bounded c.before.before.before.before.before.before.before in put_asks w (end_inside w)
+
+pub returns-then-r-end : goal.returns-then-r-end
+returns-then-r-end c = let e = c.before.before.before.before.before.before.before.before.before.before.before in
+    shares_found (bounded e) c.lowest-near.ensures c.lowest_typed-r.ensures c.put-2.ensures c.if-r-end.true
+
+pub returns : goal.returns
+returns c = let e = c.before.before.before.before.before.before.before.before.before.before.before in
+    shares_other (bounded e) c.lowest-near.ensures c.lowest_typed-r.ensures c.put-2.ensures c.if-r-end.false

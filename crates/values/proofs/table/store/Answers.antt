@@ -1,0 +1,43 @@
+use Rattle.values.proofs.Recording.{Bounded, place_asks, place_long, end_inside, put_asks, stores}
+use Rattle.std.proofs.Common.{length, refl, arith, rules}
+use Rattle.values.proofs.table.store.Goals as goal
+use Rattle.values.proofs.table.store.Tie as tie
+use Rattle.values.proofs.table.store.Lts
+use Rattle.values.proofs.table.store.Reads
+
+abbrev After-end_of-end : Type 0
+After-end_of-end = Lts.After-end_of tie.the-claims Reads.Pre Reads.Post
+
+abbrev Start : Type 0
+Start = Lts.Start tie.the-claims Reads.Pre Reads.Post
+
+abbrev start : After-end_of-end → Start
+start c = c.before.before.before.before.before.before.before.before.before
+
+bounded : (c : After-end_of-end) → Bounded (start c).args.n (length (start c).args.types.now) (start c).args.types.now (start c).args.t.now (start c).args.s (start c).args.d
+    c.bounds_place-at.result c.first_of-first.result c.end_of-end.result
+bounded c =
+    record {
+      ready = (start c).requires.0;
+      typed = refl;
+      slot = (start c).requires.1;
+      used = (start c).requires.2;
+      place = c.bounds_place-at.ensures;
+      first_is = c.first_of-first.ensures;
+      end_is = c.end_of-end.ensures;
+    }
+
+pub bounds_place-at-requires : goal.bounds_place-at-requires
+bounds_place-at-requires c = let h = c.requires in place_asks h.0 h.2
+
+pub offset_bounds-t-at : goal.offset_bounds-t-at
+offset_bounds-t-at c = let h = c.requires in let a = place_asks h.0 h.2 in record { fits = omega (arith, a.0, a.1, c.bounds_place-at.ensures) }
+
+pub bounds-t-at : goal.bounds-t-at
+bounds-t-at c = let h = c.requires in place_long h.0 h.2 (omega (arith, c.bounds_place-at.ensures))
+
+pub put-requires : goal.put-requires
+put-requires c = put_asks (bounded c.before.before) (end_inside (bounded c.before.before))
+
+pub returns : goal.returns
+returns c = stores (bounded c.before.before.before.before.before) c.put.ensures
