@@ -10,8 +10,7 @@ use lib.ListN.{length, get_or, get_or-eq_default}
 use native.Mathlib.Omega.{arith}
 use borrow.Author.Tests.{ltb-true, ltb-false, ne_eqb}
 use borrow.Author.Rules.{rules}
-use Rattle.numbering.proofs.walk.scalar.Statement.{statement}
-use Rattle.numbering.proofs.walk.scalar.Tie as tie
+use Rattle.numbering.proofs.walk.scalar.Goals as goal
 
 -- within the list no default is read
 inside : (l : List ℕ) (i : ℕ) → i < length l → get_or l i 1 ≡ get_or l i 0
@@ -28,11 +27,8 @@ bit-of-type k = go (ltb k 6) refl
     go true e = agree_same (ltb k 6 && eqb (33 / 2 ^ (k % 8) % 2) 1) (eqb k 0 || eqb k 5) (every_at 6 (λ k. agree (ltb k 6 && eqb (33 / 2 ^ (k % 8) % 2) 1) (eqb k 0 || eqb k 5)) refl k (ltb-true k 6 e))
     go false e = let far = ltb-false k 6 e in rw (e, ne_eqb k 0 (λ q. omega arith), ne_eqb k 5 (λ q. omega arith))
 
-returns : tie.Need-returns
-returns c = rw (inside c.before.before.args.types.now c.before.before.args.s c.before.if1.true) (bit-of-type (get_or c.before.before.args.types.now c.before.before.args.s 0))
+pub returns-then-at-types : goal.returns-then-at-types
+returns-then-at-types c = rw (inside c.args.types.now c.args.s c.if-at-types.true) (bit-of-type (get_or c.args.types.now c.args.s 0))
 
-returns-2 : tie.Need-returns-2
-returns-2 c = rw (get_or-eq_default c.before.args.types.now 1 c.if1.false)
-
-pub scalar-spec : {M : Type 1} → statement M
-scalar-spec = tie.close (tie.spec (λ c. search rules) (λ c. search rules) returns returns-2)
+pub returns : goal.returns
+returns c = rw (get_or-eq_default c.args.types.now 1 c.if-at-types.false)

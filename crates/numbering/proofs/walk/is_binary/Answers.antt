@@ -5,19 +5,15 @@ use mathlib.Core.List.{List, [], ◌∷◌}
 use Prim.Native.Nat.{ℕ}
 use types.Run.{miss}
 use borrow.Author.Rules.{rules}
-use Rattle.numbering.proofs.walk.is_binary.Statement.{statement}
-use Rattle.numbering.proofs.walk.is_binary.Tie as tie
+use Rattle.numbering.proofs.walk.is_binary.Goals as goal
 
 -- the numbers of the other classes
 abbrev others : List ℕ
 others = 0 ∷ 1 ∷ 2 ∷ 3 ∷ 4 ∷ 5 ∷ 7 ∷ 8 ∷ 9 ∷ 10 ∷ 11 ∷ 12 ∷ 13 ∷ 14 ∷ []
 
-returns : tie.Need-returns
+pub returns-in-Binary : goal.returns-in-Binary
 unfolding number_of
-returns c = rw c.enum_told.given.1
+returns-in-Binary c = rw c.in-Binary.is
 
-returns-2 : tie.Need-returns-2
-returns-2 c = sym (not_number c.before.args.k others 6 (miss others 6 tt) c.match.keys2)
-
-pub is-binary-spec : {M : Type 1} → statement M
-is-binary-spec = tie.close (tie.spec (λ c. search rules) returns returns-2)
+pub returns-in_default : goal.returns-in_default
+returns-in_default c = sym (not_number c.args.k others 6 (miss others 6 tt) c.in_default.in_default-own.keys2)
