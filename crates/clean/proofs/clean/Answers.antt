@@ -16,8 +16,16 @@ use Rattle.clean.specs.declared.Cleaned.{Cleaned}
 use Rattle.clean.specs.CleanAnswer.{cleaned_of}
 use Rattle.optimize.specs.laws.Lines.{clean_linable, clean_moves}
 use borrow.Author.Rules.{rules}
-use Rattle.clean.proofs.clean.Statement.{statement}
+use Rattle.clean.proofs.clean.Goals as goal
 use Rattle.clean.proofs.clean.Tie as tie
+use Rattle.clean.proofs.clean.Lts
+use Rattle.clean.proofs.clean.Reads
+
+abbrev After-answer-r : Type 0
+After-answer-r = Lts.After-answer tie.the-claims Reads.Pre Reads.Post tie.handed_clauses
+
+abbrev Start : Type 0
+Start = Lts.Start tie.the-claims Reads.Pre Reads.Post tie.handed_clauses
 
 -- lines moved once are those that are defined pass by pass
 same_lines : (u : List ℕ) → Bytes u → (l : Lent) (first second : ℕ) (out : List ℕ)
@@ -36,50 +44,29 @@ unfolding cleaned_of
 answered c r e = ap (λ (x : Cleaned). x.answer) e
 
 -- what was given, from the state after the answer
-abbrev start : tie.After-answer → tie.Start
+abbrev start : After-answer-r → Start
 start r = r.before.before.before.before.before.before.before.before.before.before.before.before
 
-unit-bytes : (r : tie.After-answer) → Bytes (start r).args.unit.now
-unit-bytes r i = omega (arith, r.before.before.before.before.before.before.before.before.before.before.before.shared-slice-known.given i)
+unit-bytes : (r : After-answer-r) → Bytes (start r).args.unit.now
+unit-bytes r i = omega (arith, r.shared_slice_known-1.given i)
 
-add-lines-requires : tie.Need-add-lines-requires
-add-lines-requires c κs =
-    let r = c.before.before.before.before.before.before.before.before.before.before.before in
-    let a = (start r).args in
-    clean_linable a.unit.now (unit-bytes r) (length a.out.now) (length a.work32.now) (length a.work64.now) (length a.first.now) (length a.second.now) _ _ (answered _ _ r.answer.ensures.0) r.answer.auto.1.0
+pub add_lines-requires : goal.add_lines-requires
+add_lines-requires c =
+    let a = (start c.before.before.before.before.before.before.before.before.before.before.before.before).args in record { room = clean_linable a.unit.now (unit-bytes c.before.before.before.before.before.before.before.before.before.before.before.before) (length a.out.now) (length a.work32.now) (length a.work64.now) (length a.first.now) (length a.second.now) _ _ (answered _ _ c.answer-r.ensures.answers.0) c.answer-r.auto.out }
 
-returns : tie.Need-returns
+pub returns : goal.returns
 returns c =
-    let l = c.before.before.before.before.before.before.before.before.before.before.before.before.before.before.before.before.before.before in
-    let r = l.before.before.before.before.before.before.before.before.before.before.before.before in
-    let a = (start r).args in
-    let k = r.answer.auto.1.1 in
-    let b = unit-bytes r in
+    let a = (start c.before.before.before.before.before.before.before.before.before.before.before.before.before.before.before.before.before.before.before.before.before.before.before.before.before.before.before.before.before.before.before).args in
+    let k = c.answer-r.auto in
+    let b = unit-bytes c.before.before.before.before.before.before.before.before.before.before.before.before.before.before.before.before.before.before.before.before.before.before.before.before.before.before.before.before.before.before.before in
     let moves = clean_moves a.unit.now b (length a.out.now) (length a.work32.now) (length a.work64.now) (length a.first.now) (length a.second.now) in
-    let output = l.add-lines.ensures _ a.out.now (answered _ _ r.answer.ensures.0, r.answer.ensures.1) moves ∙ same_lines a.unit.now b _ _ _ a.out.now in
+    let output = c.add_lines.ensures.lined _ a.out.now (answered _ _ c.answer-r.ensures.answers.0, c.answer-r.ensures.answers.1) moves ∙ same_lines a.unit.now b _ _ _ a.out.now in
     record {
-      answer = r.answer.ensures.0;
+      answer = c.answer-r.ensures.answers.0;
       output = output;
-      work32 = c.before.before.before.before.before.before.before.before.before.before.before.before.before.before.zero-u32.ensures ∙ rw k.0;
-      work64 = c.before.before.before.before.before.before.before.before.before.before.zero-u64.ensures ∙ rw k.1.0;
-      first = c.before.before.before.before.before.before.zero-u8.ensures ∙ rw k.1.1.0;
-      second = c.before.before.zero-u82.ensures ∙ rw k.1.1.1.0;
+      work32 = c.zero_u32.ensures ∙ rw k.work32;
+      work64 = c.zero_u64.ensures ∙ rw k.work64;
+      first = c.zero_u8.ensures ∙ rw k.first;
+      second = c.zero_u8-2.ensures ∙ rw k.second;
       runs = rw output (clean_preserves a.unit.now _ _ _ _ a.out.now b);
     }
-
-pub clean-spec : {M : Type 1} → statement M
-clean-spec =
-    tie.close
-    (tie.spec
-    (λ c κs. search rules)
-    add-lines-requires
-    (λ c κs. search rules)
-    (λ c κs. search rules)
-    (λ c κs. search rules)
-    (λ c κs. search rules)
-    (λ c. search rules)
-    (λ c. search rules)
-    (λ c. search rules)
-    (λ c. search rules)
-    (λ c. search rules)
-    returns)
