@@ -1,5 +1,4 @@
 mod Bounding
 mod Relocating
 mod Writing
-mod Viewing
 mod Listing

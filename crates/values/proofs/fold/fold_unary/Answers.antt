@@ -1,3 +1,4 @@
+use borrow.Enum.Refused.{opened}
 use Rattle.std.proofs.Common.{sym, ◌∙◌, rules}
 use Rattle.values.specs.laws.Folded.{folded_as}
 use Rattle.values.specs.Number.{fold_unary}
@@ -5,7 +6,7 @@ use Rattle.values.proofs.Unfolded.{unfolded_unary}
 use Rattle.values.proofs.fold.fold_unary.Goals as goal
 
 pub returns-in_default : goal.returns-in_default
-returns-in_default c = λ right. unfolded_unary _ _ c.in_default.in_default-own.keys2
+returns-in_default c = λ right. unfolded_unary _ _ (opened c.in_default.in_default-own.keys2)
 
 pub returns-then-folds_unary : goal.returns-then-folds_unary
 unfolding folded_as fold_unary

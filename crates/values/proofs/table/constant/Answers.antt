@@ -15,7 +15,7 @@ abbrev Start : Type 0
 Start = Lts.Start tie.the-claims Reads.Pre Reads.Post
 
 abbrev start : After-find-f → Start
-start c = c.before.before.before.before.before.before.before.before.before.before.before.before.before
+start c = c.before.before.before.before.before.before.before.before.before.before.before
 
 -- what is found in the table of constants
 found : (c : After-find-f) → let m = memory_of (start c).args.n (start c).args.locals (start c).args.t.now in c.find-f.result ≡ newest m.constant_table (start c).args.n m.constants (constant_key (start c).args.kind (start c).args.bits)
@@ -39,20 +39,18 @@ returns-then-f-gt0 c = interns_found (start c.before).requires.0 _ _ _ (found c.
 
 pub insert-requires : goal.insert-requires
 insert-requires c =
-    let f = c.before.before in
-    let s = start f in
-    let a = f.constants_at-start.ensures in
-    let z = f.expressions_at-end.ensures in
-    let e = f.bucket-b.ensures in
+    let s = start c.before.before in
+    let a = c.constants_at-start.ensures in
+    let z = c.expressions_at-end.ensures in
+    let e = c.bucket-b.ensures in
     let r = constants_room s.requires.0 s.requires.1 in
     rw (a, z)
-    (record { linked = s.requires.0.order.constants; bucket = e.0; low = e.1; first = rw (a, z) at f.head-first.ensures; few = r.0; room = r.1; absent = rw (← found f) (omega (arith, c.if-f-gt0.false)) })
+    (record { linked = s.requires.0.order.constants; bucket = e.0; low = e.1; first = rw (a, z) at c.head-first.ensures; few = r.0; room = r.1; absent = rw (← found c.before.before) (omega (arith, c.if-f-gt0.false)) })
 
 pub returns : goal.returns
 returns c =
-    let f = c.before.before.before.before.before in
-    let s = start f in
-    let a = f.constants_at-start.ensures in
-    let z = f.expressions_at-end.ensures in
+    let s = start c.before.before.before.before.before in
+    let a = c.constants_at-start.ensures in
+    let z = c.expressions_at-end.ensures in
     rw (a, z)
-    (interns_new s.requires.0 _ _ s.requires.2 f.if-kind-bits.false (rw (← found f) c.if-f-gt0.false) s.requires.1 _ (rw (a, z) at c.insert.ensures))
+    (interns_new s.requires.0 _ _ s.requires.2 c.if-kind-bits.false (rw (← found c.before.before.before.before.before) c.if-f-gt0.false) s.requires.1 _ (rw (a, z) at c.insert.ensures))

@@ -23,9 +23,8 @@ found c = rw (c.expressions_at-start.ensures, c.end_at-end.ensures) at c.find-f.
 
 pub find-f-requires : goal.find-f-requires
 find-f-requires c =
-    let s = c.before.before.before.before.before.before in
     rw (c.expressions_at-start.ensures, c.end_at-end.ensures)
-    (record { epoch = _; linked = s.requires.0.order.expressions; first = s.requires.1 })
+    (record { epoch = _; linked = c.requires.0.order.expressions; first = c.requires.1 })
 
 pub returns-then-f-eq0 : goal.returns-then-f-eq0
 returns-then-f-eq0 c = expression_none (start c.before.before).requires.0 _ (found c.before.before) c.if-f-eq0.true

@@ -17,7 +17,7 @@ used : (s : Start) → s.args.d < limit s.args.n (length s.args.types.now) (memo
 used s = let h = s.requires in rw h.2 (h.0.order.slots_low _ h.1)
 
 abbrev start : After-lowest-near → Start
-start c = c.before.before.before.before.before.before.before.before.before.before
+start c = c.before.before.before.before.before.before.before.before.before
 
 -- the walk to `near`
 walks : (c : After-lowest-near) → Walks (start c).args.n (length (start c).args.types.now) (start c).args.types.now (start c).args.t.now (start c).args.s (start c).args.d
@@ -38,13 +38,13 @@ walks c =
     }
 
 pub bounds_place-at-requires : goal.bounds_place-at-requires
-bounds_place-at-requires c = let s = c.before.before.before.before in place_asks s.requires.0 (used s)
+bounds_place-at-requires c = place_asks c.requires.0 (used c.before.before.before.before)
 
 pub offset_bounds-t-at : goal.offset_bounds-t-at
-offset_bounds-t-at c = let s = c.before.before.before.before.before in let a = place_asks s.requires.0 (used s) in record { fits = omega (arith, a.0, a.1, c.bounds_place-at.ensures) }
+offset_bounds-t-at c = let a = place_asks c.requires.0 (used c.before.before.before.before.before) in record { fits = omega (arith, a.0, a.1, c.bounds_place-at.ensures) }
 
 pub bounds-t-at : goal.bounds-t-at
-bounds-t-at c = let s = c.before.before.before.before.before.before in place_long s.requires.0 (used s) (omega (arith, c.bounds_place-at.ensures))
+bounds-t-at c = place_long c.requires.0 (used c.before.before.before.before.before.before) (omega (arith, c.bounds_place-at.ensures))
 
 pub overflow_mul-t : goal.overflow_mul-t
 overflow_mul-t c = record { fits = omega (arith, walk_near (walks c.before), (start c.before).requires.0.order.locals, (start c.before).requires.1) }
@@ -58,17 +58,17 @@ offset_bounds-t-at-2 c =
     record { fits = omega (arith, a.0, a.1, c.bounds_place-at.ensures) }
 
 pub bounds-t-at-2 : goal.bounds-t-at-2
-bounds-t-at-2 c = let s = c.before.before.before.before.before.before.before.before.before.before.before in place_long s.requires.0 (used s) (omega (arith, c.bounds_place-at.ensures))
+bounds-t-at-2 c = place_long c.requires.0 (used c.before.before.before.before.before.before.before.before.before.before) (omega (arith, c.bounds_place-at.ensures))
 
 pub lowest_typed-requires : goal.lowest_typed-requires
 lowest_typed-requires c =
-    let w = walks c.before.before in
+    let w = walks c.before in
     (walk_ready w, omega (arith, w.slot), omega (arith, w.slot, walk_near w), walk_number w)
 
 pub overflow_cast-result : goal.overflow_cast-result
 overflow_cast-result c =
-    let w = walks c.before.before.before in
+    let w = walks c.before.before in
     record { fits = omega (arith, w.slot, w.ready.order.locals, c.lowest_typed.ensures.high (walk_near w)) }
 
 pub returns : goal.returns
-returns c = represents (walks c.before.before.before) c.lowest_typed.ensures
+returns c = represents (walks c.before.before) c.lowest_typed.ensures

@@ -37,27 +37,25 @@ pub bounds-t-at : goal.bounds-t-at
 bounds-t-at c = let h = c.requires in place_long h.0 h.2 (omega (arith, c.bounds_place-at.ensures))
 
 pub lowest-near-requires : goal.lowest-near-requires
-lowest-near-requires c = ((bounded c.before.before).ready, end_inside (bounded c.before.before))
+lowest-near-requires c = ((bounded c.before).ready, end_inside (bounded c.before))
 
 pub put-requires : goal.put-requires
-put-requires c = put_asks (bounded c.before.before.before.before.before) (omega arith)
+put-requires c = put_asks (bounded c.before.before.before.before) (omega arith)
 
 pub returns-then-end-near : goal.returns-then-end-near
-returns-then-end-near c = shares_none (bounded c.before.before.before.before.before.before.before.before) c.lowest-near.ensures c.if-end-near.true c.put.ensures
+returns-then-end-near c = shares_none (bounded c.before.before.before.before.before.before.before) c.lowest-near.ensures c.if-end-near.true c.put.ensures
 
 pub lowest_typed-r-requires : goal.lowest_typed-r-requires
 lowest_typed-r-requires c =
-    let w = bounded c.before.before.before.before.before in
+    let w = bounded c.before.before.before in
     let l = c.if-end-near.false in
     (w.ready, end_inside w, omega (arith, end_inside w), near_found w c.lowest-near.ensures l)
 
 pub put-requires-2 : goal.put-requires-2
-put-requires-2 c = let w = bounded c.before.before.before.before.before.before.before in put_asks w (end_inside w)
+put-requires-2 c = let w = bounded c.before.before.before.before.before in put_asks w (end_inside w)
 
 pub returns-then-r-end : goal.returns-then-r-end
-returns-then-r-end c = let e = c.before.before.before.before.before.before.before.before.before.before.before in
-    shares_found (bounded e) c.lowest-near.ensures c.lowest_typed-r.ensures c.put-2.ensures c.if-r-end.true
+returns-then-r-end c = shares_found (bounded c.before.before.before.before.before.before.before.before.before) c.lowest-near.ensures c.lowest_typed-r.ensures c.put-2.ensures c.if-r-end.true
 
 pub returns : goal.returns
-returns c = let e = c.before.before.before.before.before.before.before.before.before.before.before in
-    shares_other (bounded e) c.lowest-near.ensures c.lowest_typed-r.ensures c.put-2.ensures c.if-r-end.false
+returns c = shares_other (bounded c.before.before.before.before.before.before.before.before.before) c.lowest-near.ensures c.lowest_typed-r.ensures c.put-2.ensures c.if-r-end.false
