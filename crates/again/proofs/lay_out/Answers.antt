@@ -22,7 +22,7 @@ Start = Lts.Start tie.the-claims Reads.Pre Reads.Post tie.handed_clauses
 
 -- ---- the stations: the start, the header that the check gives, and the test of the result
 abbrev start : Else-not-is_result_of → Start
-start c = c.before.before.before.before.before.before.before.before.before.before
+start c = c.before.before.before.before.before.before.before.before
 
 abbrev given : Else-not-is_result_of → Header
 given c = c.in-Unit.given
@@ -63,7 +63,7 @@ header_with-h-requires c = record { fits = rw (c.word.ensures.value, c.word-l.en
 
 pub overflow_add-end : goal.overflow_add-end
 overflow_add-end c =
-    let sum : c.header_with-h.result.offsets.lines + line_size * c.word-l.result < 2 ^ 64 = omega (arith, lines_below (headed c.before.before.before), c.word-l.ensures.fits, (start (tested c.before.before.before)).well-formed.0) in
+    let sum : c.header_with-h.result.offsets.lines + line_size * c.word-l.result < 2 ^ 64 = omega (arith, lines_below (headed c.before.before.before), c.word-l.ensures.fits, (start (tested c.before.before.before)).well_formed.0) in
     record { fits = sum }
 
 pub returns-then-out-end : goal.returns-then-out-end

@@ -84,7 +84,7 @@ pub overflow_mul-lines : goal.overflow_mul-lines
 overflow_mul-lines c = let p = parts_of c.requires.writable in record { fits = omega (arith, p.lines_in_lem) }
 
 pub word-types_at-requires : goal.word-types_at-requires
-word-types_at-requires c = let p = parts_of c.requires.writable in record { inside = (p.header_in, omega arith) }
+word-types_at-requires c = let p = parts_of c.requires.writable in (p.header_in, omega arith)
 
 pub write_header-requires : goal.write_header-requires
 write_header-requires c = let p = parts_of (start c.before.before).requires.writable in record { room = omega (arith, p.code_at, code_fits p) }

@@ -1,3 +1,4 @@
+use Rattle.std.proofs.Common.{eq-eqb, ne_eqb}
 use mathlib.Core.Path.{◌≡◌, refl, ◌∙◌}
 use mathlib.Core.Logic.{⊎_elim, inl, inr}
 use Prim.Native.Nat.{ℕ, ◌-◌, ◌<◌}
@@ -9,6 +10,7 @@ use Rattle.removal.specs.laws.Next.{next_kept}
 use Rattle.removal.specs.laws.JumpRounds.{Walked, Takes, keep_in, walk_begin, walk_asks, walk_flags, walk_inside, walk_below, walk_on, walk_end, idle_dropped}
 use borrow.Author.Rules.{rules}
 use Rattle.removal.proofs.jump.drop_idle.Goals as goal
+use Rattle.removal.proofs.jump.drop_idle.Goals.{then-idle, else-idle}
 use Rattle.removal.proofs.jump.drop_idle.Tie as tie
 use Rattle.removal.proofs.jump.drop_idle.Lts
 use Rattle.removal.proofs.jump.drop_idle.Reads
@@ -21,6 +23,9 @@ At-loop-k = Lts.At-loop tie.the-claims Reads.Pre Reads.Post goal.the-invariant-l
 
 abbrev In-loop-k : Type 0
 In-loop-k = Lts.In-loop tie.the-claims Reads.Pre Reads.Post goal.the-invariant-loop-k goal.the-decreases-loop-k
+
+abbrev Joined-idle : Type 0
+Joined-idle = Lts.Joined1 tie.the-claims Reads.Pre Reads.Post goal.the-invariant-loop-k goal.the-decreases-loop-k
 
 abbrev Start : Type 0
 Start = Lts.Start tie.the-claims Reads.Pre Reads.Post goal.the-invariant-loop-k goal.the-decreases-loop-k
@@ -74,24 +79,22 @@ pub bounds-work-p-then-idle : goal.bounds-work-p-then-idle
 bounds-work-p-then-idle c = let l = body c.before.before.before.before in let s = start l.before in omega (arith, inside l, (walk_asks s.requires.0 s.requires.1 l.loop-k.invariant).long)
 
 -- the place is done, whichever way it came here
-again : (j : tie.Joined1 invariant-loop decreases-loop) (next : ℕ) → let l = body j.before.before.before.before in
+again : (j : Joined-idle) (next : ℕ) → let l = body j.before.before.before in
     let a = (start l.before).args in
     let p = get_or a.list.now (l.loop-k.k - 1) 0 in
     Takes (eqb (get_or l.loop-k.work p 0) 1) p j.lowest_kept-next.result next
     → Walked a.words.now a.list.now a.work.now j.if-idle.work j.if-idle.dropped next p (l.loop-k.k - 1)
 again j next t =
-    let i = j.before in
-    let f = i.before.before.before in
-    let l = body f in
+    let l = body j.before.before.before in
     let s = start l.before in
-    walk_on s.requires.0 s.requires.1 l.loop-k.invariant l.loop-k-test.true _ (found f) i.is_idle-idle.result _ _ next i.is_idle-idle.ensures
-    (⊎_elim (λ w. inl (w.0.taken, w.1, w.2)) (λ w. inr (w.0.left, w.1, w.2)) j.if-idle.branch) t
+    walk_on s.requires.0 s.requires.1 l.loop-k.invariant l.loop-k-test.true _ (found j.before.before.before) j.is_idle-idle.result _ _ next j.is_idle-idle.ensures
+    (elim j.if-idle.branch [ then-idle w ↦ inl (w.if-idle.true, w.work-is, w.dropped-is) | else-idle w ↦ inr (w.if-idle.false, w.work-is, w.dropped-is) ]) t
 
 pub loop-k-preserved-then-kept : goal.loop-k-preserved-then-kept
-loop-k-preserved-then-kept c = again c.before _ (inl (c.if-kept.true, refl))
+loop-k-preserved-then-kept c = again c.before.before _ (inl (eq-eqb _ _ c.if-kept.true, refl))
 
 pub loop-k-preserved : goal.loop-k-preserved
-loop-k-preserved c = again c.before _ (inr (c.if-kept.false, refl))
+loop-k-preserved c = again c.before.before _ (inr (ne_eqb _ _ c.if-kept.false, refl))
 
 pub shape_of-work : goal.shape_of-work
 shape_of-work c = c.loop-k.invariant.cleared.long

@@ -37,4 +37,4 @@ returns-then-t-next c = let a = (start (read c.before.before)).args in
 pub returns : goal.returns
 returns c = let a = (start (read c.before.before.before.before)).args in
     rw c.loop_ends_in.ensures
-    (near_enough _ a.work.now a.kept a.next a.p _ _ (read c.before.before.before.before).from_word-i.ensures _ c.target-t.ensures (not-false _ (read c.before.before.before.before).if-not-kept.false) c.if-i-ne-JUMP.false c.if-t-next.false)
+    (near_enough _ a.work.now a.kept a.next a.p _ _ (read c.before.before.before.before).from_word-i.ensures _ c.target-t.ensures (read c.before.before.before.before).if-not-kept.false c.if-i-ne-JUMP.false c.if-t-next.false)

@@ -9,6 +9,7 @@ use Rattle.removal.specs.laws.Cleared.{Cleared, step_on, step_off, cleared_none,
 use Rattle.removal.specs.laws.PlainHints.{hint_at, hints_idle, hints_dropped}
 use borrow.Author.Rules.{rules}
 use Rattle.removal.proofs.plain.drop_hints.Goals as goal
+use Rattle.removal.proofs.plain.drop_hints.Goals.{then-is_plain_hint, else-is_plain_hint}
 use Rattle.removal.proofs.plain.drop_hints.Tie as tie
 use Rattle.removal.proofs.plain.drop_hints.Lts
 use Rattle.removal.proofs.plain.drop_hints.Reads
@@ -52,10 +53,10 @@ loop-k-preserved c =
     let here : Cleared (hint_at s.args.words.now) s.args.keep.now c.loop-k.keep 0 p = at_control s.requires.2 (Cleared _ _ _ _) _ c.loop-k-test.true c.loop-k.invariant in
     let next : Cleared (hint_at s.args.words.now) s.args.keep.now c.if-is_plain_hint.keep 0 (p + 1) =
     cleared_up here (omega arith)
-    (⊎_elim
-    (λ w. rw w.1 (step_on p (omega (arith, inside c.before.before.before.before.before.before, here.long, s.requires.0)) (sym hint ∙ w.0.taken)))
-    (λ w. rw w.1 (step_off p (here.rest p (λ a b. omega arith)) (sym hint ∙ w.0.left)))
-    c.if-is_plain_hint.branch) in
+    (elim c.if-is_plain_hint.branch [
+      then-is_plain_hint w ↦ rw w.keep-is (step_on p (omega (arith, inside c.before.before.before.before.before.before, here.long, s.requires.0)) (sym hint ∙ w.if-is_plain_hint.true))
+    | else-is_plain_hint w ↦ rw w.keep-is (step_off p (here.rest p (λ a b. omega arith)) (sym hint ∙ w.if-is_plain_hint.false))
+    ]) in
     skip_next s.requires.2 (Cleared _ _ _ _) (hints_idle s.args.words.now _ _) _ c.loop-k-test.true next
 
 pub shape_of-keep : goal.shape_of-keep

@@ -44,10 +44,10 @@ module _ (h : After-drop_hints) where
   there : (placed h).keep_at-keep.result ≡ keep_at (begin h).args.n
   there = (placed h).keep_at-keep.ensures
 
-  hinted_long : length h.drop_hints.new.1.1.1.0 ≡ length (mid_of (keep_at (begin h).args.n) (length (begin h).args.work32.now - keep_at (begin h).args.n) (begin h).args.work32.now)
-  hinted_long = rw there at h.drop_hints.auto.1.1.1.0
+  hinted_long : length h.drop_hints.new.work ≡ length (mid_of (keep_at (begin h).args.n) (length (begin h).args.work32.now - keep_at (begin h).args.n) (begin h).args.work32.now)
+  hinted_long = rw there at h.drop_hints.auto.work
 
-  hinted : Useful (mid_of 0 ((begin h).args.n - 0) (begin h).args.work64.now) (begin h).args.metadata.now (mid_of (keep_at (begin h).args.n) (length (begin h).args.work32.now - keep_at (begin h).args.n) (begin h).args.work32.now) h.drop_hints.new.1.1.1.0
+  hinted : Useful (mid_of 0 ((begin h).args.n - 0) (begin h).args.work64.now) (begin h).args.metadata.now (mid_of (keep_at (begin h).args.n) (length (begin h).args.work32.now - keep_at (begin h).args.n) (begin h).args.work32.now) h.drop_hints.new.work
   hinted = rw there at h.drop_hints.ensures
 
 pub drop_stores-requires : goal.drop_stores-requires
@@ -73,7 +73,7 @@ module _ (d : After-drop_stores) where
   stored-long : length d.drop_stores.new.work32 ≡ length (useful d)
   stored-long = rw (there (hints d)) at d.drop_stores.auto.work32
 
-  stored : Stored (sections_of (start d).args.unit.now) (start d).args.n (start d).args.metadata.now (useful d) (mid_of 0 ((start d).args.at - 0) (start d).args.work64.now) d.drop_stores.new.1.1.0 d.drop_stores.new.1.1.1.0
+  stored : Stored (sections_of (start d).args.unit.now) (start d).args.n (start d).args.metadata.now (useful d) (mid_of 0 ((start d).args.at - 0) (start d).args.work64.now) d.drop_stores.new.work32 d.drop_stores.new.work64
   stored = rw (there (hints d)) at d.drop_stores.ensures.stored
 
 long : (d : After-drop_stores) → length d.drop_stores.new.work32 ≡ length (start d).args.work32.now
@@ -81,7 +81,7 @@ long d =
     let h = hints d in
     let s = start d in
     let a = s.args in
-    stores_long (sections_of a.unit.now) a.n (a.n - 0) a.metadata.now a.work32.now a.work64.now h.drop_hints.new.1.1.1.0 a.at (a.at - 0) (omega arith) (omega arith) (omega (arith, s.requires.within)) s.requires.given (hinted_long h) (hinted h) d.drop_stores.new.work32 d.drop_stores.new.work64 (stored-long d) d.drop_stores.auto.work64 (stored d)
+    stores_long (sections_of a.unit.now) a.n (a.n - 0) a.metadata.now a.work32.now a.work64.now h.drop_hints.new.work a.at (a.at - 0) (omega arith) (omega arith) (omega (arith, s.requires.within)) s.requires.given (hinted_long h) (hinted h) d.drop_stores.new.work32 d.drop_stores.new.work64 (stored-long d) d.drop_stores.auto.work64 (stored d)
 
 pub overflow_add-at-2 : goal.overflow_add-at-2
 overflow_add-at-2 c = let s = start c.before.before.before.before.before.before in omega (arith, s.requires.within)
@@ -104,7 +104,7 @@ drop_jumps-requires c =
     let s = start c.before.before.before.before.before.before.before.before in
     let a = s.args in
     rw (there h)
-    (jumps_asks (sections_of a.unit.now) a.n (a.n - 0) a.metadata.now a.work32.now a.work64.now h.drop_hints.new.1.1.1.0 a.at (a.at - 0) (omega arith) (omega arith) (omega (arith, s.requires.within)) s.requires.given (hinted_long h) (hinted h) c.drop_stores.new.work32 c.drop_stores.new.work64 (stored-long c.before.before.before.before.before.before.before.before) c.drop_stores.auto.work64 (stored c.before.before.before.before.before.before.before.before) a.count (a.at + a.count - a.at) (omega arith) s.requires.listed)
+    (jumps_asks (sections_of a.unit.now) a.n (a.n - 0) a.metadata.now a.work32.now a.work64.now h.drop_hints.new.work a.at (a.at - 0) (omega arith) (omega arith) (omega (arith, s.requires.within)) s.requires.given (hinted_long h) (hinted h) c.drop_stores.new.work32 c.drop_stores.new.work64 (stored-long c.before.before.before.before.before.before.before.before) c.drop_stores.auto.work64 (stored c.before.before.before.before.before.before.before.before) a.count (a.at + a.count - a.at) (omega arith) s.requires.listed)
 
 pub shape_of-work32 : goal.shape_of-work32
 shape_of-work32 c =
@@ -116,7 +116,5 @@ pub returns : goal.returns
 returns c =
     let h = hints c.before.before.before.before.before.before.before.before.before.before.before in
     let s = start c.before.before.before.before.before.before.before.before.before.before.before in
-    let a = s.args in let all = rw (there h) (
-      jumps_retained (sections_of a.unit.now) a.n (a.n - 0) a.metadata.now a.work32.now a.work64.now h.drop_hints.new.1.1.1.0 a.at (a.at - 0) (omega arith) (omega arith) (omega (arith, s.requires.within)) s.requires.given (hinted_long h) (hinted h) c.drop_stores.new.work32 c.drop_stores.new.work64 (stored-long c.before.before.before.before.before.before.before.before.before.before.before) c.drop_stores.auto.work64 (stored c.before.before.before.before.before.before.before.before.before.before.before) c.drop_jumps.new.work (rw (there h) at c.drop_jumps.auto.work) (rw (there h) at c.drop_jumps.ensures),
-      behind_same (sections_of a.unit.now) a.n (a.n - 0) a.metadata.now a.work32.now a.work64.now h.drop_hints.new.1.1.1.0 a.at (a.at - 0) (omega arith) (omega arith) (omega (arith, s.requires.within)) s.requires.given (hinted_long h) (hinted h) c.drop_stores.new.work32 c.drop_stores.new.work64 (stored-long c.before.before.before.before.before.before.before.before.before.before.before) c.drop_stores.auto.work64 (stored c.before.before.before.before.before.before.before.before.before.before.before),
-    ) in record { retained = all.0; behind = all.1 }
+    let a = s.args in
+    rw (there h) (record { retained = jumps_retained (sections_of a.unit.now) a.n (a.n - 0) a.metadata.now a.work32.now a.work64.now h.drop_hints.new.work a.at (a.at - 0) (omega arith) (omega arith) (omega (arith, s.requires.within)) s.requires.given (hinted_long h) (hinted h) c.drop_stores.new.work32 c.drop_stores.new.work64 (stored-long c.before.before.before.before.before.before.before.before.before.before.before) c.drop_stores.auto.work64 (stored c.before.before.before.before.before.before.before.before.before.before.before) c.drop_jumps.new.work (rw (there h) at c.drop_jumps.auto.work) (rw (there h) at c.drop_jumps.ensures); behind = behind_same (sections_of a.unit.now) a.n (a.n - 0) a.metadata.now a.work32.now a.work64.now h.drop_hints.new.work a.at (a.at - 0) (omega arith) (omega arith) (omega (arith, s.requires.within)) s.requires.given (hinted_long h) (hinted h) c.drop_stores.new.work32 c.drop_stores.new.work64 (stored-long c.before.before.before.before.before.before.before.before.before.before.before) c.drop_stores.auto.work64 (stored c.before.before.before.before.before.before.before.before.before.before.before) })
