@@ -1,0 +1,34 @@
+use mathlib.Core.Path.{◌≡◌, sym, ◌∙◌}
+use mathlib.Core.Logic.{⊎_elim}
+use native.Mathlib.Omega.{arith}
+use Rattle.numbering.proofs.Walking.{word_fits, folded_word, wide_word, no_word}
+use borrow.Author.Rules.{rules}
+use Rattle.numbering.proofs.walk.by_value.Goals as goal
+
+pub store_constant-requires : goal.store_constant-requires
+store_constant-requires c = (c.requires.0, rw c.load.ensures c.requires.1, omega arith)
+
+pub returns-then-fits_imm32 : goal.returns-then-fits_imm32
+returns-then-fits_imm32 c =
+    folded_word c.args.i c.args.p _ c.in-Word.is (word_fits c.args.i _ c.fits_imm32.ensures c.if-fits_imm32.true c.load.ensures c.store_constant.ensures)
+
+pub by_number-requires : goal.by_number-requires
+by_number-requires c =
+    let p = c.requires in (
+      p.0,
+      p.1,
+      p.2,
+      p.3,
+      p.4,
+      λ v e.
+          ⊎_elim
+          (λ w. wide_word w.5 w.3.ensures w.4.left v e)
+          (λ w. no_word (w.2 ∙ w.1.given.1) v e)
+          c.match-folded.branch,
+    )
+
+pub returns : goal.returns
+returns c =
+    let m = c.match-folded in
+    let same : m.folded ≡ c.args.folded = ⊎_elim (λ w. w.5 ∙ sym w.1.given.1) (λ w. w.2) m.branch in
+    rw (← same) c.by_number.ensures

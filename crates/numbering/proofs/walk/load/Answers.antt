@@ -1,0 +1,5 @@
+use borrow.Author.Rules.{rules}
+use Rattle.numbering.proofs.walk.load.Goals as goal
+
+pub returns : goal.returns
+returns c = rw (c.with_imm32.ensures, c.new.ensures)

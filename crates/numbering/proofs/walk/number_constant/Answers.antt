@@ -1,0 +1,12 @@
+use Rattle.numbering.proofs.Walking.{kind_known, constant_becomes, forget_becomes, constant_unknown}
+use borrow.Author.Rules.{rules}
+use Rattle.numbering.proofs.walk.number_constant.Goals as goal
+
+pub store_constant-requires : goal.store_constant-requires
+store_constant-requires c = (c.requires.0, c.requires.1, kind_known c.loaded.ensures.1 c.in-Value.is)
+
+pub returns-in-Value : goal.returns-in-Value
+returns-in-Value c = constant_becomes c.args.i c.loaded.ensures.0 c.in-Value.is c.store_constant.ensures
+
+pub returns-in-Unknown : goal.returns-in-Unknown
+returns-in-Unknown c = forget_becomes c.forget.ensures (λ dest. constant_unknown _ c.args.i c.loaded.ensures.0 c.in-Unknown.is)

@@ -1,0 +1,6 @@
+use Rattle.numbering.proofs.Walking.{store_becomes}
+use borrow.Author.Rules.{rules}
+use Rattle.numbering.proofs.walk.store.Goals as goal
+
+pub returns : goal.returns
+returns c = store_becomes c.store.ensures

@@ -1,0 +1,6 @@
+use Rattle.numbering.proofs.Walking.{store_interned}
+use borrow.Author.Rules.{rules}
+use Rattle.numbering.proofs.walk.store_constant.Goals as goal
+
+pub returns : goal.returns
+returns c = store_interned c.args.i c.constant-d.ensures c.store.ensures

@@ -1,0 +1,8 @@
+
+use Rattle.use_def.proofs.row.masked.Goals as goal
+
+pub returns-then-on : goal.returns-then-on
+returns-then-on c = rw c.if-on.true
+
+pub returns-else-on : goal.returns-else-on
+returns-else-on c = rw c.if-on.false

@@ -1,0 +1,10 @@
+use Rattle.std.proofs.Common.{◌≡◌, ◌-◌, ◌*◌, ◌≤◌, length, arith, rules}
+use Rattle.use_def.specs.laws.Sets.{range}
+use Rattle.use_def.specs.laws.Sets.{Putting, putting_begin, putting_turn, within_end}
+use Rattle.use_def.proofs.row.put_each.Given as goal
+
+abbrev pub invariant-loop-k : goal.invariant-loop-k
+invariant-loop-k l = (l.k ≤ l.count) × Putting l.on l.start l.initial.row l.row l.k
+
+abbrev pub decreases-loop-k : goal.decreases-loop-k
+decreases-loop-k l = l.count - l.k

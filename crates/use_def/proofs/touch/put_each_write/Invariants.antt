@@ -1,0 +1,11 @@
+use Rattle.std.proofs.Common.{ℕ, ◌-◌, List, [], arith, rules}
+use Rattle.effects.specs.Shape.{tables_of}
+use Rattle.effects.specs.Effects.{sure_writes}
+use Rattle.use_def.specs.laws.Touched.{Ranging, ranging_begin, ranging_fits, ranging_turn, ranging_end}
+use Rattle.use_def.proofs.touch.put_each_write.Given as goal
+
+abbrev pub invariant-loop-k : goal.invariant-loop-k
+invariant-loop-k l = (cases : List ℕ) → Ranging l.on (sure_writes (tables_of l.functions l.externs cases) (record { instruction = l.i; metadata = l.m })) l.n l.initial.row l.row l.k
+
+abbrev pub decreases-loop-k : goal.decreases-loop-k
+decreases-loop-k l = l.n - l.k
