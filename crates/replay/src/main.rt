@@ -2,6 +2,8 @@
 // answer and output, the rest of the output must stay as it was and the work buffers must end as zeros.
 #![tactic(auto)]
 
+ghost use Rattle.std.specs.Prelude.{◌≡◌, ◌↔◌, All, IsTrue};
+
 use optimize::{Answer, pass};
 use std::fs::File;
 use std::io;
@@ -64,7 +66,9 @@ fn agrees(a: Answer, r: Recorded) -> bool {
     }
 }
 
-fn all_zero(work32: &[u32], work64: &[u64]) -> bool {
+fn all_zero(work32: &[u32], work64: &[u64]) -> bool
+    ensures { IsTrue result ↔ All (λ x. x ≡ 0) work32.now × All (λ x. x ≡ 0) work64.now }
+{
     work32.iter().all(|word| *word == 0) && work64.iter().all(|word| *word == 0)
 }
 

@@ -26,10 +26,13 @@ pub fn skip(text: &[u8], at: usize, last: u8) -> usize
 pub fn kind(text: &[u8], at: usize) -> u32
     ensures { result ≡ kind_at text.now at }
 {
-    match byte(text, at.wrapping_add(2)) {
-        b'c' => 0,
-        b'f' => 1,
-        _ => 2,
+    let letter = byte(text, at.wrapping_add(2));
+    if letter == b'c' {
+        0
+    } else if letter == b'f' {
+        1
+    } else {
+        2
     }
 }
 
