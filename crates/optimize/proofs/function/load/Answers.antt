@@ -44,8 +44,9 @@ pub check_operands-requires : goal.check_operands-requires
 unfolding sections_of
 check_operands-requires c =
     let s = start c.before.before.before.before.before.before.before.before in
-    let a = s.args in let all = rw (c.types.ensures, c.cases.ensures, s.requires.given.typed)
-    (operands_asks a.n a.code.now a.metadata.now (sections_of a.unit.now) s.requires.given a.at _ s.requires.list (rw (long c.before.before.before.before.before.before.before.before) s.requires.room)) in record { laid = all.0; counted = all.1 }
+    let a = s.args in
+    rw (c.types.ensures, c.cases.ensures, s.requires.given.typed)
+    (operands_asks a.n a.code.now a.metadata.now (sections_of a.unit.now) s.requires.given a.at _ s.requires.list (rw (long c.before.before.before.before.before.before.before.before) s.requires.room))
 
 pub returns : goal.returns
 unfolding sections_of ListedBy
