@@ -12,10 +12,10 @@ use Rattle.desk.proofs.charge.Tie as tie
 abbrev start : tie.After-check-charge → tie.Start
 start c = c.before.before.before.before
 
-abbrev told : tie.After-advance → tie.After-enum-told
+abbrev told : tie.After-advance-priced → tie.After-enum-told
 told c = c.before.before
 
-abbrev advanced-at : tie.After-stop-at → tie.After-advance
+abbrev advanced-at : tie.After-stop-at → tie.After-advance-priced
 advanced-at c = c.before.before.before
 
 -- ---- what holds there
@@ -32,8 +32,8 @@ price-few c o = omega (arith, c.before.shared-slice-known2.given o)
 
 -- ---- the needs
 
-advance-requires : tie.Need-advance-requires
-advance-requires c κs = let r = running c.before in (r.laid, (r.runnable, (r.frame, (charge_passed _ _ _ (passed c.before)).1)))
+advance-priced-requires : tie.Need-advance-priced-requires
+advance-priced-requires c κs = let r = running c.before in (r.laid, (r.runnable, (r.frame, (charge_passed _ _ _ (passed c.before)).1)))
 
 stop-at-requires : tie.Need-stop-at-requires
 stop-at-requires c κs = (running (told c.before.before)).laid
@@ -45,19 +45,19 @@ stop-price-requires c κs =
       (running t).laid,
       (
         (charge_passed _ _ _ (passed t)).1,
-        λ h. stop_inside (sections_of a.unit.now) (cells_of a.unit.now) _ _ _ (rw (c.stop-at.ensures (advanced-at c).advance.new.1.0) at h),
+        λ h. stop_inside (sections_of a.unit.now) (cells_of a.unit.now) _ _ _ (rw (c.stop-at.ensures (advanced-at c).advance-priced.new.1.0) at h),
       ),
     )
 
 -- what was spent, before it is rounded
 spent-few : (c : tie.After-stop-price) → let a = advanced-at c.before in
-    a.advance.result.spent + c.stop-price.result ≤ highest_price * (start (told a).before.before).args.limit
+    a.advance-priced.result.spent + c.stop-price.result ≤ highest_price * (start (told a).before.before).args.limit
 spent-few c =
     let x = c.before in
     let a = advanced-at x in
     let m = (told a).before.before in
     let s = start m in
-    spent_bound s.args.unit.now s.args.frame.now s.args.limit s.args.tariff.now (price-few m) a.advance.ensures (x.stop-at.ensures _) c.stop-price.ensures
+    spent_bound s.args.unit.now s.args.frame.now s.args.limit s.args.tariff.now (price-few m) a.advance-priced.ensures (x.stop-at.ensures _) c.stop-price.ensures
 
 add-spent : tie.Need-overflow-add-spent
 add-spent c = omega (arith, spent-few c.before)
@@ -80,7 +80,7 @@ returns-2 c =
     let m = (told a).before.before in
     let s = start m in
     let r =
-    charged s.args.unit.now s.args.frame.now s.args.limit s.args.tariff.now (price-few m) a.advance.ensures (x.stop-at.ensures _) p.stop-price.ensures (passed (told a)) (omega arith) in
+    charged s.args.unit.now s.args.frame.now s.args.limit s.args.tariff.now (price-few m) a.advance-priced.ensures (x.stop-at.ensures _) p.stop-price.ensures (passed (told a)) (omega arith) in
     (r.answer, (r.frame, (r.charge, r.most)))
 
 pub charge-spec : {M : Type 1} → statement M
@@ -90,7 +90,7 @@ charge-spec =
     (λ c κs. search rules)
     (λ c. search rules)
     (λ c. search rules)
-    advance-requires
+    advance-priced-requires
     stop-at-requires
     stop-price-requires
     add-spent

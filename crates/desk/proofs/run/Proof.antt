@@ -9,7 +9,7 @@ passed : (c : tie.After-enum-told) → let s = c.before.before.before.before.bef
 passed c = sym c.before.before.check.ensures ∙ c.enum_told.given.1
 
 advance-requires : tie.Need-advance-requires
-advance-requires c κs = let r = passed_run _ _ (passed c.before.before) in (r.laid, (r.runnable, (r.frame, refl)))
+advance-requires c κs = let r = passed_run _ _ (passed c.before.before) in (r.laid, (r.runnable, r.frame))
 
 stop-at-requires : tie.Need-stop-at-requires
 stop-at-requires c κs = (passed_run _ _ (passed c.before.before.before.before.before)).laid
@@ -25,7 +25,7 @@ returns-2 c =
     let a = c.before.before.before in
     let t = a.before.before.before in
     let s = t.before.before.before.before.before in
-    ran s.args.unit.now s.args.frame.now (passed t) _ _ _ _ _ _ _ a.advance.ensures (c.stop-at.ensures _)
+    ran s.args.unit.now s.args.frame.now (passed t) _ _ _ _ _ a.advance.ensures (c.stop-at.ensures _)
 
 pub run_spec : {M : Type 1} → statement M
 run_spec =

@@ -9,7 +9,7 @@ passed : (c : tie.After-enum-told) → let s = c.before.before.before.before.bef
 passed c = sym c.before.before.check.ensures ∙ c.enum_told.given.1
 
 advance-requires : tie.Need-advance-requires
-advance-requires c κs = let r = passed_run _ _ (passed c.before.before) in (r.laid, (r.runnable, (r.frame, refl)))
+advance-requires c κs = let r = passed_run _ _ (passed c.before.before) in (r.laid, (r.runnable, r.frame))
 
 cast-t18 : tie.Need-overflow-cast-t18
 cast-t18 c =
@@ -17,14 +17,14 @@ cast-t18 c =
     let t = a.before.before.before in
     let s = t.before.before.before.before.before in
     omega
-    (arith, step_place s.args.unit.now s.args.frame.now (passed t) _ _ _ _ _ _ a.advance.ensures (λ i. omega (arith, t.before.before.before.before.shared-slice-known.given i)) c.before.if1.true)
+    (arith, step_place s.args.unit.now s.args.frame.now (passed t) _ _ _ _ a.advance.ensures (λ i. omega (arith, t.before.before.before.before.shared-slice-known.given i)) c.before.if1.true)
 
 returns : tie.Need-returns
 returns c =
     let a = c.before.before.before.before.before in
     let t = a.before.before.before in
     let s = t.before.before.before.before.before in
-    step_went s.args.unit.now s.args.frame.now (passed t) _ _ _ _ _ _ a.advance.ensures c.before.if1.true
+    step_went s.args.unit.now s.args.frame.now (passed t) _ _ _ _ a.advance.ensures c.before.if1.true
 
 stop-at-requires : tie.Need-stop-at-requires
 stop-at-requires c κs = (passed_run _ _ (passed c.before.before.before.before.before.before.before)).laid
@@ -40,7 +40,7 @@ returns-3 c =
     let a = c.before.before.before.before.before in
     let t = a.before.before.before in
     let s = t.before.before.before.before.before in
-    step_stopped s.args.unit.now s.args.frame.now (passed t) _ _ _ _ _ _ a.advance.ensures _ (omega (arith, c.before.if1.false)) (c.stop-at.ensures _)
+    step_stopped s.args.unit.now s.args.frame.now (passed t) _ _ _ _ a.advance.ensures _ (omega (arith, c.before.if1.false)) (c.stop-at.ensures _)
 
 pub step_spec : {M : Type 1} → statement M
 step_spec =

@@ -3,10 +3,10 @@ use Rattle.instruction.specs.Instruction.{instruction_at}
 use Rattle.effects.specs.Shape.{Sections, Cell}
 use Rattle.answer.specs.Answer.{cells_of, sections_of}
 use Rattle.desk.specs.Charge.{highest_price}
-use Rattle.desk.specs.laws.Advance.{Advance, Placed, stands, advanced}
-use Rattle.desk.specs.laws.Unit.{Turn, turn_inside, turn_over, turn_executable, turn_goes, turn_stays}
-use Rattle.desk.proofs.execution.advance.Statement.{statement}
-use Rattle.desk.proofs.execution.advance.Tie as tie
+use Rattle.desk.specs.laws.Priced.{Advance, Placed, stands, advanced}
+use Rattle.desk.specs.laws.Unit.{Turn, turn_inside, priced_turn_over, turn_executable, priced_turn_goes, priced_turn_stays}
+use Rattle.desk.proofs.execution.advance_priced.Statement.{statement}
+use Rattle.desk.proofs.execution.advance_priced.Tie as tie
 
 -- as far as from here, and no more was spent than the steps done can cost
 record Onward (S : Sections) (cells : List Cell) (tariff : List ℕ) (steps from : ℕ) (f₀ : List ℕ) (left p spent : ℕ) (f : List ℕ) : Type 0 where
@@ -91,13 +91,13 @@ same_length : tie.Need-same-length invariant-loop decreases-loop
 same_length c =
     let k = c.before in
     let t = turned k in
-    ap length (turn_stays (turn t) (start (head t)).args.tariff.now t.before.loop.spent (executed k).execute.ensures c.if1.true).1 ∙ t.before.loop.inv.long
+    ap length (priced_turn_stays (turn t) (executed k).execute.ensures (start (head t)).args.tariff.now t.before.loop.spent c.if1.true).1 ∙ t.before.loop.inv.long
 
 returns : tie.Need-returns invariant-loop decreases-loop
 returns c =
     let k = c.before in
     let t = turned k in
-    let stays = turn_stays (turn t) (start (head t)).args.tariff.now t.before.loop.spent (executed k).execute.ensures c.if1.true in
+    let stays = priced_turn_stays (turn t) (executed k).execute.ensures (start (head t)).args.tariff.now t.before.loop.spent c.if1.true in
     rw stays.1 (placed (t.before.loop.inv.same ∙ stays.0))
 
 price-at-requires : tie.Need-price-at-requires invariant-loop decreases-loop
@@ -116,7 +116,7 @@ loop-again : tie.Need-loop-preserved invariant-loop decreases-loop
 loop-again c =
     let k = c.before.before in
     let t = turned k in
-    let goes = turn_goes (turn t) (start (head t)).args.tariff.now t.before.loop.spent (executed k).execute.ensures c.price-at.ensures c.before.if1.false in
+    let goes = priced_turn_goes (turn t) (executed k).execute.ensures (start (head t)).args.tariff.now t.before.loop.spent c.price-at.ensures c.before.if1.false in
     let some = (turn t).some in
     record {
       same = t.before.loop.inv.same ∙ goes.0;
@@ -134,10 +134,10 @@ returns-2 c =
     let s = start b in
     placed
     (h.invariant.same
-    ∙ turn_over s.args.unit.now s.pre.0 b.before.code.result.now b.before.code.ensures h.left h.p s.args.tariff.now h.spent h.frame c.loop-test.false)
+    ∙ priced_turn_over s.args.unit.now s.pre.0 b.before.code.result.now b.before.code.ensures h.left h.p s.args.tariff.now h.spent h.frame c.loop-test.false)
 
-pub advance-spec : {M : Type 1} → statement M
-advance-spec =
+pub advance_priced_spec : {M : Type 1} → statement M
+advance_priced_spec =
     tie.close
     (tie.spec
     invariant-loop
