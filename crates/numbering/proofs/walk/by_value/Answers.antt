@@ -4,6 +4,7 @@ use native.Mathlib.Omega.{arith}
 use Rattle.numbering.proofs.Walking.{word_fits, folded_word, wide_word, no_word}
 use borrow.Author.Rules.{rules}
 use Rattle.numbering.proofs.walk.by_value.Goals as goal
+use Rattle.numbering.proofs.walk.by_value.Goals.{in-Word+else-fits_imm32, in_default}
 
 pub store_constant-requires : goal.store_constant-requires
 store_constant-requires c = (c.requires.0, rw c.load.ensures c.requires.1, omega arith)
@@ -21,14 +22,14 @@ by_number-requires c =
       p.3,
       p.4,
       λ v e.
-          ⊎_elim
-          (λ w. wide_word w.5 w.3.ensures w.4.left v e)
-          (λ w. no_word (w.2 ∙ w.1.given.1) v e)
-          c.match-folded.branch,
+          elim c.match-folded.branch [
+            in-Word+else-fits_imm32 w ↦ wide_word w.folded-is w.fits_imm32.ensures w.if-fits_imm32.false v e
+          | in_default w ↦ no_word (w.folded-is ∙ w.in_default.is) v e
+          ],
     )
 
 pub returns : goal.returns
 returns c =
     let m = c.match-folded in
-    let same : m.folded ≡ c.args.folded = ⊎_elim (λ w. w.5 ∙ sym w.1.given.1) (λ w. w.2) m.branch in
+    let same : m.folded ≡ c.args.folded = elim m.branch [ in-Word+else-fits_imm32 w ↦ w.folded-is ∙ sym w.in-Word.is | in_default w ↦ w.folded-is ] in
     rw (← same) c.by_number.ensures

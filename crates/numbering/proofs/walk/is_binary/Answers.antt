@@ -1,3 +1,4 @@
+use borrow.Enum.Refused.{opened}
 use Rattle.instruction.specs.Class.{number_of}
 use Rattle.numbering.proofs.Classes.{not_number}
 use mathlib.Core.Path.{sym}
@@ -16,4 +17,4 @@ unfolding number_of
 returns-in-Binary c = rw c.in-Binary.is
 
 pub returns-in_default : goal.returns-in_default
-returns-in_default c = sym (not_number c.args.k others 6 (miss others 6 tt) c.in_default.in_default-own.keys2)
+returns-in_default c = sym (not_number c.args.k others 6 (miss others 6 tt) (opened c.in_default.in_default-own.keys2))

@@ -1,3 +1,4 @@
+use borrow.Enum.Refused.{opened}
 use Rattle.numbering.proofs.Classes.{operator_yes, not_number}
 use mathlib.Core.Path.{sym}
 use mathlib.Core.List.{List, [], ◌∷◌}
@@ -13,4 +14,4 @@ pub returns-in-Unary : goal.returns-in-Unary
 returns-in-Unary c = sym (operator_yes c.args.k c.in-Unary.in-Unary-own.keys1)
 
 pub returns-in_default : goal.returns-in_default
-returns-in_default c = rw (not_number c.args.k others 5 (miss others 5 tt) c.in_default.in_default-own.keys2, not_number c.args.k others 6 (miss others 6 tt) c.in_default.in_default-own.keys2)
+returns-in_default c = rw (not_number c.args.k others 5 (miss others 5 tt) (opened c.in_default.in_default-own.keys2), not_number c.args.k others 6 (miss others 6 tt) (opened c.in_default.in_default-own.keys2))

@@ -33,18 +33,18 @@ given h = (start h).args.memory.now
 
 -- the first table
 abbrev table : Head → List ℕ
-table h = h.begin.last.0
+table h = h.begin.new.t
 
 -- the memory is as long as it was
 long : (h : Head) → length h.loop-p.memory ≡ length (given h)
-long h = h.loop-p.invariant.long ∙ whole_long (size h) (given h) (table h) (omega (arith, (start h).requires.long)) h.begin.kept.0
+long h = h.loop-p.invariant.long ∙ whole_long (size h) (given h) (table h) (omega (arith, (start h).requires.long)) h.begin.auto.t
 
 room : (h : Head) → size h ≤ length h.loop-p.memory
 room h = omega (arith, long h, (start h).requires.long)
 
 -- the walk starts from the code that was given
 same_code_lem : (h : Head) → mid_of 0 (size h) (put_mid (size h) (length (given h) - size h) (given h) (table h)) ≡ mid_of 0 (size h) (given h)
-same_code_lem h = code_before (size h) (given h) (table h) (omega (arith, (start h).requires.long)) h.begin.kept.0
+same_code_lem h = code_before (size h) (given h) (table h) (omega (arith, (start h).requires.long)) h.begin.auto.t
 
 -- the word that a turn reads is the one given
 word : (h : Head) → h.loop-p.p < size h → get_or h.loop-p.memory h.loop-p.p 0 ≡ get_or (mid_of 0 (size h) (given h)) h.loop-p.p 0
@@ -71,7 +71,7 @@ begin-requires c =
 pub loop-p-init : goal.loop-p-init
 loop-p-init c =
     let b = c.begin in
-    numbering_start c.args.memory.now _ (omega (arith, c.requires.long)) b.auto.0 b.ensures
+    numbering_start c.args.memory.now _ (omega (arith, c.requires.long)) b.auto.t b.ensures
 
 pub offset_bounds-memory-p : goal.offset_bounds-memory-p
 offset_bounds-memory-p c = omega (arith, (start c.before.before).requires.few)

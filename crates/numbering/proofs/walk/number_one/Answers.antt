@@ -1,3 +1,4 @@
+use borrow.Enum.Refused.{opened}
 use Rattle.numbering.proofs.Classes.{number_other, jump_named, jump_by_lem}
 use Rattle.numbering.proofs.Walking.{as_becomes}
 use native.Mathlib.Omega.{arith}
@@ -26,4 +27,4 @@ unfolding Named number_by_with
 returns-in-Return c = let k = sym c.class-k.ensures ∙ c.in-Return.is in as_becomes (omega arith) (omega arith) (omega arith) (λ dest d l T v y h. (tt, rw k)) c.number_return.ensures
 
 pub returns-in_default : goal.returns-in_default
-returns-in_default c = as_becomes (omega arith) (omega arith) (omega arith) (λ dest d l T v y h. (y, sym (rw (← c.class-k.ensures) (number_other _ _ c.args.p c.args.i v c.in_default.in_default-own.keys3)))) c.number_other.ensures
+returns-in_default c = as_becomes (omega arith) (omega arith) (omega arith) (λ dest d l T v y h. (y, sym (rw (← c.class-k.ensures) (number_other _ _ c.args.p c.args.i v (opened c.in_default.in_default-own.keys3))))) c.number_other.ensures

@@ -1,3 +1,4 @@
+use borrow.Enum.Refused.{opened}
 use Rattle.numbering.proofs.Classes.{pure_none, operator_named, operator_pure}
 use Rattle.numbering.proofs.Walking.{as_becomes, pure_by_lem, forget_becomes}
 use native.Mathlib.Omega.{arith}
@@ -51,4 +52,4 @@ returns-in-Copy c =
 pub returns-in_default : goal.returns-in_default
 returns-in_default c =
     let no = sym c.is_operator.ensures ∙ c.if-is_operator.false in
-    forget_becomes c.forget.ensures (λ dest d l T v. pure_none _ c.args.k c.args.p c.args.i v c.in_default.in_default-own.keys4 no)
+    forget_becomes c.forget.ensures (λ dest d l T v. pure_none _ c.args.k c.args.p c.args.i v (opened c.in_default.in_default-own.keys4) no)

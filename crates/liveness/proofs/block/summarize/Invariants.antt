@@ -1,0 +1,21 @@
+use mathlib.Core.Path.{◌≡◌, refl, ◌∙◌}
+use mathlib.Core.Logic.{⊎_elim}
+use Prim.Native.Nat.{◌+◌, ◌*◌, ◌-◌, ◌≤◌, ◌<◌}
+use native.Mathlib.Omega.{arith}
+use lib.ListN.{length}
+use Rattle.effects.specs.Shape.{Tables, tables_of}
+use Rattle.effects.specs.laws.Cells.{cells_by}
+use Rattle.liveness.specs.laws.SetMemory.{code_words, uses_of, preserved_of, InSums, past_sums, in_sums, sums_turn, same_word, same_code_lem}
+use Rattle.words.specs.laws.Only.{Only, only_none, only_both, same_mid}
+use Rattle.liveness.specs.laws.Shown.{row_before}
+use Rattle.liveness.specs.laws.Visit.{Summed, summed_begin}
+use borrow.Author.Rules.{rules}
+use Rattle.liveness.proofs.block.summarize.Given as goal
+
+abbrev pub invariant-loop-b : goal.invariant-loop-b
+invariant-loop-b l =
+    (l.b ≤ l.sets.count) × (length l.memory ≡ length l.initial.memory) × Only (InSums l.sets) l.initial.memory l.memory
+    × Summed (tables_of l.functions l.externs l.cases) l.keep (cells_by (code_words l.sets l.initial.memory) l.metadata) l.sets.width l.starts (uses_of l.sets l.memory) (preserved_of l.sets l.memory) l.b
+
+abbrev pub decreases-loop-b : goal.decreases-loop-b
+decreases-loop-b l = l.sets.count - l.b

@@ -1,0 +1,22 @@
+use mathlib.Core.Path.{◌≡◌, refl, sym, ◌∙◌}
+use mathlib.Core.Logic.{⊎_elim}
+use Prim.Native.Nat.{ℕ, suc, ◌+◌, ◌-◌, ◌≤◌}
+use native.Mathlib.Omega.{arith}
+use lib.ListN.{length, get_or}
+use borrow.Rule.Slice.PartMut.{mid_of, put_mid}
+use Rattle.words.specs.laws.Regions.{mid_long}
+use Rattle.effects.specs.Shape.{Tables, tables_of}
+use Rattle.effects.specs.laws.Cells.{cell_of, cells_by}
+use Rattle.liveness.specs.laws.SetMemory.{cell_in}
+use Rattle.words.specs.laws.Only.{At, Either, Only, only_none, only_both, lent_long, both_lent, same_mid}
+use Rattle.liveness.specs.laws.Through.{Summary, summary_begin, summary_turn}
+use borrow.Author.Rules.{rules}
+use Rattle.liveness.proofs.block.summarize_block.Given as goal
+
+abbrev pub invariant-loop-p : goal.invariant-loop-p
+invariant-loop-p l =
+    (l.start ≤ l.p) × (l.p ≤ l.end) × (length l.memory ≡ length l.initial.memory) × Only (Either (At l.sets.uses l.sets.width) (At l.sets.preserved l.sets.width)) l.initial.memory l.memory
+    × ((n : ℕ) → l.end ≤ n → n ≤ l.sets.uses → Summary (tables_of l.functions l.externs l.cases) l.keep (cells_by (mid_of 0 n l.initial.memory) l.metadata) (mid_of l.sets.uses l.sets.width l.memory) (mid_of l.sets.preserved l.sets.width l.memory) l.p (l.end - l.p))
+
+abbrev pub decreases-loop-p : goal.decreases-loop-p
+decreases-loop-p l = l.p - l.start

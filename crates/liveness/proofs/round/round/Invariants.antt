@@ -1,0 +1,22 @@
+use mathlib.Core.Path.{◌≡◌, refl, ◌∙◌}
+use mathlib.Core.List.{List}
+use Prim.Native.Nat.{ℕ, ◌+◌, ◌-◌, ◌≤◌, ◌<◌}
+use native.Mathlib.Omega.{arith}
+use lib.ListN.{length, get_or}
+use Rattle.effects.specs.Shape.{Sections}
+use Rattle.effects.specs.laws.Cells.{cells_by}
+use Rattle.liveness.specs.Live.{Row}
+use Rattle.liveness.specs.laws.SetMemory.{code_words, uses_of, preserved_of, live_of, InRows, still_ready, visited_then}
+use Rattle.words.specs.laws.Only.{Only, only_none, only_both}
+use Rattle.liveness.specs.laws.Rounding.{Around, Rounding, rounding_begin, rounding_turn, rounding_end}
+use borrow.Author.Rules.{rules}
+use Rattle.liveness.proofs.round.round.Given as goal
+
+abbrev pub invariant-loop-b : goal.invariant-loop-b
+invariant-loop-b l =
+    (l.b ≤ l.sets.count) × (length l.memory ≡ length l.initial.memory) × Only (InRows l.sets) l.initial.memory l.memory
+    × ((S : Sections) (leaders keep metadata : List ℕ) (rows : List Row) → Around S leaders keep (cells_by (code_words l.sets l.initial.memory) metadata) l.sets.width l.sets.count rows l.blocks l.starts (uses_of l.sets l.initial.memory) (preserved_of l.sets l.initial.memory) (live_of l.sets l.initial.memory)
+    → Rounding S leaders keep (cells_by (code_words l.sets l.initial.memory) metadata) l.sets.width l.sets.count rows (live_of l.sets l.initial.memory) (live_of l.sets l.memory) l.b l.changed)
+
+abbrev pub decreases-loop-b : goal.decreases-loop-b
+decreases-loop-b l = l.b

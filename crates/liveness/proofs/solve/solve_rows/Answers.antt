@@ -1,0 +1,48 @@
+use mathlib.Core.Path.{refl}
+use mathlib.Core.Bool.{false≢true}
+use Prim.Native.Nat.{◌*◌, ◌≤◌}
+use native.Mathlib.Nat.{mul-le-mul}
+use native.Mathlib.Omega.{arith}
+use Rattle.effects.specs.Shape.{tables_of}
+use Rattle.liveness.specs.laws.Droppable.{few_words, few_blocks}
+use Rattle.liveness.specs.laws.Stores.{no_words, too_many}
+use Rattle.liveness.specs.laws.Workable.{Workable, workable}
+use borrow.Author.Rules.{rules}
+use Rattle.liveness.proofs.solve.solve_rows.Goals as goal
+use Rattle.liveness.proofs.solve.solve_rows.Tie as tie
+use Rattle.liveness.proofs.solve.solve_rows.Lts
+use Rattle.liveness.proofs.solve.solve_rows.Reads
+
+abbrev After-laid_out : Type 0
+After-laid_out = Lts.After-laid_out tie.the-claims Reads.Pre Reads.Post tie.handed_clauses
+
+pub returns-then-w-eq0 : goal.returns-then-w-eq0
+returns-then-w-eq0 c =
+    record { found = λ e. absurd (false≢true e); none = λ e constants. no_words c.requires.known c.set_words-w.ensures constants c.if-w-eq0.true; code = refl }
+
+pub overflow_mul-w : goal.overflow_mul-w
+overflow_mul-w c =
+    let words : c.set_words-w.result ≤ 1024 = few_words c.requires.known c.set_words-w.ensures in
+    let blocks : c.args.count ≤ 65536 = omega (arith, few_blocks c.requires.known c.set_words-w.ensures, c.requires.known.most) in
+    let size : c.set_words-w.result * c.args.count ≤ 1024 * 65536 = mul-le-mul words blocks in
+    record { fits = omega arith }
+
+pub returns-then-w-count-gt-MAX_SET_WORDS : goal.returns-then-w-count-gt-MAX_SET_WORDS
+returns-then-w-count-gt-MAX_SET_WORDS c =
+    record { found = λ e. absurd (false≢true e); none = λ e constants. too_many c.requires.known c.set_words-w.ensures constants c.if-w-count-gt-MAX_SET_WORDS.true; code = refl }
+
+-- the sets as they are laid out
+works : (c : After-laid_out) → let a = c.before.before.before.before.before.before.before.before.before.before.before.before in
+    Workable c.laid_out.result (tables_of a.args.functions.now a.args.externs.now a.args.cases.now) a.args.memory.now a.args.metadata.now a.args.types.now a.args.table.now
+works c =
+    workable c.requires.known c.set_words-w.ensures _ c.laid_out.ensures (omega arith) (omega arith) c.requires.room c.requires.flags
+
+pub solve_blocks-requires : goal.solve_blocks-requires
+solve_blocks-requires c = record { workable = (_, works c.before) }
+
+pub returns : goal.returns
+returns c =
+    let words = c.set_words-w.ensures in
+    let g = rw (c.laid_out.ensures, words) at (works c.before.before.before.before) in
+    let x = rw (c.laid_out.ensures, words) at c.solve_blocks.ensures in 
+    record { found = λ e constants. x.found e _ constants g; none = λ e constants. x.none e _ constants g; code = x.code }

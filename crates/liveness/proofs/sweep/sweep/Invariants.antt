@@ -1,0 +1,25 @@
+use mathlib.Core.Path.{◌≡◌, refl, sym, ◌∙◌}
+use mathlib.Core.List.{List}
+use Prim.Native.Nat.{ℕ, suc, ◌+◌, ◌-◌, ◌≤◌, ◌<◌}
+use native.Mathlib.Omega.{arith}
+use lib.ListN.{length, get_or}
+use Rattle.words.specs.laws.Regions.{mid_long}
+use Rattle.unit.specs.laws.Region.{keep_at}
+use Rattle.effects.specs.Shape.{tables_of}
+use Rattle.effects.specs.laws.Cells.{cells_by, cells_long}
+use Rattle.liveness.specs.Live.{Row}
+use Rattle.liveness.specs.laws.SetMemory.{code_words, row_of, live_of, leaders_of, blocks_of, flags_of, row_inside, code_word, same_word, same_code_lem, same_live, same_leaders, same_blocks, still_coded}
+use Rattle.words.specs.laws.Only.{At, Only, only_none, only_both, lent, lent_long, put_only}
+use Rattle.liveness.specs.laws.Sweep.{Grounds, SweepFrom, sections, sweep_begin, sweep_end, code_turn}
+use borrow.Author.Rules.{rules}
+use Rattle.liveness.proofs.sweep.sweep.Given as goal
+
+abbrev pub invariant-loop-p : goal.invariant-loop-p
+invariant-loop-p l =
+    (l.p ≤ l.sets.code) × (length l.memory ≡ length l.initial.memory) × (length l.table ≡ length l.initial.table) × Only (At l.sets.row l.sets.width) l.initial.memory l.memory × Only (At (keep_at l.sets.code) l.sets.code) l.initial.table l.table
+    × ((locals : ℕ) (constants : List ℕ) (rows : List Row)
+    → Grounds (sections locals l.types constants (tables_of l.functions l.externs l.cases)) (leaders_of l.sets.code l.initial.table) (flags_of l.sets.code l.initial.table) (cells_by (code_words l.sets l.initial.memory) l.metadata) rows l.sets.width (blocks_of l.sets.code l.initial.table) (live_of l.sets l.initial.memory)
+    → SweepFrom (sections locals l.types constants (tables_of l.functions l.externs l.cases)) (leaders_of l.sets.code l.initial.table) (flags_of l.sets.code l.initial.table) (cells_by (code_words l.sets l.initial.memory) l.metadata) rows (flags_of l.sets.code l.table) (row_of l.sets l.memory) l.p)
+
+abbrev pub decreases-loop-p : goal.decreases-loop-p
+decreases-loop-p l = l.p
