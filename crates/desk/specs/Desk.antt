@@ -1,6 +1,6 @@
 -- Definitions. Document 02, L6: the desk run, over the cells of a function. A frame is a list of words, so that it computes.
 -- Assumes nothing.
-use Rattle.std.specs.Prelude.{ℕ, zero, suc, Bool, cond, not, List, [], ◌++◌, length, ◌==◌, nat_lt, slice_index, slice_set}
+use Rattle.std.specs.Prelude.{ℕ, zero, suc, cond, not, List, [], ◌++◌, length, ◌==◌, nat_lt, slice_index, slice_set}
 use borrow.Rule.Slice.PartMut.{mid_of, put_mid}
 use Rattle.words.specs.Lists.{is_in}
 use Rattle.instruction.specs.declared.Instruction.{Instruction}

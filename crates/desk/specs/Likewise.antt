@@ -26,7 +26,7 @@ use Rattle.answer.specs.Answer.{Lent, cells_of, sections_of, room_for, answer_wi
 use Rattle.answer.specs.Clean.{cells_after, cleaned_first, spare_for, clean_answer}
 use Rattle.answer.specs.Pass.{Outcome, unchanged, refused, rewritten}
 use Rattle.run.specs.System.{System, after}
-use Rattle.run.specs.Machine.{Words, Event, Way, by_return, by_panic, by_reply, by_code, World, Program, State, at, over, step, step_stays, way_of, log_of}
+use Rattle.run.specs.Machine.{Words, Event, Way, by_return, by_panic, by_reply, by_code, World, Program, State, at, step, step_stays, way_of, log_of}
 use Rattle.run.specs.Program.{Function, program_of}
 use Rattle.run.specs.Given.{cells_long, answer_optimized, worked_well, answer_returnable, clean_kept}
 use Rattle.run.specs.Returned.{given_function, result_function}

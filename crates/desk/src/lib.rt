@@ -1,5 +1,7 @@
 // Running a function at the desk (document 02, L6): the run of document 01, of integer instructions, over a lent frame
 // and up to a limit; and what such a run costs (L12).
+#![tactic(auto)]
+
 ghost use Rattle.std.specs.Prelude.{◌≡◌, ◌≤◌};
 ghost use Rattle.desk.specs.Answer.{desk_answer, step_answer};
 ghost use Rattle.desk.specs.Charge.{charge_answer, charge_cents, most_cents};
