@@ -6,7 +6,8 @@ use Rattle.desk.proofs.run.Goals as goal
 
 pub advance-reached-requires : goal.advance-reached-requires
 advance-reached-requires c =
-    let r = passed_run c.args.unit.now _ (sym c.check.ensures.answer ∙ c.in-Passed.is) in record { laid = r.laid; runnable = r.runnable; frame = r.frame }
+    let r = passed_run c.args.unit.now _ (sym c.check.ensures.answer ∙ c.in-Passed.is) in
+    record { laid = r.laid; runnable = r.runnable; frame = r.frame }
 
 pub stop_at-requires : goal.stop_at-requires
 stop_at-requires c = record { laid = (passed_run c.args.unit.now _ (sym c.check.ensures.answer ∙ c.in-Passed.is)).laid }

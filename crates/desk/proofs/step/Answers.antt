@@ -6,7 +6,8 @@ use Rattle.desk.proofs.step.Goals as goal
 
 pub advance-reached-requires : goal.advance-reached-requires
 advance-reached-requires c =
-    let r = passed_run c.args.unit.now _ (sym c.check.ensures.answer ∙ c.in-Passed.is) in record { laid = r.laid; runnable = r.runnable; frame = r.frame }
+    let r = passed_run c.args.unit.now _ (sym c.check.ensures.answer ∙ c.in-Passed.is) in
+    record { laid = r.laid; runnable = r.runnable; frame = r.frame }
 
 pub overflow_cast-result : goal.overflow_cast-result
 overflow_cast-result c =

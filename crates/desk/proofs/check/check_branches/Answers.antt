@@ -12,35 +12,25 @@ use Rattle.desk.proofs.check.check_branches.Reads
 abbrev After-branch_refusal-number : Type 0
 After-branch_refusal-number = Lts.After-branch_refusal tie.the-claims Reads.Pre Reads.Post goal.the-invariant-loop-p goal.the-decreases-loop-p tie.handed_clauses
 
-abbrev At-loop-p : Type 0
-At-loop-p = Lts.At-loop tie.the-claims Reads.Pre Reads.Post goal.the-invariant-loop-p goal.the-decreases-loop-p tie.handed_clauses
-
 abbrev In-loop-p : Type 0
 In-loop-p = Lts.In-loop tie.the-claims Reads.Pre Reads.Post goal.the-invariant-loop-p goal.the-decreases-loop-p tie.handed_clauses
 
-abbrev Start : Type 0
-Start = Lts.Start tie.the-claims Reads.Pre Reads.Post goal.the-invariant-loop-p goal.the-decreases-loop-p tie.handed_clauses
-
-abbrev start : At-loop-p → Start
-start h = h.before.before.before
-
 -- the places of the loop are those of the cells
-inside : (c : In-loop-p) → c.loop-p.p < length (cells_of (start c.before).args.unit.now)
-inside c = omega (arith, c.loop-p-test.true, places (start c.before).args.unit.now (start c.before).requires.laid c.code-code.ensures)
+inside : (c : In-loop-p) → c.loop-p.p < length (cells_of c.args.unit.now)
+inside c = omega (arith, c.loop-p-test.true, places c.args.unit.now c.requires.laid c.code-code.ensures)
 
 few : (c : In-loop-p) → c.loop-p.p < 2 ^ 32
 few c =
-    omega (arith, inside c, places_few (start c.before).args.unit.now (λ i. omega (arith, c.shared_slice_known-1.given i)))
+    omega (arith, inside c, places_few c.args.unit.now (λ i. omega (arith, c.shared_slice_known-1.given i)))
 
 -- what a turn's call answers
 tested : (c : After-branch_refusal-number)
-    → let h = c.before.before.before in
-    let cells = cells_of (start h).args.unit.now in
-    c.branch_refusal-number.result ≡ branch_test (suc (length cells)) h.loop-p.p (cell_at cells h.loop-p.p)
+    → let cells = cells_of c.args.unit.now in
+    c.branch_refusal-number.result ≡ branch_test (suc (length cells)) c.loop-p.p (cell_at cells c.loop-p.p)
 tested c =
-    let u = (start c.before.before.before).args.unit.now in
+    let u = c.args.unit.now in
     let code = c.code-code.ensures in
-    branch_tested c.loop-p.p c.branch_refusal-number.ensures.refusal (places u (start c.before.before.before).requires.laid code) (c.read.ensures ∙ read_cell u c.loop-p.p code (inside c.before.before))
+    branch_tested c.loop-p.p c.branch_refusal-number.ensures.refusal (places u c.requires.laid code) (c.read.ensures ∙ read_cell u c.loop-p.p code (inside c.before.before))
 
 pub returns-then-number-ne0 : goal.returns-then-number-ne0
 unfolding branch_check_in
@@ -54,7 +44,7 @@ loop-p-preserved c =
 pub returns : goal.returns
 unfolding branch_check_in
 returns c =
-    record { answer = clear_none c.loop-p.invariant (omega (arith, c.loop-p-test.false, places (start c.before.before).args.unit.now (start c.before.before).requires.laid c.code-code.ensures)) }
+    record { answer = clear_none c.loop-p.invariant (omega (arith, c.loop-p-test.false, places c.args.unit.now c.requires.laid c.code-code.ensures)) }
 
 pub loop-p-init : goal.loop-p-init
 loop-p-init c = clear_first

@@ -12,54 +12,38 @@ use Rattle.desk.proofs.check.check_operands.Reads
 abbrev After-operand_refusal-number : Type 0
 After-operand_refusal-number = Lts.After-operand_refusal tie.the-claims Reads.Pre Reads.Post goal.the-invariant-loop-p goal.the-decreases-loop-p tie.handed_clauses
 
-abbrev After-types-locals : Type 0
-After-types-locals = Lts.After-types tie.the-claims Reads.Pre Reads.Post goal.the-invariant-loop-p goal.the-decreases-loop-p tie.handed_clauses
-
 abbrev At-loop-p : Type 0
 At-loop-p = Lts.At-loop tie.the-claims Reads.Pre Reads.Post goal.the-invariant-loop-p goal.the-decreases-loop-p tie.handed_clauses
 
 abbrev In-loop-p : Type 0
 In-loop-p = Lts.In-loop tie.the-claims Reads.Pre Reads.Post goal.the-invariant-loop-p goal.the-decreases-loop-p tie.handed_clauses
 
-abbrev Start : Type 0
-Start = Lts.Start tie.the-claims Reads.Pre Reads.Post goal.the-invariant-loop-p goal.the-decreases-loop-p tie.handed_clauses
-
--- the stations that the lists are found at
-abbrev typed : At-loop-p → After-types-locals
-typed h = h.before.before.before.before
-
-abbrev start : At-loop-p → Start
-start h = (typed h).before.before.before.before
-
 -- the lists are those of the unit
 found : (h : At-loop-p)
-    → Found (start h).args.unit.now (typed h).code-code.result.now (typed h).metadata-metadata.result.now (typed h).types-locals.result.now h.functions-functions.result.now h.externs-externs.result.now h.cases-cases.result.now
+    → Found h.args.unit.now h.code-code.result.now h.metadata-metadata.result.now h.types-locals.result.now h.functions-functions.result.now h.externs-externs.result.now h.cases-cases.result.now
 found h =
-    let t = typed h in
     record {
-      laid = (start h).requires.laid;
-      counted = (start h).requires.counted;
-      bytes = λ i. omega (arith, t.shared_slice_known-1.given i);
-      code_found = t.code-code.ensures;
-      metadata_found = t.metadata-metadata.ensures;
-      types_found = t.types-locals.ensures;
+      laid = h.requires.laid;
+      counted = h.requires.counted;
+      bytes = λ i. omega (arith, h.shared_slice_known-1.given i);
+      code_found = h.code-code.ensures;
+      metadata_found = h.metadata-metadata.ensures;
+      types_found = h.types-locals.ensures;
       functions_found = h.functions-functions.ensures;
       externs_found = h.externs-externs.ensures;
       cases_found = h.cases-cases.ensures;
     }
 
 -- the places of the loop are those of the cells
-inside : (c : In-loop-p) → c.loop-p.p < length (cells_of (start c.before).args.unit.now)
-inside c = let f = found c.before in omega (arith, c.loop-p-test.true, places (start c.before).args.unit.now f.laid f.code_found)
+inside : (c : In-loop-p) → c.loop-p.p < length (cells_of c.args.unit.now)
+inside c = let f = found c.before in omega (arith, c.loop-p-test.true, places c.args.unit.now f.laid f.code_found)
 
 few : (c : In-loop-p) → c.loop-p.p < 2 ^ 32
-few c = let f = found c.before in omega (arith, inside c, places_few (start c.before).args.unit.now f.bytes)
+few c = let f = found c.before in omega (arith, inside c, places_few c.args.unit.now f.bytes)
 
 -- what a turn's call answers
 tested : (c : After-operand_refusal-number)
-    → let h = c.before.before.before.before in
-    let u = (start h).args.unit.now in
-    c.operand_refusal-number.result ≡ operand_test u h.loop-p.p (cell_at (cells_of u) h.loop-p.p)
+    → c.operand_refusal-number.result ≡ operand_test c.args.unit.now c.loop-p.p (cell_at (cells_of c.args.unit.now) c.loop-p.p)
 tested c =
     operand_tested (found c.before.before.before.before) (inside c.before.before.before) c.operand_refusal-number.ensures c.word-w.ensures c.read.ensures
 
@@ -75,7 +59,8 @@ loop-p-preserved c =
 pub returns : goal.returns
 unfolding operand_check
 returns c =
-    let f = found c.before.before in record { answer = clear_none c.loop-p.invariant (omega (arith, c.loop-p-test.false, places (start c.before.before).args.unit.now f.laid f.code_found)) }
+    let f = found c.before.before in
+    record { answer = clear_none c.loop-p.invariant (omega (arith, c.loop-p-test.false, places c.args.unit.now f.laid f.code_found)) }
 
 pub loop-p-init : goal.loop-p-init
 loop-p-init c = clear_first

@@ -14,11 +14,10 @@ abbrev Else-p-code : Type 0
 Else-p-code = Lts.Else1 tie.the-claims Reads.Pre Reads.Post tie.handed_clauses
 
 -- not behind the last instruction
-inside : (c : Else-p-code) → let s = c.before.before.before in s.args.p < length (cells_of s.args.unit.now)
+inside : (c : Else-p-code) → c.args.p < length (cells_of c.args.unit.now)
 inside c = omega (arith, c.if-p-code.false, places c.args.unit.now c.requires.laid c.code-code.ensures)
 
-at : (c : After-is_executed) → let e = c.before.before in let s = e.before.before.before in
-    At s.args.unit.now e.code-code.result.now c.constants.result.now s.args.p
+at : (c : After-is_executed) → At c.args.unit.now c.code-code.result.now c.constants.result.now c.args.p
 at c =
     record { laid = c.requires.laid; code_found = c.code-code.ensures; constants_found = c.constants.ensures; inside = inside c.before.before }
 
