@@ -1,6 +1,6 @@
 -- A set of numbers as the bits of a list of words, 64 to a word.
 -- Assumes nothing.
-use Rattle.std.specs.Prelude.{◌≡◌, ℕ, suc, ◌+◌, ◌-◌, ◌*◌, ◌/◌, ◌%◌, ◌^◌, ◌<◌, ◌≤◌, min, max, Bool, true, false, cond, ◌⊎◌, List, length, set, ◌==◌, ◌≢◌, nat_eq, nat_le, slice_index, slice_set, refl}
+use Rattle.std.specs.Prelude.{◌≡◌, ℕ, suc, ◌+◌, ◌-◌, ◌*◌, ◌/◌, ◌%◌, ◌^◌, ◌<◌, ◌≤◌, min, max, Bool, true, false, cond, ◌⊎◌, List, length, ◌==◌, ◌≢◌, nat_eq, nat_le, slice_index, slice_set, refl}
 use Rattle.std.proofs.Common.{◌∙◌, ap, ⊎_elim, inl, inr, one-mul, add-mul, pow-suc, mod-lt, div-add-mod', div-lt_iff_lt-mul, arith, lit<, get_or-set_same, get_or-set_other, shl_exact, pow_pos, pow-add, eqb-true, leb-true, leb-false}
 use Rattle.std.proofs.Math.Nat.{div_self, div-eq_of_lt}
 use Rattle.std.proofs.Math.Arith.{digits_div}

@@ -1,4 +1,4 @@
-use Rattle.std.proofs.Common.{refl, rules}
+use Rattle.std.proofs.Common.{refl}
 use Rattle.words.specs.laws.Bits.{member}
 use Rattle.words.proofs.bits.contains.Goals as goal
 

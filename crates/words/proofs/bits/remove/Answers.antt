@@ -1,4 +1,4 @@
-use Rattle.std.proofs.Common.{◌%◌, arith, rules}
+use Rattle.std.proofs.Common.{◌%◌, arith}
 use Rattle.words.specs.laws.Bits.{removed, one_shl}
 use Rattle.words.proofs.bits.remove.Goals as goal
 

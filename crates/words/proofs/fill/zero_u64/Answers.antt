@@ -1,5 +1,4 @@
-use Rattle.std.proofs.Common.{◌-◌, length, rules}
-use Rattle.words.proofs.Filling.{Filled, none_filled, more_filled, all_filled}
+use Rattle.words.proofs.Filling.{none_filled, more_filled, all_filled}
 use Rattle.words.proofs.fill.zero_u64.Goals as goal
 
 pub loop-i-init : goal.loop-i-init

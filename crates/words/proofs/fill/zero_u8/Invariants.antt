@@ -1,5 +1,5 @@
-use Rattle.std.proofs.Common.{◌-◌, length, rules}
-use Rattle.words.proofs.Filling.{Filled, none_filled, more_filled, all_filled}
+use Rattle.std.proofs.Common.{◌-◌, length}
+use Rattle.words.proofs.Filling.{Filled}
 use Rattle.words.proofs.fill.zero_u8.Given as goal
 
 abbrev pub invariant-loop-i : goal.invariant-loop-i

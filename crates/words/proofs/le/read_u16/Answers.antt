@@ -1,4 +1,4 @@
-use Rattle.std.proofs.Common.{arith, rules}
+use Rattle.std.proofs.Common.{arith}
 use Rattle.words.specs.laws.Le.{u16_bytes}
 use Rattle.words.proofs.le.read_u16.Goals as goal
 

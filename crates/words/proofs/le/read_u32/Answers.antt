@@ -1,4 +1,4 @@
-use Rattle.std.proofs.Common.{arith, rules}
+use Rattle.std.proofs.Common.{arith}
 use Rattle.words.specs.laws.Le.{u32_halves}
 use Rattle.words.proofs.le.read_u32.Goals as goal
 

@@ -1,4 +1,4 @@
-use Rattle.std.proofs.Common.{arith, rules}
+use Rattle.std.proofs.Common.{arith}
 use Rattle.words.specs.laws.Le.{u64_halves}
 use Rattle.words.proofs.le.read_u64.Goals as goal
 

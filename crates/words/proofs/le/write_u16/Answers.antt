@@ -1,5 +1,5 @@
 use Rattle.words.specs.laws.Le.{put_two}
-use Rattle.std.proofs.Common.{arith, length-set, rules}
+use Rattle.std.proofs.Common.{arith, length-set}
 use Rattle.words.proofs.le.write_u16.Goals as goal
 
 pub bounds-d-at-2 : goal.bounds-d-at-2

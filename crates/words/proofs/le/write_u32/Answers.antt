@@ -1,4 +1,4 @@
-use Rattle.std.proofs.Common.{arith, rules}
+use Rattle.std.proofs.Common.{arith}
 use Rattle.words.specs.laws.Le.{put_parts}
 use Rattle.words.proofs.le.write_u32.Goals as goal
 

@@ -1,4 +1,4 @@
-use Rattle.std.proofs.Common.{sym, arith, rules}
+use Rattle.std.proofs.Common.{sym, arith}
 use Rattle.words.specs.laws.Word.{sign_plus, sign_minus}
 use Rattle.words.proofs.word.sign_extend_8.Goals as goal
 

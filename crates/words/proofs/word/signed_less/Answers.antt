@@ -1,4 +1,3 @@
-use Rattle.std.proofs.Common.{rules}
 use Rattle.words.proofs.word.signed_less.Goals as goal
 
 pub returns : goal.returns

@@ -1,4 +1,4 @@
-use Rattle.std.proofs.Common.{◌∙◌, arith, rules}
+use Rattle.std.proofs.Common.{◌∙◌, arith}
 use Rattle.words.specs.laws.Word.{halves, mul_wraps}
 use Rattle.words.proofs.word.wrapping_mul.Goals as goal
 

@@ -1,0 +1,7 @@
+use Rattle.again.specs.LaidOut.{has_offsets}
+use borrow.Author.Rules.{rules}
+use Rattle.again.proofs.has_offsets.Goals as goal
+
+pub returns : goal.returns
+unfolding has_offsets
+returns c = record { answer = cc }

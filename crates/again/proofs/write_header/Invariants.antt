@@ -1,0 +1,14 @@
+use Prim.Native.Nat.{◌-◌, ◌≤◌}
+use native.Mathlib.Omega.{arith}
+use lib.ListN.{take}
+use Rattle.words.specs.Le.{to_le}
+use Rattle.again.specs.Again.{header_words, bytes_of}
+use Rattle.again.proofs.Writing.{Begins, begins_long, header_begun, header_turn, header_end}
+use borrow.Author.Rules.{rules}
+use Rattle.again.proofs.write_header.Given as goal
+
+abbrev pub invariant-loop-q : goal.invariant-loop-q
+invariant-loop-q l = (l.q ≤ 18) × Begins l.initial.out l.out (bytes_of (to_le 4) (take l.q (header_words l.h)))
+
+abbrev pub decreases-loop-q : goal.decreases-loop-q
+decreases-loop-q l = 18 - l.q

@@ -1,0 +1,17 @@
+use mathlib.Core.Path.{◌≡◌, refl, sym, ◌∙◌}
+use mathlib.Core.List.{List}
+use Prim.Native.Nat.{ℕ, ◌-◌, ◌≤◌, ◌<◌}
+use native.Mathlib.Numerals.{add-one}
+use native.Mathlib.Omega.{arith}
+use lib.ListN.{get_or}
+use borrow.Author.Tests.{eq-eqb, ne_eqb}
+use Rattle.removal.specs.laws.Next.{kept_from, from_kept, from_dropped}
+use borrow.Author.Rules.{rules}
+use Rattle.removal.proofs.jump.lowest_kept.Given as goal
+
+-- none is kept below p
+abbrev pub invariant-loop-p : goal.invariant-loop-p
+invariant-loop-p l = (l.from ≤ l.p) × (l.p ≤ l.to) × ((keep : List ℕ) → ((q : ℕ) → q < l.to → get_or l.work q 0 ≡ get_or keep q 0) → kept_from keep l.from ≡ kept_from keep l.p)
+
+abbrev pub decreases-loop-p : goal.decreases-loop-p
+decreases-loop-p l = l.to - l.p
