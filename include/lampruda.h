@@ -1,7 +1,7 @@
 /*
  * Lampruda: a proved optimizer for functions of bytecode, for hosts in C and C++.
  *
- * The functions stand in the static library that `rt staticlib host` writes to target/staticlib/libhost.a and
+ * The functions stand in the static library that `rt lib` writes to crates/host/out/libhost.a, in crates/host, and
  * `tools/install` installs as liblampruda.a. They keep no state, allocate nothing and touch no memory but what they
  * are lent, so any number of threads may call them at once, each with buffers of its own. They return for every
  * content and every length.

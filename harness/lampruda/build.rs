@@ -3,7 +3,7 @@
 use std::path::PathBuf;
 use std::{env, process};
 
-/// Names the folder that has the archive, where it is another than target/staticlib.
+/// Names the folder that has the archive, where it is another than crates/host/out.
 const VARIABLE: &str = "LAMPRUDA_LIB";
 
 fn main() {
@@ -11,12 +11,12 @@ fn main() {
     println!("cargo:rerun-if-env-changed={VARIABLE}");
     let folder = match env::var_os(VARIABLE) {
         Some(folder) => PathBuf::from(folder),
-        None => manifest.join("../../target/staticlib"),
+        None => manifest.join("../../crates/host/out"),
     };
     let archive = folder.join("libhost.a");
     println!("cargo:rerun-if-changed={}", archive.display());
     if !archive.is_file() {
-        eprintln!("{} is missing: run `rt staticlib host` at the repository's root,", archive.display());
+        eprintln!("{} is missing: run `rt lib` in crates/host,", archive.display());
         eprintln!("or set {VARIABLE} to the folder that has libhost.a");
         process::exit(1);
     }

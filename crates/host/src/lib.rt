@@ -1,5 +1,7 @@
 // The entries for a host program in C or Rust: include/lampruda.h declares them. They hold no state: threads may call them at once,
 // each with buffers of its own.
+#![tactic(auto)]
+
 ghost use Rattle.std.specs.Prelude.{◌≡◌, ◌≤◌, length};
 ghost use Rattle.short.specs.Short.{made_of, buffer_after};
 ghost use Rattle.run.specs.Contract.{PassContract, CleanContract, buffers, spares};

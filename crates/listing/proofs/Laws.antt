@@ -1,18 +1,11 @@
--- Laws of the text: how long it is, and that the library's digits are those that are defined.
+-- Laws of the text: the lines of a result, the answers, and what is written of what is read.
 -- Assumes nothing.
-use mathlib.Core.Path.{◌≡◌, ap, ◌∙◌}
-use mathlib.Core.Bool.{Bool, true, false, cond}
-use mathlib.Core.List.{List, [], ◌∷◌, ◌++◌}
-use Prim.Native.Nat.{ℕ, zero, suc, ◌+◌, ◌*◌, ◌-◌, ◌/◌, ◌%◌, ◌^◌, ◌≤◌, ◌<◌}
-use native.Mathlib.Nat.{pow-suc, one-le-pow}
-use native.Mathlib.Omega.{arith}
-use lib.Dec.{ltb, lit<}
-use lib.ListN.{length, take, drop, set, replicate, length-append, length-drop}
+use Rattle.std.proofs.Common.{◌≡◌, ap, sym, subst, refl, ◌∙◌, ◌⊎◌, inl, inr, None, Some, IfSome, OnOk, Option, Result, Ok, Err, cond, List, [], ◌++◌, ℕ, ◌+◌, ◌*◌, ◌-◌, ◌≤◌, ◌<◌, ltb, length, take, drop, set, replicate, zero, suc, ◌/◌, ◌%◌, arith, length-append, length-drop, length-take-le, le-leb, lt-ltb, le-ltb, append-nil}
+use Rattle.std.proofs.lemmas.Bool.{lt-leb}
+use Rattle.std.proofs.Math.Nat.{eq-or-lt_of_le}
+use Rattle.std.specs.Io.KnownBytes.{Appends, Consumes, IsAtEnd}
 use lib.Seq.{take_all}
 use borrow.Rule.Slice.PartMut.{mid_of, post_of}
-use borrow.Author.Tests.{lt-ltb, le-ltb, le-leb, lt-leb}
-use Rattle.io.specs.Counts.{IsPrefixLen}
-use Rattle.io.specs.Digits.{last_digits, IsDigitCount}
 use Rattle.words.specs.Le.{u32_at}
 use Rattle.instruction.specs.declared.Instruction.{Instruction}
 use Rattle.instruction.specs.Instruction.{instruction_at}
@@ -25,56 +18,31 @@ use Rattle.answer.specs.Answer.{Lent, lent_of, pass_answer, pass_lines}
 use Rattle.optimize.specs.declared.Answer.{Answer}
 use Rattle.optimize.specs.declared.Answer.TheVariants.{Refused}
 use Rattle.optimize.specs.PassAnswer.{answer_of}
-use Rattle.listing.specs.laws.Puts.{Puts, Fits, puts_one, puts_long, puts_then, puts_text}
+use Rattle.listing.specs.laws.Puts.{Puts, Fits, puts_none, puts_one, puts_long, puts_then, puts_text}
 use Rattle.listing.specs.Text.{decimal, ended, fields, line, text_of, listing_with, listing}
 
-cond_long : (t : Bool) (k : ℕ) (xs : List ℕ) → length xs ≤ k → length (cond t [] xs) ≤ k
-cond_long true k xs h = omega arith
-cond_long false k xs h = h
+one_at_least : (k : ℕ) → (k ≡ 0 → ⊥) → 1 ≤ k
+one_at_least zero n = absurd (n refl)
+one_at_least (suc k) n = omega arith
 
-pub decimal_long : (k v : ℕ) → length (decimal k v) ≤ k
+-- the last digit after those before it
+last_digit : (k v : ℕ) {at to : ℕ} {text mid : List ℕ} → (k ≡ 0 → ⊥) → Puts at (cond (ltb v 10) [] (decimal (k - 1) (v / 10))) text mid to → to + 1 ≤ length mid
+    → Puts at (decimal k v) text (set mid to (48 + v % 10)) (to + 1)
 unfolding decimal
-decimal_long zero v = omega arith
-decimal_long (suc k) v = simp length-append (omega (arith, cond_long (ltb v 10) k (decimal k (v / 10)) (decimal_long k (v / 10))))
+last_digit zero v n p h = absurd (n refl)
+last_digit (suc k) v n p h =
+    let before : suc k - 1 ≡ k = omega arith in
+    puts_then (rw before at p) (puts_one _ _ _ h)
 
-two_digits : (j n : ℕ) → IsDigitCount 10 1 n (suc (suc j)) → 10 ^ j * 10 ≤ n
-two_digits j n f =
-    let exact : suc (suc j) - 1 ≡ suc j = omega arith in
-    rw (exact, pow-suc) at (f.2 (omega arith))
+pub one_digit : (k v : ℕ) {at to : ℕ} {text mid : List ℕ} → (k ≡ 0 → ⊥) → v < 10 → mid ≡ text → to ≡ at → at + k ≤ length text
+    → Puts at (decimal k v) text (set mid to (48 + v % 10)) (to + 1)
+one_digit k v n low e f room =
+    rw (e, f) (last_digit k v n (rw (lt-ltb v 10 low) (puts_none _ _ (omega arith))) (omega (arith, one_at_least k n)))
 
--- the library's digits of a number, as many as it has
-digits_decimal : (k r n : ℕ) → n < 10 ^ suc k → IsDigitCount 10 1 n r → last_digits 10 r n ≡ decimal (suc k) n
-unfolding decimal
-digits_decimal k zero n h f = absurd (omega arith)
-digits_decimal k (suc zero) n h f = rw (lt-ltb n 10 f.1, lt-ltb (n % 10) 10 (omega arith))
-digits_decimal zero (suc (suc j)) n h f = absurd (omega (arith, two_digits j n f, one-le-pow j 10 (lit< tt)))
-digits_decimal (suc k) (suc (suc j)) n h f =
-    let least : 1 ≤ 10 ^ j = one-le-pow j 10 (lit< tt) in
-    let most = two_digits j n f in
-    let below : n < 10 ^ j * 10 * 10 = rw (pow-suc, pow-suc) at f.1 in
-    let fits : n < 10 ^ suc k * 10 = rw (pow-suc 10 (suc k)) at h in
-    let one : suc j - 1 ≡ j = omega arith in
-    let fewest : IsDigitCount 10 1 (n / 10) (suc j) = (omega arith, rw pow-suc (omega arith), λ h. rw one (omega arith)) in
-    rw (le-ltb n 10 (omega arith), lt-ltb (n % 10) 10 (omega arith))
-    (ap (λ (l : List ℕ). l ++ ((48 + n % 10) ∷ [])) (digits_decimal k (suc j) (n / 10) (omega arith) fewest))
-
--- a number of 32 bits by way of the library's digits
-module _ (k : ℕ) {v : ℕ} {ds : List ℕ} (fits : v < 2 ^ 32) (f : IsDigitCount 10 1 v k) (same : ds ≡ last_digits 10 k v) where
-  is_decimal : ds ≡ decimal 10 v
-  is_decimal = same ∙ digits_decimal 9 k v (omega arith) f
-
-  pub digits_long : length ds ≤ 10
-  digits_long = rw is_decimal (decimal_long 10 v)
-
-  -- and the byte after it
-  pub number_puts : (at e to : ℕ) (text text' : List ℕ) → Puts at ds text text' to → at + 11 ≤ length text
-      → Puts at (ended v e) text (set text' to e) (to + 1) × (to + 1 ≤ at + 11)
-  unfolding ended
-  number_puts at e to text text' p room =
-      let most = digits_long in
-      let ends = p.ends in
-      let long = puts_long p in
-      (puts_then (rw is_decimal at p) (puts_one to e text' (omega arith)), omega arith)
+pub more_digits : (k v : ℕ) {at to to' : ℕ} {text mid mid' : List ℕ} → (k ≡ 0 → ⊥) → 10 ≤ v → mid' ≡ mid → to' ≡ to → Puts at (decimal (k - 1) (v / 10)) text mid to → to ≤ at + (k - 1)
+    → at + k ≤ length text → Puts at (decimal k v) text (set mid' to' (48 + v % 10)) (to' + 1)
+more_digits k v n high e f p most room =
+    rw (e, f) (last_digit k v n (rw (le-ltb v 10 high) p) (omega (arith, one_at_least k n, puts_long p)))
 
 -- the line of what was read at a place
 pub line_puts : (result : List ℕ) (n p : ℕ) {at end old places : ℕ} {text text' : List ℕ} {i : Instruction} → old ≡ u32_at result (places + 4 * p) → places ≡ result_places_at n
@@ -102,11 +70,38 @@ pub listing_worked : (u : List ℕ) → length u ≤ 2048 → listing_with u (re
 unfolding listing
 listing_worked u h = rw (le-leb (length u) 2048 h)
 
-pub listed : {end : ℕ} {xs text text' : List ℕ} (u : List ℕ) → xs ≡ listing u → Puts 0 xs text text' end → IsPrefixLen end text' × (take end text' ≡ listing u)
-listed u e p = rw e at (puts_text p)
+pub listed : {end : ℕ} {xs text text' : List ℕ} (u : List ℕ) → xs ≡ listing u → Puts 0 xs text text' end → take end text' ≡ listing u
+listed u e p = (puts_text p).2 ∙ e
 
 -- the text of what a pass tells
 pub outcome_puts : (u out out' : List ℕ) (l : Lent) {r : Answer} {text text' : List ℕ} {end : ℕ} → r ≡ answer_of (pass_answer u l) → out' ≡ output_after (pass_answer u l) (pass_lines u l) out
     → Puts 0 (text_of r out') text text' end → Puts 0 (listing_with u out l) text text' end
 unfolding listing_with
 outcome_puts u out out' l e w p = rw (e, w) at p
+
+-- what is read decides the listing: it is all of the unit, or more bytes than a unit may have
+same_listing : (front rest : List ℕ) → (rest ≡ []) ⊎ (2048 < length front) → listing front ≡ listing (front ++ rest)
+same_listing front rest (inl e) = ap listing (sym (ap (λ l. front ++ l) e ∙ append-nil front))
+same_listing front rest (inr h) = sym (listing_long front [] h) ∙ listing_long (front ++ rest) [] (simp length-append (omega arith))
+
+-- what was read of an input of so many bytes, a buffer of 2,049 bytes before it
+whole_or_long : (n : ℕ) (buffer rest : List ℕ) → n ≤ length buffer → length buffer ≡ 2049 → (n < 2049 → rest ≡ []) → (rest ≡ []) ⊎ (2048 < length (take n buffer))
+whole_or_long n buffer rest within room end =
+    go (eq-or-lt_of_le within)
+  where
+    go : (n ≡ length buffer) ⊎ (n < length buffer) → (rest ≡ []) ⊎ (2048 < length (take n buffer))
+    go (inl e) = inr (rw (length-take-le n buffer within) (omega arith))
+    go (inr h) = inl (end (omega arith))
+
+-- the listing of what a reader has left is written
+pub listed_all : (r r' w w' : Option (List ℕ)) (n : ℕ) (buffer written : List ℕ) → n ≤ length buffer → length buffer ≡ 2049 → Consumes r r' (take n buffer) → (n < 2049 → IsAtEnd r')
+    → written ≡ listing (take n buffer) → Appends w w' written → IfSome r (λ unit. Appends w w' (listing unit))
+listed_all None r' w w' n buffer written within room read end e wrote = tt
+listed_all (Some xs) None w w' n buffer written within room read end e wrote = absurd read
+listed_all (Some xs) (Some ys) w w' n buffer written within room read end e wrote =
+    let same = same_listing (take n buffer) ys (whole_or_long n buffer ys within room end) in
+    subst (Appends w w') (e ∙ same ∙ ap listing (sym read)) wrote
+
+pub on_ok : {A E P Q : Type 0} (r : Result A E) → (P → Q) → OnOk r P → OnOk r Q
+on_ok (Ok x) f p = f p
+on_ok (Err e) f p = tt

@@ -1,12 +1,15 @@
 // Reads a unit from standard input, runs one pass on it and prints the answer and the instructions.
-ghost use Rattle.std.specs.Prelude.{◌≡◌, ◌≤◌, length, take};
-ghost use Rattle.io.specs.Counts.{IsPrefixLen};
+#![tactic(auto)]
+
+ghost use Rattle.std.specs.Prelude.{◌≡◌, ◌≤◌, IfSome, OnOk, length, take};
+ghost use Rattle.std.specs.Io.KnownBytes.{Appends};
 ghost use Rattle.answer.specs.Answer.{lent_of};
 ghost use Rattle.listing.specs.Text.{listing, listing_with};
 ghost use Rattle.listing.specs.laws.Puts.{Puts};
 
-use libc::{STDIN_FILENO, STDOUT_FILENO};
 use optimize::{Answer, pass};
+use std::io;
+use std::io::{Read, Write};
 use unit::refusal;
 
 mod text;
@@ -19,7 +22,8 @@ fn list_pass(
     work32: &mut [u32],
     work64: &mut [u64],
 ) -> usize
-    requires { (length out.old ≤ 8192) × (65536 ≤ length text.old) }
+    requires out { length out.old ≤ 8192 }
+    requires room { 65536 ≤ length text.old }
     ensures { Puts 0 (listing_with unit.now out.old (lent_of (length out.old) (length work32.old) (length work64.old))) text.old text.new result }
 {
     let answer = pass::pass(unit, out, work32, work64);
@@ -28,7 +32,9 @@ fn list_pass(
 
 // What is printed of a unit.
 fn list(unit: &[u8], text: &mut [u8; 65536]) -> usize
-    ensures { IsPrefixLen result text.new × (take result text.new ≡ listing unit.now) }
+    ensures inside { result ≤ length text.new }
+    ensures long { result ≡ length (take result text.new) }
+    ensures text { take result text.new ≡ listing unit.now }
 {
     let mut out = [0u8; 8192];
     if unit.len() > 2048 {
@@ -39,11 +45,18 @@ fn list(unit: &[u8], text: &mut [u8; 65536]) -> usize
     list_pass(unit, text, &mut out, &mut work32, &mut work64)
 }
 
-fn main() {
+// What is written of a unit that is read, whose length no one tells.
+fn list_all<R: Read, W: Write>(input: &mut R, output: &mut W) -> io::Result<()>
+    ensures { OnOk result (IfSome (R.remaining input.old) (λ unit. Appends (W.contents output.old) (W.contents output.new) (listing unit))) }
+{
     // one byte more than a unit may have
     let mut unit = [0u8; 2049];
-    let n = io::read_full(STDIN_FILENO, &mut unit);
-    let mut text = io::large_buffer();
+    let n = input::read_full(input, &mut unit)?;
+    let mut text = [0u8; 65536];
     let end = list(&unit[..n], &mut text);
-    io::write_all(STDOUT_FILENO, &text[..end]);
+    output.write_all(&text[..end])
+}
+
+fn main(rt: HostRuntime) -> io::Result<()> {
+    list_all(&mut rt.stdin(), &mut rt.stdout())
 }

@@ -1,6 +1,6 @@
 -- The steps by which the text is read.
 use Rattle.std.proofs.Common.{◌≡◌, ℕ, suc, ◌+◌, ◌-◌, ◌*◌, ◌%◌, ◌<◌, ◌≤◌, List, [], ◌∷◌, length, get_or, drop, refl, add-one, arith, length-drop, drop-cons, le-ltb, lt-ltb, ne_eqb, le-leb}
-use borrow.Author.Tests.{lt-leb}
+use Rattle.std.proofs.lemmas.Bool.{lt-leb}
 use Rattle.replay.specs.Recorded.{space, further, byte_at, word_length, skipped, kind_at, number_from}
 
 -- ---- a byte

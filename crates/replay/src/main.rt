@@ -1,16 +1,18 @@
 // Replays the recorded answers of the reference (data/answers.txt, whose head says how a line reads): each unit must get the recorded
 // answer and output, the rest of the output must stay as it was and the work buffers must end as zeros.
-ghost use Rattle.std.specs.Prelude.{◌^◌, ◌<◌};
+#![tactic(auto)]
 
-use check::same;
-use libc::STDOUT_FILENO;
+ghost use Rattle.std.specs.Prelude.{◌≡◌, ◌↔◌, All, IsTrue};
+
 use optimize::{Answer, pass};
-use std::num;
+use std::fs::File;
+use std::io;
+use std::io::{Read, Seek, SeekFrom};
 
 mod text;
 
 // What a line records of an answer: kind 0 unchanged, 1 refused, 2 rewritten. The text goes on at `next`.
-#[derive(Drop)]
+#[derive(Clone, Copy)]
 struct Recorded {
     kind: u32,
     number: u32,
@@ -19,7 +21,7 @@ struct Recorded {
 }
 
 // The file up to byte `at`: its lines, its units, and the units that differ.
-#[derive(Drop)]
+#[derive(Clone, Copy)]
 struct Tally {
     at: u64,
     lines: u64,
@@ -64,22 +66,10 @@ fn agrees(a: Answer, r: Recorded) -> bool {
     }
 }
 
-fn all_zero(work32: &[u32], work64: &[u64]) -> bool {
-    let mut i = 0;
-    while i < work32.len() {
-        if work32[i] != 0 {
-            return false;
-        }
-        i += 1;
-    }
-    i = 0;
-    while i < work64.len() {
-        if work64[i] != 0 {
-            return false;
-        }
-        i += 1;
-    }
-    true
+fn all_zero(work32: &[u32], work64: &[u64]) -> bool
+    ensures { IsTrue result ↔ All (λ x. x ≡ 0) work32.now × All (λ x. x ≡ 0) work64.now }
+{
+    work32.iter().all(|word| *word == 0) && work64.iter().all(|word| *word == 0)
 }
 
 // Does the output hold the result that is recorded, if one is, at a place of the text, and otherwise what it held before?
@@ -87,7 +77,7 @@ fn output_agrees(out: &[u8], text: &[u8], kind: u32, at: usize) -> bool {
     let mut expected = [0xa5u8; 512];
     let result = if kind == 2 { at } else { text.len() };
     text::hex(text, result, &mut expected);
-    same(out, &expected)
+    out == expected.as_slice()
 }
 
 // Does one pass give what is recorded?
@@ -115,13 +105,12 @@ fn clean_agrees(unit: &[u8], text: &[u8], r: Recorded) -> bool {
         &mut second,
     );
     let answer = cleaned.answer;
-    let zeros = [0u8; 512];
     agrees(answer, r)
         & (cleaned.passes == text::number(text, r.next))
         & output_agrees(&out, text, r.kind, text::skip(text, r.next, b' '))
         & all_zero(&work32, &work64)
-        & same(&first, &zeros)
-        & same(&second, &zeros)
+        & (first == [0; 512])
+        & (second == [0; 512])
 }
 
 // Does the line at the start of the text agree?
@@ -139,46 +128,42 @@ fn line_agrees(text: &[u8]) -> bool {
 }
 
 // 1 for a unit that differs, which is told of, else 0.
-fn differences(text: &[u8], line: u64) -> u64 {
+fn differences(rt: &impl Print, text: &[u8], line: u64) -> io::Result<u64> {
     if line_agrees(text) {
-        return 0;
+        return Ok(0);
     }
-    io::write_all(STDOUT_FILENO, b"differs: line ");
-    io::print_decimal(STDOUT_FILENO, line);
-    io::write_all(STDOUT_FILENO, b"\n");
-    1
+    println!(rt; "differs: line {line}")?;
+    Ok(1)
 }
 
 // The tally after one line more; at the end of the file it stays.
-fn after_line(fd: i32, t: Tally) -> Tally
-    requires { t.at < 2 ^ 40 }
-{
-    let mut space = io::buffer();
-    libc::lseek(fd, t.at as i64, libc::SEEK_SET);
-    let n = io::read_full(fd, &mut space);
+fn after_line<F: Read + Seek>(rt: &impl Print, file: &mut F, t: Tally) -> io::Result<Tally> {
+    let mut space = [0u8; 4096];
+    file.seek(SeekFrom::Start(t.at))?;
+    let n = input::read_full(file, &mut space)?;
     let text = &space[..n];
     if n == 0 {
-        return t;
+        return Ok(t);
     }
-    let at = num::wrapping_add_u64(t.at, text::skip(text, 0, b'\n') as u64);
-    let lines = num::wrapping_add_u64(t.lines, 1);
+    let at = t.at.wrapping_add(text::skip(text, 0, b'\n') as u64);
+    let lines = t.lines.wrapping_add(1);
     if text::byte(text, 0) == b'#' {
-        return Tally {
+        return Ok(Tally {
             at,
             lines,
             units: t.units,
             differ: t.differ,
-        };
+        });
     }
-    Tally {
+    Ok(Tally {
         at,
         lines,
-        units: num::wrapping_add_u64(t.units, 1),
-        differ: num::wrapping_add_u64(t.differ, differences(text, lines)),
-    }
+        units: t.units.wrapping_add(1),
+        differ: t.differ.wrapping_add(differences(rt, text, lines)?),
+    })
 }
 
-fn replay(fd: i32) -> Tally {
+fn replay<F: Read + Seek>(rt: &impl Print, file: &mut F) -> io::Result<Tally> {
     let mut t = Tally {
         at: 0,
         lines: 0,
@@ -186,25 +171,19 @@ fn replay(fd: i32) -> Tally {
         differ: 0,
     };
     while t.at < 0x10000000000 {
-        let next = after_line(fd, t);
+        let next = after_line(rt, file, t)?;
         if next.at <= t.at {
-            return t;
+            return Ok(t);
         }
         t = next;
     }
-    t
+    Ok(t)
 }
 
-fn main() {
-    let path = b"answers.txt";
-    let fd = os::open_read(path);
-    if fd < 0 {
-        os::fail(path);
-        return;
-    }
-    let t = replay(fd);
-    io::print_decimal(STDOUT_FILENO, t.units);
-    io::write_all(STDOUT_FILENO, b" units, ");
-    io::print_decimal(STDOUT_FILENO, t.differ);
-    io::write_all(STDOUT_FILENO, b" differ\n");
+fn main(rt: HostRuntime) -> io::Result<()> {
+    let mut file = File::open(&rt, "answers.txt")?;
+    let t = replay(&rt, &mut file)?;
+    let units = t.units;
+    let differ = t.differ;
+    println!(rt; "{units} units, {differ} differ")
 }

@@ -1,9 +1,6 @@
 // Reading the text of the recorded answers. Past its end it reads as spaces.
-ghost use Rattle.std.specs.Prelude.{◌≡◌, ◌<◌};
-ghost use Rattle.io.specs.Counts.{IsPrefixLen};
+ghost use Rattle.std.specs.Prelude.{◌≡◌, ◌<◌, ◌≤◌, length, take};
 ghost use Rattle.replay.specs.Recorded.{byte_at, skipped, kind_at, number_at};
-
-use std::num;
 
 pub fn byte(text: &[u8], at: usize) -> u8
     ensures { result ≡ byte_at text.now at }
@@ -29,10 +26,13 @@ pub fn skip(text: &[u8], at: usize, last: u8) -> usize
 pub fn kind(text: &[u8], at: usize) -> u32
     ensures { result ≡ kind_at text.now at }
 {
-    match byte(text, num::wrapping_add_usize(at, 2)) {
-        b'c' => 0,
-        b'f' => 1,
-        _ => 2,
+    let letter = byte(text, at.wrapping_add(2));
+    if letter == b'c' {
+        0
+    } else if letter == b'f' {
+        1
+    } else {
+        2
     }
 }
 
@@ -43,7 +43,7 @@ pub fn number(text: &[u8], at: usize) -> u32
     let mut v: u32 = 0;
     let mut k = 0;
     while k < 9 {
-        let b = byte(text, num::wrapping_add_usize(at, k));
+        let b = byte(text, at.wrapping_add(k));
         if b <= b' ' {
             return v;
         }
@@ -61,7 +61,8 @@ fn digit(b: u8) -> u8
 
 // The bytes of a hexadecimal word, as many as there is room for.
 pub fn hex(text: &[u8], at: usize, to: &mut [u8]) -> usize
-    ensures { IsPrefixLen result to.new }
+    ensures inside { result ≤ length to.new }
+    ensures long { result ≡ length (take result to.new) }
 {
     let mut i = at;
     let mut k = 0;
@@ -70,8 +71,8 @@ pub fn hex(text: &[u8], at: usize, to: &mut [u8]) -> usize
         if b <= b' ' {
             return k;
         }
-        to[k] = 16 * digit(b) + digit(byte(text, num::wrapping_add_usize(i, 1)));
-        i = num::wrapping_add_usize(i, 2);
+        to[k] = 16 * digit(b) + digit(byte(text, i.wrapping_add(1)));
+        i = i.wrapping_add(2);
         k += 1;
     }
     k

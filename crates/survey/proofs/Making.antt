@@ -1,12 +1,7 @@
 -- The unit of a number fits the program's buffer.
 -- Assumes nothing.
-use mathlib.Core.Path.{◌≡◌, ◌∙◌}
-use mathlib.Core.List.{List}
-use Prim.Native.Nat.{ℕ, ◌≤◌, ◌<◌}
-use native.Mathlib.Omega.{arith}
-use lib.ListN.{length, take}
+use Rattle.std.proofs.Common.{◌≡◌, ◌∙◌, refl, List, replicate, ℕ, ◌≤◌, ◌<◌, arith, length, take, lt-ltb, le-leb}
 use lib.Seq.{take_at}
-use borrow.Author.Tests.{lt-ltb, le-leb}
 use borrow.Rule.Slice.PartMut.{put_mid}
 use Rattle.words.specs.laws.Regions.{put_long}
 use Rattle.short.specs.Short.{length_of, rank_of, unit_size, unit_of, short_count, made_of, buffer_after}
@@ -21,6 +16,10 @@ pub record Made256 (k : ℕ) (out : List ℕ) (r : Made) (out' : List ℕ) : Typ
   pub room : length out ≡ 256
   pub answer : r ≡ made_of k (length out)
   pub buffer : out' ≡ buffer_after k out
+
+-- what the code that makes it promises is that
+pub made256 : {k : ℕ} {r : Made} {out' : List ℕ} → k < short_count → (r ≡ made_of k 256) × (out' ≡ buffer_after k (replicate 256 0)) → Made256 k (replicate 256 0) r out'
+made256 low e = record { some = low; room = refl; answer = e.0; buffer = e.1 }
 
 module _ {k : ℕ} {out : List ℕ} {r : Made} {out' : List ℕ} (m : Made256 k out r out') where
   fits : unit_size (length_of k) ≤ length out

@@ -1,13 +1,15 @@
 // One pass over every short function, and how many were unchanged, rewritten and refused.
+#![tactic(auto)]
+
 ghost use Rattle.std.specs.Prelude.{◌≡◌, cond, suc, ◌≤◌, ◌<◌, ◌^◌, eqb, length, take};
 ghost use Rattle.answer.specs.Answer.{lent_of, pass_answer};
 ghost use Rattle.optimize.specs.PassAnswer.{answer_of};
 ghost use Rattle.short.specs.Short.{short_count};
 ghost use Rattle.survey.specs.Survey.{kind_unchanged, kind_rewritten, kind_refused, kind_of, lent, kind_at, counted};
 
-use libc::STDOUT_FILENO;
 use optimize::{Answer, pass};
 use short::Made;
+use std::io;
 
 const UNCHANGED: u32 = 0;
 
@@ -16,7 +18,7 @@ const REWRITTEN: u32 = 1;
 const REFUSED: u32 = 2;
 
 // How many of each kind.
-#[derive(Drop)]
+#[derive(Clone, Copy)]
 struct Tally {
     unchanged: u64,
     rewritten: u64,
@@ -28,8 +30,8 @@ fn kind(a: Answer) -> u32
 {
     match a {
         Answer::Unchanged => UNCHANGED,
-        Answer::Refused(k, p) => REFUSED,
-        Answer::Rewritten(n) => REWRITTEN,
+        Answer::Refused(_, _) => REFUSED,
+        Answer::Rewritten(_) => REWRITTEN,
     }
 }
 
@@ -59,7 +61,7 @@ fn kind_of(number: u32) -> u32
     let mut buffer = [0u8; 256];
     match short::make_unit(number, &mut buffer) {
         Made::Unit(size) => kind_of_front(&buffer, size),
-        Made::Refused(k, p) => REFUSED,
+        Made::Refused(_, _) => REFUSED,
         Made::None => REFUSED,
     }
 }
@@ -74,7 +76,9 @@ fn more(count: u64, kind: u32, wanted: u32) -> u64
 
 // Over all numbers.
 fn count_all() -> Tally
-    ensures { (result.unchanged ≡ counted kind_unchanged short_count) × (result.rewritten ≡ counted kind_rewritten short_count) × (result.refused ≡ counted kind_refused short_count) }
+    ensures unchanged { result.unchanged ≡ counted kind_unchanged short_count }
+    ensures rewritten { result.rewritten ≡ counted kind_rewritten short_count }
+    ensures refused { result.refused ≡ counted kind_refused short_count }
 {
     let mut unchanged = 0;
     let mut rewritten = 0;
@@ -94,15 +98,13 @@ fn count_all() -> Tally
     }
 }
 
-fn print(name: &[u8], count: u64) {
-    io::write_all(STDOUT_FILENO, name);
-    io::print_decimal(STDOUT_FILENO, count);
-    io::write_all(STDOUT_FILENO, b"\n");
+fn print(rt: &impl Print, name: &str, count: u64) -> io::Result<()> {
+    println!(rt; "{name} {count}")
 }
 
-fn main() {
+fn main(rt: HostRuntime) -> io::Result<()> {
     let s = count_all();
-    print(b"unchanged ", s.unchanged);
-    print(b"rewritten ", s.rewritten);
-    print(b"refused ", s.refused);
+    print(&rt, "unchanged", s.unchanged)?;
+    print(&rt, "rewritten", s.rewritten)?;
+    print(&rt, "refused", s.refused)
 }

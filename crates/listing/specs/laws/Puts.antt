@@ -5,7 +5,6 @@ use Rattle.std.proofs.Common.{sym, ap, ◌∙◌, zero-add, arith, add-one, leng
 use Rattle.std.proofs.Math.Seq.{take-length}
 use borrow.Rule.Slice.PartMut.{put_mid, put_same}
 use Rattle.words.specs.laws.Regions.{put_one, put_long, mid_put, put_put, put_more}
-use Rattle.io.specs.Counts.{IsPrefixLen}
 use Rattle.unit.specs.Size.{result_size}
 use Rattle.optimize.specs.declared.Answer.{Answer}
 use Rattle.optimize.specs.declared.Answer.TheVariants.{Unchanged, Refused, Rewritten}
@@ -39,13 +38,13 @@ puts_then {at} {end} {end'} {xs} {ys} {text} {text'} {text''} p q =
     }
 
 -- a text put at the start
-pub puts_text : {end : ℕ} {xs text text' : List ℕ} → Puts 0 xs text text' end → IsPrefixLen end text' × (take end text' ≡ xs)
+pub puts_text : {end : ℕ} {xs text text' : List ℕ} → Puts 0 xs text text' end → (end ≤ length text') × (end ≡ length (take end text')) × (take end text' ≡ xs)
 puts_text {end} {xs} {text} {text'} p =
     let is : take (length xs) text' ≡ xs = ap (take (length xs)) p.holds ∙ mid_put text 0 (length xs) xs refl p.fits in
     let whole : end ≡ length xs = p.ends ∙ zero-add (length xs) in
     let long = puts_long p in
     let fits = p.fits in
-    rw (whole, is) ((omega arith, refl), refl)
+    rw (whole, is) (omega arith, refl, refl)
 
 -- a turn of a loop that copies xs
 pub copy_turn : (at i : ℕ) (xs text text' : List ℕ) → text' ≡ put_mid at i text (take i xs) → i < length xs → at + length xs ≤ length text

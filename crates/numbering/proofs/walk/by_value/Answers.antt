@@ -1,8 +1,6 @@
 use mathlib.Core.Path.{◌≡◌, sym, ◌∙◌}
-use mathlib.Core.Logic.{⊎_elim}
 use native.Mathlib.Omega.{arith}
 use Rattle.numbering.proofs.Walking.{word_fits, folded_word, wide_word, no_word}
-use borrow.Author.Rules.{rules}
 use Rattle.numbering.proofs.walk.by_value.Goals as goal
 use Rattle.numbering.proofs.walk.by_value.Goals.{in-Word+else-fits_imm32, in_default}
 
@@ -23,8 +21,8 @@ by_number-requires c =
       p.4,
       λ v e.
           elim c.match-folded.branch [
-            in-Word+else-fits_imm32 w ↦ wide_word w.folded-is w.fits_imm32.ensures w.if-fits_imm32.false v e
-          | in_default w ↦ no_word (w.folded-is ∙ w.in_default.is) v e
+            | in-Word+else-fits_imm32 w ↦ wide_word w.folded-is w.fits_imm32.ensures w.if-fits_imm32.false v e
+            | in_default w ↦ no_word (w.folded-is ∙ w.in_default.is) v e
           ],
     )
 

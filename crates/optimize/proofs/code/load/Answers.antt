@@ -23,4 +23,4 @@ pub shape_of-words : goal.shape_of-words
 shape_of-words c = c.loop-p.invariant.0
 
 pub returns : goal.returns
-returns c = let all = loaded_all _ _ _ c.loop-p.invariant.1 _ c.loop-p.invariant.0 c.loop-p-test.false in record { answer = all.0; loaded = all.1 }
+returns c = loaded_all _ _ _ c.loop-p.invariant.1 _ c.loop-p.invariant.0 c.loop-p-test.false

@@ -40,14 +40,14 @@ After-retain = Lts.After-retain tie.the-claims Reads.Pre Reads.Post tie.handed_c
 abbrev After-work64_room : Type 0
 After-work64_room = Lts.After-work64_room tie.the-claims Reads.Pre Reads.Post tie.handed_clauses
 
-abbrev In-Listed-2 : Type 0
-In-Listed-2 = Lts.After-count tie.the-claims Reads.Pre Reads.Post tie.handed_clauses
+abbrev In-Listed : Type 0
+In-Listed = Lts.Past-After-known_told2 tie.the-claims Reads.Pre Reads.Post tie.handed_clauses
 
 abbrev In-Passed : Type 0
-In-Passed = Lts.After-enum_told tie.the-claims Reads.Pre Reads.Post tie.handed_clauses
+In-Passed = Lts.Past-After-enum_told tie.the-claims Reads.Pre Reads.Post tie.handed_clauses
 
 abbrev In-Passed-reach : Type 0
-In-Passed-reach = Lts.After-enum_told2 tie.the-claims Reads.Pre Reads.Post tie.handed_clauses
+In-Passed-reach = Lts.Past-After-enum_told2 tie.the-claims Reads.Pre Reads.Post tie.handed_clauses
 
 abbrev Start : Type 0
 Start = Lts.Start tie.the-claims Reads.Pre Reads.Post tie.handed_clauses
@@ -60,21 +60,21 @@ abbrev cells : Start → List Cell
 cells s = cells_in s.args.n s.args.code.now s.args.metadata.now
 
 given : (s : Start) → Given s.args.n s.args.code.now s.args.metadata.now (S s)
-given s = s.requires.given
+given s = s.requires.given.given
 
 -- ---- the list of the control places
 pub work64_room-requires : goal.work64_room-requires
 unfolding sections_of
 work64_room-requires c =
-    rw (c.types.ensures, c.requires.given.typed) (omega (arith, c.requires.given.few), c.requires.given.slots)
+    rw (c.types.ensures, c.requires.given.given.typed) (omega (arith, c.requires.given.given.few), c.requires.given.given.slots)
 
 there : (w : After-work64_room) → w.work64_room.result - w.args.n ≡ controls_at w.args.n (S w.before.before.before.before.before.before.before).locals
 unfolding sections_of
-there w = rw (w.work64_room.ensures, w.types.ensures, w.requires.given.typed)
+there w = rw (w.work64_room.ensures, w.types.ensures, w.requires.given.given.typed)
 
 pub load-requires : goal.load-requires
 load-requires c =
-    record { laid = c.requires.given.laid; given = c.requires.given; list = there c.before.before; room = c.requires.given.room.room64 }
+    record { laid = c.requires.given.laid; given = c.requires.given.given; list = there c.before.before; room = c.requires.given.room.room64 }
 
 -- ---- after refusals 5, 6 and 7: the code is loaded
 abbrev asked : After-work64_room → Start
@@ -90,46 +90,47 @@ at l = l.work64_room.result - (start l).args.n
 abbrev words : After-load → List ℕ
 words l = l.load.new.work64
 
-abbrev listing : In-Listed-2 → After-load
-listing m = m.before.before.before.before
+abbrev listing : In-Listed → After-load
+listing m = m.before.before.before
 
-abbrev entry : In-Listed-2 → Start
+abbrev entry : In-Listed → Start
 entry m = start (listing m)
 
-abbrev count : In-Listed-2 → ℕ
+abbrev count : In-Listed → ℕ
 count m = m.in-Listed.count
 
-loaded : (m : In-Listed-2) → let s = entry m in Loaded s.args.n (S s).locals (at (listing m)) (count m) s.args.code.now (words (listing m))
+loaded : (m : In-Listed) → let s = entry m in Loaded s.args.n (S s).locals (at (listing m)) (count m) s.args.code.now (words (listing m))
 loaded m = (listing m).load.ensures.loaded _ m.in-Listed.is
 
-operands : (m : In-Listed-2) → let s = entry m in operand_check (S s).locals (S s).tables (cells s) ≡ Passed
+operands : (m : In-Listed) → let s = entry m in operand_check (S s).locals (S s).tables (cells s) ≡ Passed
 unfolding check_of
 operands m = sym (listing m).load.ensures.answer ∙ ap check_of m.in-Listed.is
 
-room : (m : In-Listed-2) → let s = entry m in WorkRoom s.args.n (S s).locals (length s.args.work32.now) (length (words (listing m)))
+room : (m : In-Listed) → let s = entry m in WorkRoom s.args.n (S s).locals (length s.args.work32.now) (length (words (listing m)))
 room m = same_room _ _ _ _ _ _ (entry m).requires.given.room refl (listing m).load.auto.work64
 
-within : (m : In-Listed-2) → at (listing m) + count m ≤ length (words (listing m))
+within : (m : In-Listed) → at (listing m) + count m ≤ length (words (listing m))
 within m = (loaded m).listed.within
 
 pub overflow_add-at : goal.overflow_add-at
-overflow_add-at c = omega (arith, within c.before.before.before)
+overflow_add-at c = omega (arith, within c.before.before)
 
 pub offset_bounds-work64-at : goal.offset_bounds-work64-at
-offset_bounds-work64-at c = omega (arith, within c.before.before.before)
+offset_bounds-work64-at c = omega (arith, within c.before.before)
 
 pub slice_bounds-check_branches-end-in-Listed : goal.slice_bounds-check_branches-end-in-Listed
-slice_bounds-check_branches-end-in-Listed c = omega (arith, within c.before.before.before)
+slice_bounds-check_branches-end-in-Listed c = omega (arith, within c.before.before)
 
 pub check_branches-requires : goal.check_branches-requires
 check_branches-requires c =
-    let n = (entry c.before.before.before.before).args.n in
-    let l = (loaded c.before.before.before.before).listed in
-    let size : length (mid_of 0 (n - 0) (words (listing c.before.before.before.before))) ≡ n - 0 = mid_long (words (listing c.before.before.before.before)) 0 (n - 0) (omega (arith, l.values, l.within)) in record { laid = (rw size (omega (arith, (given (entry c.before.before.before.before)).few)), list_lent l (n - 0) (at (listing c.before.before.before.before) + count c.before.before.before.before - at (listing c.before.before.before.before)) (omega arith) (omega arith)) }
+    let n = (entry c.before.before.before).args.n in
+    let l = (loaded c.before.before.before).listed in
+    let size : length (mid_of 0 (n - 0) (words (listing c.before.before.before))) ≡ n - 0 = mid_long (words (listing c.before.before.before)) 0 (n - 0) (omega (arith, l.values, l.within)) in
+    (rw size (omega (arith, (given (entry c.before.before.before)).few)), list_lent l (n - 0) (at (listing c.before.before.before) + count c.before.before.before - at (listing c.before.before.before)) (omega arith) (omega arith))
 
 -- ---- after refusal 8
-abbrev branched : In-Passed → In-Listed-2
-branched b = b.before.before.before.before.before.before
+abbrev branched : In-Passed → In-Listed
+branched b = b.before.before.before.before
 
 pub number-requires : goal.number-requires
 number-requires c =
@@ -154,7 +155,7 @@ passed r = r.before.before.before
 abbrev begin : After-number → Start
 begin r = entry (branched (passed r))
 
-abbrev m : After-number → In-Listed-2
+abbrev m : After-number → In-Listed
 m r = branched (passed r)
 
 abbrev work32 : After-number → List ℕ
@@ -210,7 +211,7 @@ abbrev turned : After-reach → After-number
 turned h = lent h.before.before.before
 
 abbrev reached : In-Passed-reach → After-reach
-reached e = e.before.before.before.before
+reached e = e.before.before.before
 
 abbrev marked32 : After-reach → List ℕ
 marked32 h = h.reach.new.work32
@@ -257,7 +258,7 @@ returns-in-Refused c =
     let all = decides_refused _ _ _ _ _ _ _ (optimized_operands _ _ ∙ checked_refused _ _ _ _ (sym c.load.ensures.answer ∙ ap check_of c.in-Refused.is)) in record { answer = all.0; holds = all.1 }
 
 -- the rows that are past
-past-operands : (m : In-Listed-2) → let s = entry m in optimized (S s) (cells s) ≡ after_operands (S s) (cells s)
+past-operands : (m : In-Listed) → let s = entry m in optimized (S s) (cells s) ≡ after_operands (S s) (cells s)
 past-operands m = optimized_operands _ _ ∙ checked_passed _ _ (operands m)
 
 past-branches : (b : In-Passed) → let s = entry (branched b) in optimized (S s) (cells s) ≡ from_branches (S s) (cells s)
@@ -265,12 +266,12 @@ past-branches b = past-operands (branched b) ∙ operands_branches _ _ ∙ check
 
 pub returns-in-Refused-check_branches : goal.returns-in-Refused-check_branches
 returns-in-Refused-check_branches c =
-    let s = entry c.before.before.before.before.before.before.before.before in
-    let a = s.args in let all = decides_refused _ _ _ _ _ _ _ (past-operands c.before.before.before.before.before.before.before.before ∙ operands_branches _ _ ∙ checked_refused _ _ _ _ (loaded_branches a.n a.code.now a.metadata.now (S s) (given s) (a.n - 0) (words (listing c.before.before.before.before.before.before.before.before)) (omega arith) (loaded c.before.before.before.before.before.before.before.before).words ∙ sym (c.check_branches.ensures a.metadata.now) ∙ c.in-Refused-check_branches.is)) in record { answer = all.0; holds = all.1 }
+    let s = entry c.before.before.before.before.before in
+    let a = s.args in let all = decides_refused _ _ _ _ _ _ _ (past-operands c.before.before.before.before.before ∙ operands_branches _ _ ∙ checked_refused _ _ _ _ (loaded_branches a.n a.code.now a.metadata.now (S s) (given s) (a.n - 0) (words (listing c.before.before.before.before.before)) (omega arith) (loaded c.before.before.before.before.before).words ∙ sym (c.check_branches.ensures a.metadata.now) ∙ c.in-Refused-check_branches.is)) in record { answer = all.0; holds = all.1 }
 
 pub returns-in-Refused-reach : goal.returns-in-Refused-reach
 returns-in-Refused-reach c =
-    let r = turned c.before.before.before.before.before.before in
+    let r = turned c.before.before.before.before in
     let s = begin r in
     let a = s.args in let all = decides_refused _ _ _ _ _ _ _ (past-branches (passed r) ∙ branches_loops _ _ ∙ checked_refused _ _ _ _ (reached_answer a.n a.code.now a.metadata.now (S s) (given s) (checked (passed r)) (work32 r) (work64 r) (renumbered r) (a.n - 0) _ _ (omega arith) c.reach.ensures.reached ∙ c.in-Refused-reach.is)) in record { answer = all.0; holds = all.1 }
 

@@ -17,14 +17,14 @@ given g = g.before.before.before.before.before.before
 
 pub write-requires : goal.write-requires
 write-requires c =
-    let s = given c.before.before.before.before.before.before.before.before.before.before.before.before.before in record { held = decided_relocatable c.decide.ensures _ c.in-Rewritten.is; room = s.requires.room }
+    let s = given c.before.before.before.before.before.before.before.before.before.before.before in record { held = decided_relocatable (c.decide.ensures.answer, c.decide.ensures.holds) _ c.in-Rewritten.is; room = s.requires.room }
 
 pub returns-in-Unchanged : goal.returns-in-Unchanged
-returns-in-Unchanged c = record { answers = answers_decided_unchanged c.decide.ensures _ c.in-Unchanged.is }
+returns-in-Unchanged c = record { answers = answers_decided_unchanged (c.decide.ensures.answer, c.decide.ensures.holds) _ c.in-Unchanged.is }
 
 pub returns-in-Refused : goal.returns-in-Refused
-returns-in-Refused c = record { answers = answers_decided_refused c.decide.ensures _ _ _ c.in-Refused.is }
+returns-in-Refused c = record { answers = answers_decided_refused (c.decide.ensures.answer, c.decide.ensures.holds) _ _ _ c.in-Refused.is }
 
 pub returns-in-Rewritten : goal.returns-in-Rewritten
 returns-in-Rewritten c =
-    record { answers = answers_written c.decide.ensures _ _ _ c.in-Rewritten.is c.write.ensures.written }
+    record { answers = answers_written (c.decide.ensures.answer, c.decide.ensures.holds) _ _ _ c.in-Rewritten.is c.write.ensures.written }

@@ -30,19 +30,19 @@ admitted d = d.admit.ensures.answer
 
 pub work-requires : goal.work-requires
 work-requires c =
-    record { admitted = admitted_worked (start c.before.before.before.before.before.before).args.unit.now (room (start c.before.before.before.before.before.before)) (sym (admitted c.before.before.before.before.before.before) ∙ c.in-Admitted.is) }
+    record { admitted = admitted_worked (start c.before.before.before.before.before).args.unit.now (room (start c.before.before.before.before.before)) (sym (admitted c.before.before.before.before.before) ∙ c.in-Admitted.is) }
 
 pub returns-in-Unchanged : goal.returns-in-Unchanged
 unfolding pass_answer
 returns-in-Unchanged c =
-    let a = (start c.before.before.before).args in record { answers = answers_unchanged _ a.out.now (answer_unchanged a.unit.now (room (start c.before.before.before)) (sym (admitted c.before.before.before) ∙ c.in-Unchanged.is)) }
+    let a = (start c.before.before).args in record { answers = answers_unchanged _ a.out.now (answer_unchanged a.unit.now (room (start c.before.before)) (sym (admitted c.before.before) ∙ c.in-Unchanged.is)) }
 
 pub returns-in-Refused : goal.returns-in-Refused
 unfolding pass_answer
 returns-in-Refused c =
-    let a = (start c.before.before.before.before).args in record { answers = answers_refused _ _ _ a.out.now (answer_refused a.unit.now (room (start c.before.before.before.before)) _ _ (sym (admitted c.before.before.before.before) ∙ c.in-Refused.is)) }
+    let a = (start c.before.before).args in record { answers = answers_refused _ _ _ a.out.now (answer_refused a.unit.now (room (start c.before.before)) _ _ (sym (admitted c.before.before) ∙ c.in-Refused.is)) }
 
 pub returns-in-Admitted : goal.returns-in-Admitted
 unfolding pass_answer
 returns-in-Admitted c =
-    let a = (start c.before.before.before.before.before.before.before.before.before.before.before.before.before).args in record { answers = answers_same _ _ _ _ _ (answer_admitted a.unit.now (room (start c.before.before.before.before.before.before.before.before.before.before.before.before.before)) (sym (admitted c.before.before.before.before.before.before.before.before.before.before.before.before.before) ∙ c.in-Admitted.is)) c.work.ensures.answers }
+    let a = (start c.before.before.before.before.before.before.before.before.before.before.before.before).args in record { answers = answers_same _ _ _ _ _ (answer_admitted a.unit.now (room (start c.before.before.before.before.before.before.before.before.before.before.before.before)) (sym (admitted c.before.before.before.before.before.before.before.before.before.before.before.before) ∙ c.in-Admitted.is)) c.work.ensures.answers }

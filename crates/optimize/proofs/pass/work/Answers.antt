@@ -19,7 +19,7 @@ abbrev Start : Type 0
 Start = Lts.Start tie.the-claims Reads.Pre Reads.Post tie.handed_clauses
 
 pub word-n-requires : goal.word-n-requires
-word-n-requires c = record { inside = ((unit_laid c.args.unit.now c.requires.admitted.laid).header, omega arith) }
+word-n-requires c = ((unit_laid c.args.unit.now c.requires.admitted.laid).header, omega arith)
 
 -- the sections are found
 abbrev start : After-metadata → Start
