@@ -1,6 +1,8 @@
 // The rows of document 01's table before any work: is a unit worked on, left unchanged, or refused? Who works on units
 // in another way has the rows one by one: `parse::check`, `is_skipped`, `check_counts`, and `admit_counts` with a test
 // of the room of its own.
+#![tactic(auto)]
+
 ghost use Rattle.std.specs.Prelude.{◌≡◌, ◌^◌, ◌≤◌, ◌<◌};
 ghost use Rattle.unit.specs.Layout.{header_of};
 ghost use Rattle.unit.specs.Size.{max_local_slots};

@@ -1,5 +1,7 @@
 // A result of one pass or of the cleaning laid out as a unit again: its code, metadata and lines with the given unit's
 // other sections and numbers.
+#![tactic(auto)]
+
 ghost use Rattle.std.specs.Prelude.{◌≡◌, ◌+◌, ◌%◌, ◌^◌, ◌≤◌, ◌<◌, length, get_or};
 ghost use borrow.Rule.Slice.PartMut.{mid_of, put_mid};
 ghost use Rattle.words.specs.Le.{u32_at};

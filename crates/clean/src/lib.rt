@@ -1,4 +1,6 @@
 // The cleaning: up to three passes. Each reads the code of the pass before from one spare buffer and writes to the other.
+#![tactic(auto)]
+
 ghost use Rattle.std.specs.Prelude.{◌≡◌, ◌&&◌, [], ◌≤◌, length};
 ghost use borrow.Rule.Slice.PartMut.{mid_of};
 ghost use Rattle.unit.specs.Layout.{header_of};

@@ -25,12 +25,13 @@ use Rattle.again.specs.Again.{unit_of}
 use Rattle.again.specs.Units.{UnitAgain, pass_unit, clean_unit}
 use Rattle.desk.specs.Answer.{and_then, frame_check, desk_check, stopped_by, desk_answer}
 use Rattle.desk.specs.Charge.{prices, highest_price, priced, spent_from, Premises, to_cents, tariff_check, charge_check, charge_answer, charged_by, charge_cents, most_cents}
-use Rattle.desk.specs.Desk.{IsEnd, Due, goes, stops, not_executed, due_at, run_from, noted_by, notes_from}
+use Rattle.desk.specs.Desk.{Due, goes, stops, not_executed, due_at, run_from, noted_by, notes_from}
 use Rattle.desk.specs.Likewise.{Likewise, Rewriting, same_notes, pass_rewriting, clean_rewriting}
 use Rattle.desk.specs.Rewritten.{EndsLikewise, frame_passed, again_cells, again_sections, pass_desk, clean_desk}
 use Rattle.desk.specs.laws.Charging.{charge_passed, cents_most}
 use Rattle.desk.specs.laws.Passed.{passed_run}
 use Rattle.desk.specs.laws.Spent.{spent_most}
+use Rattle.desk.specs.laws.Stands.{IsEnd}
 
 -- what stands for a unit at the desk, of a charged run: refused for its frame or the tariff alone, ending likewise, and charged no more where it ends
 pub record ChargedNoMore (u again : List ℕ) : Type 0 where

@@ -1,6 +1,6 @@
 -- Definitions. Document 02, L6: the desk run, over the cells of a function. A frame is a list of words, so that it computes.
 -- Assumes nothing.
-use Rattle.std.specs.Prelude.{ℕ, zero, suc, Bool, cond, not, List, [], ◌++◌, length, ◌==◌, nat_lt, slice_index, slice_set}
+use Rattle.std.specs.Prelude.{ℕ, zero, suc, cond, not, List, [], ◌++◌, length, ◌==◌, nat_lt, slice_index, slice_set}
 use borrow.Rule.Slice.PartMut.{mid_of, put_mid}
 use Rattle.words.specs.Lists.{is_in}
 use Rattle.instruction.specs.declared.Instruction.{Instruction}
@@ -15,7 +15,7 @@ use Rattle.effects.specs.Shape.{Sections, Cell, cell_at}
 use Rattle.flow.specs.Branch.{target_by}
 use Rattle.values.specs.Fold.{fold_word, folding_unary, folding_binary}
 use Rattle.desk.specs.declared.Stop.{Stop}
-use Rattle.desk.specs.declared.Stop.TheVariants.{Returned, Panicked, Ended, Other, Limit, Refused}
+use Rattle.desk.specs.declared.Stop.TheVariants.{Returned, Panicked, Ended, Other, Limit}
 
 -- how a run stopped, and the frame then: "The frame holds the slot words at that point"
 pub record Stopped : Type 0 where
@@ -24,15 +24,6 @@ pub record Stopped : Type 0 where
 
 abbrev pub stopped_with : Stop → List ℕ → Stopped
 stopped_with s f = record { stop = s; frame = f }
-
--- "returns, panics or runs out at its end"
-unfoldable pub IsEnd : Stop → Type 0
-IsEnd (Returned a b) = Unit {0}
-IsEnd (Panicked a b) = Unit {0}
-IsEnd Ended = Unit {0}
-IsEnd (Other q) = ⊥
-IsEnd Limit = ⊥
-IsEnd (Refused k q) = ⊥
 
 -- What is due at an instruction: a step to a place with a frame; Return or Panic, which is a step too; or nothing, since it is another instruction.
 pub data Due : Type 0 where

@@ -26,7 +26,7 @@ use Rattle.answer.specs.Answer.{Lent, cells_of, sections_of, room_for, answer_wi
 use Rattle.answer.specs.Clean.{cells_after, cleaned_first, spare_for, clean_answer}
 use Rattle.answer.specs.Pass.{Outcome, unchanged, refused, rewritten}
 use Rattle.run.specs.System.{System, after}
-use Rattle.run.specs.Machine.{Words, Event, Way, by_return, by_panic, by_reply, by_code, World, Program, State, at, over, step, step_stays, way_of, log_of}
+use Rattle.run.specs.Machine.{Words, Event, Way, by_return, by_panic, by_reply, by_code, World, Program, State, at, step, step_stays, way_of, log_of}
 use Rattle.run.specs.Program.{Function, program_of}
 use Rattle.run.specs.Given.{cells_long, answer_optimized, worked_well, answer_returnable, clean_kept}
 use Rattle.run.specs.Returned.{given_function, result_function}
@@ -38,9 +38,9 @@ use Rattle.run.specs.laws.Simulation.{after_stays}
 use Rattle.run.specs.laws.Visited.{Visited, now, later, visited_hold}
 use Rattle.desk.specs.declared.Stop.{Stop}
 use Rattle.desk.specs.declared.Stop.TheVariants.{Returned, Panicked, Ended, Other, Limit, Refused}
-use Rattle.desk.specs.Desk.{Stopped, stopped_with, IsEnd, Due, goes, stops, not_executed, loads, due_by, halted, taken, due_at, run_from, notes_from}
+use Rattle.desk.specs.Desk.{Stopped, stopped_with, Due, goes, stops, not_executed, loads, due_by, halted, taken, due_at, run_from, notes_from}
 use Rattle.desk.specs.laws.Step.{words_in}
-use Rattle.desk.specs.laws.Stands.{read_words, mute, is_executed, Stands, stops_there, goes_there, stand, Arrives, arrives}
+use Rattle.desk.specs.laws.Stands.{read_words, mute, is_executed, IsEnd, Stands, stops_there, goes_there, stand, Arrives, arrives}
 
 -- how a run that ends must end, of one that ended so with a frame
 unfoldable pub Likewise : Stop → List ℕ → Stopped → Type 0
@@ -253,6 +253,9 @@ module _ (F : Function) (kept : List Retained) (A : Runnable F) (A' : Runnable (
   abbrev F' : Function
   F' = result_function F.sections kept
 
+  abbrev quiet : ℕ → List ℕ
+  quiet q = []
+
   abbrev given : ℕ → List ℕ → Stopped
   given k f = run_from F.sections F.cells k 0 f
 
@@ -335,9 +338,9 @@ module _ (F : Function) (kept : List Retained) (A : Runnable F) (A' : Runnable (
   runs_likewise k f long = go (given k f).stop refl
     where
       go : (s : Stop) → (given k f).stop ≡ s → Likewise s (given k f).frame (returned k f)
-      go (Returned x y) e = rw e at (ended_likewise k f long (rw e tt) (λ q. []))
-      go (Panicked x y) e = rw e at (ended_likewise k f long (rw e tt) (λ q. []))
-      go Ended e = rw e at (ended_likewise k f long (rw e tt) (λ q. []))
+      go (Returned x y) e = rw e at (ended_likewise k f long (rw e tt) quiet)
+      go (Panicked x y) e = rw e at (ended_likewise k f long (rw e tt) quiet)
+      go Ended e = rw e at (ended_likewise k f long (rw e tt) quiet)
       go (Other q) e = tt
       go Limit e = tt
       go (Refused x y) e = tt
@@ -385,7 +388,16 @@ clean_rewriting u l first second kept b e =
     go (refused k p) f e = let z : ◌≡◌ {A = ℕ} 0 1 = cc in absurd (omega arith)
     go (rewritten one) f e = given_runnable u b room one f
 
-pub rewriting_likewise : (u : List ℕ) (kept : List Retained) → Rewriting u kept → (k : ℕ) (f : List ℕ) → length f ≡ (sections_of u).locals
+abbrev pub RunsLikewise : List ℕ → List Retained → Type 0
+RunsLikewise u kept = (k : ℕ) (f : List ℕ) → length f ≡ (sections_of u).locals
     → Likewise (run_from (sections_of u) (cells_of u) k 0 f).stop (run_from (sections_of u) (cells_of u) k 0 f).frame (run_from (sections_of u) (cells_after kept) k 0 f)
+
+pub rewriting_likewise : (u : List ℕ) (kept : List Retained) → Rewriting u kept → RunsLikewise u kept
 unfolding given_function
 rewriting_likewise u kept r = runs_likewise (given_function u) kept r.given r.result r.places
+
+pub pass_likewise : (u : List ℕ) (l : Lent) (kept : List Retained) → Bytes u → pass_answer u l ≡ rewritten kept → RunsLikewise u kept
+pass_likewise u l kept b e = rewriting_likewise u kept (pass_rewriting u l kept b e)
+
+pub clean_likewise : (u : List ℕ) (l : Lent) (first second : ℕ) (kept : List Retained) → Bytes u → (clean_answer u l first second).outcome ≡ rewritten kept → RunsLikewise u kept
+clean_likewise u l first second kept b e = rewriting_likewise u kept (clean_rewriting u l first second kept b e)

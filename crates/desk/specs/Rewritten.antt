@@ -21,7 +21,7 @@ use Rattle.flow.specs.laws.Checking.{lowest_all}
 use Rattle.answer.specs.Pass.{rewritten}
 use Rattle.answer.specs.Answer.{Lent, cells_of, sections_of, count_check, room_for, pass_answer, pass_lines}
 use Rattle.answer.specs.Clean.{cells_after, clean_answer, clean_lines}
-use Rattle.run.specs.Given.{answer_worked, clean_kept}
+use Rattle.run.specs.Given.{answer_worked, answer_returnable, clean_kept}
 use Rattle.run.specs.Program.{Function}
 use Rattle.run.specs.Returned.{given_function, result_function}
 use Rattle.run.specs.laws.Runnable.{Runnable}
@@ -29,7 +29,7 @@ use Rattle.again.specs.Again.{counts_with, header_with, unit_of}
 use Rattle.again.specs.Units.{UnitAgain, pass_unit, clean_unit}
 use Rattle.desk.specs.Answer.{and_then, layout_check, frame_check, desk_check, stopped_by, desk_answer}
 use Rattle.desk.specs.Desk.{run_from}
-use Rattle.desk.specs.Likewise.{Likewise, Rewriting, pass_rewriting, clean_rewriting, rewriting_likewise}
+use Rattle.desk.specs.Likewise.{Likewise, RunsLikewise, pass_likewise, clean_likewise}
 use Rattle.desk.specs.laws.Passed.{passed_run}
 
 -- what stands for a unit at the desk: refused for its frame alone, and ending likewise from every frame within every limit
@@ -71,8 +71,8 @@ module _ (u : List ℕ) (kept : List Retained) (lines : List Line) (A : UnitAgai
   unfolding given_function result_function
   again_sections = ap (λ (F : Function). F.sections) A.function
 
-module _ (u : List ℕ) (kept : List Retained) (lines : List Line) (A : UnitAgain u kept lines) (R : Rewriting u kept)
-    (typed : (header_of u).counts.types ≡ (header_of u).counts.locals) where
+module _ (u : List ℕ) (kept : List Retained) (lines : List Line) (A : UnitAgain u kept lines) (R : Runnable (result_function (sections_of u) kept))
+    (typed : (header_of u).counts.types ≡ (header_of u).counts.locals) (same : RunsLikewise u kept) where
   abbrev v : List ℕ
   v = unit_of u (cells_after kept) lines
 
@@ -92,8 +92,8 @@ module _ (u : List ℕ) (kept : List Retained) (lines : List Line) (A : UnitAgai
   not_refused : (words : ℕ) → desk_check v words ≡ frame_check (sections_of u).locals words
   unfolding desk_check and_then layout_check result_function
   not_refused words =
-      let operands = operands_passed (result_function (sections_of u) kept) R.result in
-      let branches = branches_passed (result_function (sections_of u) kept) R.result in
+      let operands = operands_passed (result_function (sections_of u) kept) R in
+      let branches = branches_passed (result_function (sections_of u) kept) R in
       rw (A.unit, counts, sections, cells, operands, branches)
 
   likewise : EndsLikewise u (unit_of u (cells_after kept) lines)
@@ -105,18 +105,20 @@ module _ (u : List ℕ) (kept : List Retained) (lines : List Line) (A : UnitAgai
       by f k Passed e =
           let long = (passed_run u (length f) e).frame in
           let passed : desk_check v (length f) ≡ Passed = not_refused (length f) ∙ frame_passed long in
-          rw (passed, sections, cells) (rewriting_likewise u kept R k f long)
+          rw (passed, sections, cells) (same k f long)
       by f k (Refused n p) e = tt
 
 -- one pass
 pub pass_desk : (u : List ℕ) (l : Lent) (kept : List Retained) → Bytes u → pass_answer u l ≡ rewritten kept → EndsLikewise u (unit_of u (cells_after kept) (pass_lines u l))
-unfolding pass_answer
+unfolding pass_answer given_function
 pass_desk u l kept b e =
     let room = room_for (header_of u).counts l in
-    likewise u kept (pass_lines u l) (pass_unit u l kept b e) (pass_rewriting u l kept b e) (answer_worked u room kept e).typed
+    likewise u kept (pass_lines u l) (pass_unit u l kept b e) (answer_returnable u b room kept e).good.runs (answer_worked u room kept e).typed (pass_likewise u l kept b e)
 
 -- and the cleaning
 pub clean_desk : (u : List ℕ) (l : Lent) (first second : ℕ) (kept : List Retained) → Bytes u → (clean_answer u l first second).outcome ≡ rewritten kept
     → EndsLikewise u (unit_of u (cells_after kept) (clean_lines u l first second))
+unfolding given_function
 clean_desk u l first second kept b e =
-    likewise u kept (clean_lines u l first second) (clean_unit u l first second kept b e) (clean_rewriting u l first second kept b e) (clean_kept u b l first second kept e).0.typed
+    let k = clean_kept u b l first second kept e in
+    likewise u kept (clean_lines u l first second) (clean_unit u l first second kept b e) k.1.good.runs k.0.typed (clean_likewise u l first second kept b e)

@@ -4,6 +4,7 @@ pub mod Stands
 pub mod Checking
 pub mod Execution
 pub mod Advance
+pub mod Priced
 pub mod Spent
 pub mod Unit
 pub mod Passed

@@ -12,9 +12,10 @@ ghost use Rattle.desk.specs.Charge.{prices, price_at};
 ghost use Rattle.desk.specs.laws.Stands.{is_executed};
 ghost use Rattle.desk.specs.laws.Execution.{due_in, goes_to, frame_after, Executable, has_word};
 ghost use Rattle.desk.specs.laws.Advance.{Placed, advanced, stop_at};
+ghost use Rattle.desk.specs.laws.Priced as priced;
 ghost use Rattle.desk.specs.laws.Spent.{stop_price};
 
-use crate::{Stop, copy};
+use crate::{PRICES, Stop, copy};
 use instruction::{Class, Instruction, number, opcode};
 use unit::{Constant, entry, section, size};
 use values::fold;
@@ -22,9 +23,19 @@ use values::fold;
 // No place: what stops at an instruction goes nowhere.
 const NOWHERE: u64 = 4294967296;
 
-// How far a run went: to a place, with so many steps left, at the price of those that were done.
+// The prices of a run that is not charged.
+const FREE: [u16; PRICES] = [0; PRICES];
+
+// How far a run went: to a place, with so many steps left.
 #[derive(Clone, Copy)]
 pub struct Progress {
+    pub place: usize,
+    pub left: u32,
+}
+
+// How far a charged run went, and the price of the steps that were done.
+#[derive(Clone, Copy)]
+pub struct PricedProgress {
     pub place: usize,
     pub left: u32,
     pub spent: u64,
@@ -205,14 +216,19 @@ fn price_at(code: &[u8], tariff: &[u16], p: usize) -> u64
     tariff[i.op as usize] as u64
 }
 
-// Goes on from a place while steps are left and there is somewhere to go, and adds up the prices. A run that is not
-// charged goes by the same loop, free of charge.
-pub fn advance(unit: &[u8], frame: &mut [u64], tariff: &[u16], from: usize, steps: u32) -> Progress
+// Goes on from a place while steps are left and there is somewhere to go, and adds up the prices.
+pub fn advance_priced(
+    unit: &[u8],
+    frame: &mut [u64],
+    tariff: &[u16],
+    from: usize,
+    steps: u32,
+) -> PricedProgress
     requires laid { is_unit unit.now ≡ true }
     requires runnable { Runnable (given_function unit.now) }
     requires frame { length frame.old ≡ (sections_of unit.now).locals }
     requires tariff { length tariff.now ≡ prices }
-    ensures reached { Placed (advanced (sections_of unit.now) (cells_of unit.now)
+    ensures reached { priced.Placed (priced.advanced (sections_of unit.now) (cells_of unit.now)
         tariff.now steps from 0 frame.old)
         result.place result.left result.spent frame.new }
 {
@@ -225,7 +241,7 @@ pub fn advance(unit: &[u8], frame: &mut [u64], tariff: &[u16], from: usize, step
     while (left > 0) & (p < n) {
         let q = execute(code, constants, frame, p);
         if q >= NOWHERE {
-            return Progress {
+            return PricedProgress {
                 place: p,
                 left,
                 spent,
@@ -236,10 +252,25 @@ pub fn advance(unit: &[u8], frame: &mut [u64], tariff: &[u16], from: usize, step
         p = q as usize;
         left -= 1;
     }
-    Progress {
+    PricedProgress {
         place: p,
         left,
         spent,
+    }
+}
+
+// Goes on from a place while steps are left and there is somewhere to go: by the same loop, free of charge.
+pub fn advance(unit: &[u8], frame: &mut [u64], from: usize, steps: u32) -> Progress
+    requires laid { is_unit unit.now ≡ true }
+    requires runnable { Runnable (given_function unit.now) }
+    requires frame { length frame.old ≡ (sections_of unit.now).locals }
+    ensures reached { Placed (advanced (sections_of unit.now) (cells_of unit.now)
+        steps from frame.old) result.place result.left frame.new }
+{
+    let reached = advance_priced(unit, frame, &FREE, from, steps);
+    Progress {
+        place: reached.place,
+        left: reached.left,
     }
 }
 

@@ -1,5 +1,7 @@
 // Running a function at the desk (document 02, L6): the run of document 01, of integer instructions, over a lent frame
 // and up to a limit; and what such a run costs (L12).
+#![tactic(auto)]
+
 ghost use Rattle.std.specs.Prelude.{◌≡◌, ◌≤◌};
 ghost use Rattle.desk.specs.Answer.{desk_answer, step_answer};
 ghost use Rattle.desk.specs.Charge.{charge_answer, charge_cents, most_cents};
@@ -32,9 +34,6 @@ pub enum Next {
 // "A tariff holds 256 prices of 16 bits, one per opcode byte"
 pub const PRICES: usize = 256;
 
-// The prices of a run that is not charged.
-const FREE: [u16; PRICES] = [0; PRICES];
-
 // How a charged run stops, and what it costs.
 #[derive(Clone, Copy)]
 pub struct Charged {
@@ -50,7 +49,7 @@ pub fn run(unit: &[u8], frame: &mut [u64], limit: u32) -> Stop
     match check::check(unit, frame.len()) {
         Check::Refused(k, p) => Stop::Refused(k, p),
         Check::Passed => {
-            let reached = execution::advance(unit, frame, &FREE, 0, limit);
+            let reached = execution::advance(unit, frame, 0, limit);
             execution::stop_at(unit, reached.place, reached.left)
         }
     }
@@ -64,7 +63,7 @@ pub fn step(unit: &[u8], frame: &mut [u64], place: u32) -> Next
     match check::check(unit, frame.len()) {
         Check::Refused(k, p) => Next::Stops(Stop::Refused(k, p)),
         Check::Passed => {
-            let reached = execution::advance(unit, frame, &FREE, place as usize, 1);
+            let reached = execution::advance(unit, frame, place as usize, 1);
             if reached.left == 0 {
                 return Next::Goes(reached.place as u32);
             }
@@ -90,10 +89,10 @@ pub fn charge(unit: &[u8], frame: &mut [u64], limit: u32, tariff: &[u16]) -> Cha
             cents: 0,
         },
         Check::Passed => {
-            let reached = execution::advance(unit, frame, tariff, 0, limit);
-            let stop = execution::stop_at(unit, reached.place, reached.left);
-            let last = execution::stop_price(unit, tariff, reached.place, stop);
-            let spent = reached.spent + last;
+            let paid = execution::advance_priced(unit, frame, tariff, 0, limit);
+            let stop = execution::stop_at(unit, paid.place, paid.left);
+            let last = execution::stop_price(unit, tariff, paid.place, stop);
+            let spent = paid.spent + last;
             let cents = (spent + 999) / 1000;
             Charged { stop, cents }
         }

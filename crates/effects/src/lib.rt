@@ -1,4 +1,6 @@
 // What each instruction reads and writes, as ranges of slots, and the check of every operand.
+#![tactic(auto)]
+
 pub mod branching;
 pub mod demand;
 pub mod form;

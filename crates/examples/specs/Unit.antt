@@ -28,7 +28,7 @@ abbrev pub jump : ℕ → Cell
 jump distance = jump_by op.Jump 0 distance
 
 abbrev pub jump_if : ℕ → ℕ → Cell
-jump_if a distance = jump_by op.JumpIf a distance
+jump_if a distance = cell (with_imm32 (plain op.JumpIf a 0 0) distance)
 
 abbrev pub three : ℕ → ℕ → ℕ → ℕ → Cell
 three o a b c = cell (plain o a b c)

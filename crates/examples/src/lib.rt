@@ -1,1 +1,2 @@
 // Document 01's worked examples as theorems: specs/ holds them all.
+#![tactic(auto)]

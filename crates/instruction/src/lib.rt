@@ -1,4 +1,6 @@
 // The bytecode instruction: its eight bytes, its fields, and the class of its opcode.
+#![tactic(auto)]
+
 ghost use Rattle.std.specs.Prelude.{◌≡◌, ◌+◌, ◌*◌, ◌≤◌, length};
 ghost use borrow.Rule.Slice.PartMut.{put_mid};
 ghost use Rattle.words.specs.Le.{to_le};

@@ -1,4 +1,6 @@
 // Document 02, L3: "Line numbers travel with the code". The lines of a result, by the given lines and its old places.
+#![tactic(auto)]
+
 ghost use Rattle.std.specs.Prelude.{◌≡◌, cond, ◌&&◌, List, ◌/◌, ◌-◌, ◌^◌, ◌≤◌, ◌<◌, eqb, ltb, length};
 ghost use borrow.Rule.Slice.PartMut.{put_mid};
 ghost use Rattle.unit.specs.Entry.{lines_in};

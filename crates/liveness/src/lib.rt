@@ -1,4 +1,6 @@
 // Live slots, and stores that nothing reads.
+#![tactic(auto)]
+
 mod block;
 pub mod out;
 mod round;

@@ -1,4 +1,6 @@
 // Value numbering within blocks.
+#![tactic(auto)]
+
 pub mod walk;
 
 // The kind and the bits of the constant that LoadConst gives.

@@ -1,4 +1,6 @@
 // An operand for a wanted outcome: the smallest right word for which an integer binary opcode gives a wanted word.
+#![tactic(auto)]
+
 ghost use Rattle.std.specs.Prelude.{◌≡◌, true};
 ghost use Rattle.words.specs.Lists.{is_in};
 ghost use Rattle.values.specs.Fold.{fold_word, folding_binary};

@@ -1,4 +1,6 @@
 // One pass over a function: `optimize_function`. What it makes of the function is found out first, and then written.
+#![tactic(auto)]
+
 mod code;
 pub mod function;
 pub mod pass;

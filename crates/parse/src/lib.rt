@@ -1,4 +1,6 @@
 // The unit's header, and the check that bytes are a unit.
+#![tactic(auto)]
+
 ghost use Rattle.std.specs.Prelude.{◌≡◌, cond, suc, ◌+◌, ◌*◌, ◌/◌, ◌^◌, ◌≤◌, ◌<◌, eqb, length};
 ghost use Rattle.words.specs.Le.{u32_at};
 ghost use Rattle.words.specs.Lists.{every, lowest_below};

@@ -1,4 +1,6 @@
 // Places of the retained instructions, and relocation.
+#![tactic(auto)]
+
 pub mod boundary;
 pub mod relocation;
 pub mod retained;

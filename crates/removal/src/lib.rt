@@ -1,4 +1,6 @@
 // The places that a pass retains.
+#![tactic(auto)]
+
 mod jump;
 mod plain;
 pub mod retain;

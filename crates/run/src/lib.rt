@@ -1,1 +1,2 @@
 // How a function runs, and that optimized functions run alike.
+#![tactic(auto)]

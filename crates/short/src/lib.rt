@@ -1,4 +1,6 @@
 // All short functions (document 02, L11): those of 2, 3 and 4 instructions out of 24, over two slots, each by its number.
+#![tactic(auto)]
+
 ghost use Rattle.std.specs.Prelude.{◌≡◌, true, ℕ, ◌+◌, ◌*◌, ◌-◌, ◌/◌, ◌%◌, ◌^◌, ◌≤◌, ◌<◌, length, get_or};
 ghost use Rattle.instruction.specs.Instruction.{to_word, plain};
 ghost use Rattle.short.specs.Short.{short_at, short_count, length_of, first_of, rank_of, unit_size, header_words, digits, unit_at, made_of, buffer_after, HasNumber};

@@ -1,4 +1,6 @@
 // The unit: its header, its sections and their entries; the result's layout; the sizes of lent buffers.
+#![tactic(auto)]
+
 pub mod entry;
 pub mod field;
 pub mod refusal;

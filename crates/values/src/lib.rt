@@ -1,4 +1,6 @@
 // The table of values within a block, by value numbers.
+#![tactic(auto)]
+
 pub mod entries;
 pub mod fold;
 pub mod region;

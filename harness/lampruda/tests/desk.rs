@@ -157,6 +157,8 @@ fn the_first_other_instruction() {
 /// and Panic."
 #[test]
 fn thirty_one_opcodes_are_executed() {
+    let named = EXECUTED;
+    assert_eq!(named.len(), 31);
     for op in 0..=255 {
         let mut parts = parts(".locals 20\n .function 1 1\n .extern 1\n .const int 3\n Hint");
         parts.code[0].op = op;
@@ -170,7 +172,7 @@ fn thirty_one_opcodes_are_executed() {
         };
         // Of some kind its metadata is.
         let stop = stops.into_iter().find(|stop| stop.kind != sys::REFUSED);
-        let wanted = if EXECUTED.contains(&opcode) { LIMIT } else { other(0) };
+        let wanted = if named.contains(&opcode) { LIMIT } else { other(0) };
         assert_eq!(stop, Some(wanted), "{opcode:?}");
     }
 }

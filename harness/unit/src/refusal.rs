@@ -21,7 +21,7 @@ pub enum Refusal {
 }
 
 impl Refusal {
-    pub const ALL: [Self; 14] = [
+    pub const ALL: [Self; 13] = [
         Self::NoUnit,
         Self::ShortBuffer,
         Self::MetadataCount,
@@ -35,11 +35,13 @@ impl Refusal {
         Self::LinePlaces,
         Self::Frame,
         Self::SelectCases,
-        Self::Tariff,
     ];
 
+    /// Of a charged run alone, beside those.
+    pub const OF_CHARGE: [Self; 1] = [Self::Tariff];
+
     pub fn from_number(number: u32) -> Option<Self> {
-        Self::ALL.into_iter().find(|refusal| *refusal as u32 == number)
+        Self::ALL.into_iter().chain(Self::OF_CHARGE).find(|refusal| *refusal as u32 == number)
     }
 
     /// In words, for people who write laws.

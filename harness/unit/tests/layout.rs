@@ -182,9 +182,16 @@ fn result() {
 
 #[test]
 fn refusal_numbers() {
-    assert_eq!(Refusal::ALL.map(|refusal| refusal as u32), [1, 2, 3, 4, 5, 6, 7, 8, 9, 10, 11, 12, 13, 15]);
+    assert_eq!(Refusal::ALL.map(|refusal| refusal as u32), [1, 2, 3, 4, 5, 6, 7, 8, 9, 10, 11, 12, 13]);
     assert_eq!(Refusal::ALL.map(|refusal| Refusal::from_number(refusal as u32)), Refusal::ALL.map(Some));
     assert_eq!(Refusal::from_number(0), None);
+}
+
+#[test]
+fn refusal_numbers_of_a_charged_run() {
+    assert_eq!(Refusal::OF_CHARGE.map(|refusal| refusal as u32), [15]);
+    assert_eq!(Refusal::from_number(15), Some(Refusal::Tariff));
+    assert_eq!(Refusal::from_number(14), None);
 }
 
 #[test]

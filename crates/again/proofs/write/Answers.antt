@@ -112,5 +112,7 @@ pub returns : goal.returns
 returns c =
     let w = words (first (second (third (fourth c.before.before.before)))) in
     let s = start w in
-    let bytes : Bytes s.args.res.now = λ i. omega (arith, w.shared_slice_known-2-1.given i) in record { out = unit_written s.args.out.now s.requires.writable bytes
-    (wrote_lines s.args.out.now (parts_of s.requires.writable) _ w.word-lines_at.ensures.value (shared (fourth c.before.before.before)) c.copy-4.ensures.to) }
+    let bytes : Bytes s.args.res.now = λ i. omega (arith, w.shared_slice_known-2-1.given i) in record {
+      out = unit_written s.args.out.now s.requires.writable bytes
+          (wrote_lines s.args.out.now (parts_of s.requires.writable) _ w.word-lines_at.ensures.value (shared (fourth c.before.before.before)) c.copy-4.ensures.to);
+    }

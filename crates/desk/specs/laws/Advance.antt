@@ -1,6 +1,6 @@
--- How far a run goes and for how much, and how it stops there.
+-- How far a run goes, and how it stops there.
 -- Assumes nothing.
-use Rattle.std.specs.Prelude.{◌≡◌, ℕ, zero, suc, ◌+◌, ◌^◌, ◌<◌, ◌≤◌, Bool, true, false, cond, List, [], length, nat_lt}
+use Rattle.std.specs.Prelude.{◌≡◌, ℕ, zero, suc, ◌^◌, ◌<◌, ◌≤◌, Bool, true, false, cond, List, [], length, nat_lt}
 use Rattle.std.proofs.Math.Path.{refl}
 use Rattle.std.proofs.Common.{arith, lt-ltb, le-ltb}
 use Rattle.effects.specs.Shape.{Sections, Cell}
@@ -10,33 +10,30 @@ use Rattle.desk.specs.declared.Next.TheVariants.{Goes, Stops}
 use Rattle.desk.specs.declared.Stop.{Stop}
 use Rattle.desk.specs.declared.Stop.TheVariants.{Ended, Other, Limit}
 use Rattle.desk.specs.Answer.{stepped_with, stepped, step_from}
-use Rattle.desk.specs.Charge.{price_at}
 use Rattle.desk.specs.Desk.{Stopped, stopped_with, Due, goes, stops, not_executed, halted, taken, due_at, run_from}
 use Rattle.desk.specs.laws.Execution.{goes_to, frame_after}
 use Rattle.desk.specs.laws.Stands.{mute, goes_there}
 
--- a place, the steps that are left, what was spent, and the frame then
+-- a place, the steps that are left, and the frame then
 pub record Advance : Type 0 where
   pub place : ℕ
   pub left : ℕ
-  pub spent : ℕ
   pub frame : List ℕ
 
-abbrev pub stands : ℕ → ℕ → ℕ → List ℕ → Advance
-stands p k v f = record { place = p; left = k; spent = v; frame = f }
+abbrev pub stands : ℕ → ℕ → List ℕ → Advance
+stands p k f = record { place = p; left = k; frame = f }
 
 -- what a function that goes on found
-pub record Placed (a : Advance) (p k v : ℕ) (f : List ℕ) : Type 0 where
+pub record Placed (a : Advance) (p k : ℕ) (f : List ℕ) : Type 0 where
   pub place : p ≡ a.place
   pub left : k ≡ a.left
-  pub spent : v ≡ a.spent
   pub frame : f ≡ a.frame
 
--- a step that goes on, and further from there; else it stays
-unfoldable pub onward : Advance → (ℕ → List ℕ → Advance) → Due → Advance
-onward here later (goes q g) = later q g
-onward here later (stops s) = here
-onward here later not_executed = here
+-- a step that goes on, and further from there
+unfoldable pub onward : ℕ → ℕ → List ℕ → (ℕ → List ℕ → Advance) → Due → Advance
+onward p k f later (goes q g) = later q g
+onward p k f later (stops s) = stands p k f
+onward p k f later not_executed = stands p k f
 
 -- how the run stops where it does not go on, with k steps left
 unfoldable pub stop_by : ℕ → ℕ → Due → Stop
@@ -46,51 +43,47 @@ stop_by p (suc k) (stops s) = s
 stop_by p k not_executed = Other p
 
 module _ (S : Sections) (cells : List Cell) where
+  -- at most k steps from place p on
+  unfoldable pub advanced : ℕ → ℕ → List ℕ → Advance
+  advanced zero p f = stands p 0 f
+  advanced (suc k) p f = let rest = onward p (suc k) f (advanced k) (due_at S cells p f) in cond (nat_lt p (length cells)) rest (stands p (suc k) f)
+
   unfoldable pub stop_at : ℕ → ℕ → List ℕ → Stop
   stop_at k p f = cond (nat_lt p (length cells)) (stop_by p k (due_at S cells p f)) Ended
 
-module _ (S : Sections) (cells : List Cell) (tariff : List ℕ) where
-  -- at most k steps from place p on, where v was spent before
-  unfoldable pub advanced : ℕ → ℕ → ℕ → List ℕ → Advance
-  advanced zero p v f = stands p 0 v f
-  advanced (suc k) p v f =
-      let rest = onward (stands p (suc k) v f) (λ q g. advanced k q (v + price_at tariff cells p) g) (due_at S cells p f) in
-      cond (nat_lt p (length cells)) rest (stands p (suc k) v f)
-
-  abbrev ended : Advance → Stopped
-  ended a = stopped_with (stop_at S cells a.left a.place a.frame) a.frame
-
   -- the run goes on as far as that, and stops so
-  pub run_advances : (k p v : ℕ) (f : List ℕ) → let a = advanced k p v f in run_from S cells k p f ≡ stopped_with (stop_at S cells a.left a.place a.frame) a.frame
+  pub run_advances : (k p : ℕ) (f : List ℕ) → run_from S cells k p f
+      ≡ stopped_with (stop_at (advanced k p f).left (advanced k p f).place (advanced k p f).frame) (advanced k p f).frame
   unfolding run_from advanced stop_at stop_by onward halted taken
-  run_advances zero p v f = go (nat_lt p (length cells)) (due_at S cells p f)
+  run_advances zero p f = go (nat_lt p (length cells)) (due_at S cells p f)
     where
       go : (t : Bool) (d : Due) → cond t (halted p f d) (stopped_with Ended f) ≡ stopped_with (cond t (stop_by p 0 d) Ended) f
       go true (goes q g) = refl
       go true (stops s) = refl
       go true not_executed = refl
       go false d = refl
-  run_advances (suc k) p v f = go (run_advances k) (nat_lt p (length cells)) refl (due_at S cells p f) refl
+  run_advances (suc k) p f = go (run_advances k) (nat_lt p (length cells)) refl (due_at S cells p f) refl
     where
-      go : ((q w : ℕ) (g : List ℕ) → run_from S cells k q g ≡ ended (advanced k q w g)) → (t : Bool) → nat_lt p (length cells) ≡ t → (d : Due) → due_at S cells p f ≡ d
-          → cond t (taken p f (run_from S cells k) d) (stopped_with Ended f)
-          ≡ ended (cond t (onward (stands p (suc k) v f) (λ q g. advanced k q (v + price_at tariff cells p) g) d) (stands p (suc k) v f))
-      go ih true e (goes q g) h = ih q (v + price_at tariff cells p) g
+      ended : Advance → Stopped
+      ended a = stopped_with (stop_at a.left a.place a.frame) a.frame
+
+      go : ((q : ℕ) (g : List ℕ) → run_from S cells k q g ≡ ended (advanced k q g)) → (t : Bool) → nat_lt p (length cells) ≡ t → (d : Due) → due_at S cells p f ≡ d
+          → cond t (taken p f (run_from S cells k) d) (stopped_with Ended f) ≡ ended (cond t (onward p (suc k) f (advanced k) d) (stands p (suc k) f))
+      go ih true e (goes q g) h = ih q g
       go ih true e (stops s) h = rw (e, h)
       go ih true e not_executed h = rw (e, h)
       go ih false e d h = rw e
 
   -- one step: either all of it was done, or none
-  pub step_advances : (p v : ℕ) (f : List ℕ) → let a = advanced 1 p v f in
-      (a.left ≡ 0 → step_from S cells p f ≡ stepped_with (Goes a.place) a.frame)
-      × (0 < a.left → step_from S cells p f ≡ stepped_with (Stops (stop_at S cells 1 a.place a.frame)) a.frame)
+  pub step_advances : (p : ℕ) (f : List ℕ) → ((advanced 1 p f).left ≡ 0 → step_from S cells p f ≡ stepped_with (Goes (advanced 1 p f).place) (advanced 1 p f).frame)
+      × (0 < (advanced 1 p f).left → step_from S cells p f ≡ stepped_with (Stops (stop_at 1 (advanced 1 p f).place (advanced 1 p f).frame)) (advanced 1 p f).frame)
   unfolding step_from advanced stop_at stop_by onward stepped
-  step_advances p v f = go (nat_lt p (length cells)) refl (due_at S cells p f) refl
+  step_advances p f = go (nat_lt p (length cells)) refl (due_at S cells p f) refl
     where
       go : (t : Bool) → nat_lt p (length cells) ≡ t → (d : Due) → due_at S cells p f ≡ d
-          → let a = cond t (onward (stands p 1 v f) (λ q g. advanced 0 q (v + price_at tariff cells p) g) d) (stands p 1 v f) in
+          → let a = cond t (onward p 1 f (advanced 0) d) (stands p 1 f) in
           (a.left ≡ 0 → cond t (stepped p f d) (stepped_with (Stops Ended) f) ≡ stepped_with (Goes a.place) a.frame)
-          × (0 < a.left → cond t (stepped p f d) (stepped_with (Stops Ended) f) ≡ stepped_with (Stops (stop_at S cells 1 a.place a.frame)) a.frame)
+          × (0 < a.left → cond t (stepped p f d) (stepped_with (Stops Ended) f) ≡ stepped_with (Stops (stop_at 1 a.place a.frame)) a.frame)
       go true e (goes q g) h = (λ l. refl, λ l. absurd (omega arith))
       go true e (stops s) h = (λ l. absurd (omega arith), λ l. rw (e, h))
       go true e not_executed h = (λ l. absurd (omega arith), λ l. rw (e, h))
@@ -98,13 +91,13 @@ module _ (S : Sections) (cells : List Cell) (tariff : List ℕ) where
 
   -- ---- as code goes on
 
-  pub at_once : (k p v : ℕ) (f : List ℕ) → length cells ≤ p → advanced k p v f ≡ stands p k v f
+  pub at_once : (k p : ℕ) (f : List ℕ) → length cells ≤ p → advanced k p f ≡ stands p k f
   unfolding advanced
-  at_once zero p v f h = refl
-  at_once (suc k) p v f h = rw (le-ltb p (length cells) h)
+  at_once zero p f h = refl
+  at_once (suc k) p f h = rw (le-ltb p (length cells) h)
 
 -- of code that can be run
-module _ (F : Function) (A : Runnable F) (tariff : List ℕ) where
+module _ (F : Function) (A : Runnable F) where
   abbrev S : Sections
   S = F.sections
 
@@ -114,19 +107,13 @@ module _ (F : Function) (A : Runnable F) (tariff : List ℕ) where
   abbrev due : ℕ → List ℕ → Due
   due = due_at S cells
 
-  abbrev going : ℕ → ℕ → ℕ → List ℕ → Advance
-  going = advanced S cells tariff
-
-  abbrev later : ℕ → ℕ → ℕ → ℕ → List ℕ → Advance
-  later k p v q g = going k q (v + price_at tariff cells p) g
-
   -- it goes on, with a frame of as many words
-  pub goes_on_lem : (k p v : ℕ) (f : List ℕ) (q : ℕ) (g : List ℕ) → p < length cells → length f ≡ S.locals → q ≡ goes_to (due p f) → g ≡ frame_after f (due p f) → q < 2 ^ 32
-      → (advanced S cells tariff (suc k) p v f ≡ advanced S cells tariff k q (v + price_at tariff cells p) g) × (length g ≡ S.locals)
+  pub goes_on_lem : (k p : ℕ) (f : List ℕ) (q : ℕ) (g : List ℕ) → p < length cells → length f ≡ S.locals → q ≡ goes_to (due p f) → g ≡ frame_after f (due p f) → q < 2 ^ 32
+      → (advanced S cells (suc k) p f ≡ advanced S cells k q g) × (length g ≡ S.locals)
   unfolding advanced onward goes_to frame_after
-  goes_on_lem k p v f q g i long e h l = rw (lt-ltb p (length cells) i) (go (due p f) refl)
+  goes_on_lem k p f q g i long e h l = rw (lt-ltb p (length cells) i) (go (due p f) refl)
     where
-      go : (d : Due) → due p f ≡ d → (onward (stands p (suc k) v f) (later k p v) d ≡ later k p v q g) × (length g ≡ S.locals)
+      go : (d : Due) → due p f ≡ d → (onward p (suc k) f (advanced S cells k) d ≡ advanced S cells k q g) × (length g ≡ S.locals)
       go (goes r j) d =
           let s = goes_there F A mute p f [] r j i long d in
           let place : q ≡ r = rw d at e in
@@ -136,12 +123,12 @@ module _ (F : Function) (A : Runnable F) (tariff : List ℕ) where
       go not_executed d = (let place : q ≡ 2 ^ 32 = rw d at e in absurd (omega arith))
 
   -- or it stays as it is
-  pub stays_there : (k p v : ℕ) (f : List ℕ) (q : ℕ) (g : List ℕ) → length cells < 2 ^ 32 → p < length cells → length f ≡ S.locals → q ≡ goes_to (due p f) → g ≡ frame_after f (due p f) → 2 ^ 32 ≤ q
-      → (advanced S cells tariff (suc k) p v f ≡ stands p (suc k) v f) × (g ≡ f)
+  pub stays_there : (k p : ℕ) (f : List ℕ) (q : ℕ) (g : List ℕ) → length cells < 2 ^ 32 → p < length cells → length f ≡ S.locals → q ≡ goes_to (due p f) → g ≡ frame_after f (due p f) → 2 ^ 32 ≤ q
+      → (advanced S cells (suc k) p f ≡ stands p (suc k) f) × (g ≡ f)
   unfolding advanced onward goes_to frame_after
-  stays_there k p v f q g few i long e h l = rw (lt-ltb p (length cells) i) (go (due p f) refl)
+  stays_there k p f q g few i long e h l = rw (lt-ltb p (length cells) i) (go (due p f) refl)
     where
-      go : (d : Due) → due p f ≡ d → (onward (stands p (suc k) v f) (later k p v) d ≡ stands p (suc k) v f) × (g ≡ f)
+      go : (d : Due) → due p f ≡ d → (onward p (suc k) f (advanced S cells k) d ≡ stands p (suc k) f) × (g ≡ f)
       go (goes r j) d =
           let s = goes_there F A mute p f [] r j i long d in
           let place : q ≡ r = rw d at e in

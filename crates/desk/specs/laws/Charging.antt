@@ -12,7 +12,8 @@ use Rattle.desk.specs.declared.Stop.TheVariants as stop
 use Rattle.desk.specs.Answer.{desk_check, stopped_by}
 use Rattle.desk.specs.Charge.{prices, highest_price, price_at, spent_from, to_cents, tariff_check, charge_check, charge_answer, charged_by, charge_cents, most_cents}
 use Rattle.desk.specs.Desk.{due_at}
-use Rattle.desk.specs.laws.Advance.{Placed, stop_by, stop_at, advanced, run_advances}
+use Rattle.desk.specs.laws.Advance.{stop_by, stop_at}
+use Rattle.desk.specs.laws.Priced.{Placed, advanced, run_advances}
 use Rattle.desk.specs.laws.Checking.{if_passed}
 use Rattle.desk.specs.laws.Passed.{and_passed}
 use Rattle.desk.specs.laws.Spent.{stop_price, spent_advances, spent_most}

@@ -1,6 +1,6 @@
 -- What is not refused at the desk can be run, and its answers are those of the run.
 -- Assumes nothing.
-use Rattle.std.specs.Prelude.{◌≡◌, ℕ, suc, ◌+◌, ◌^◌, ◌<◌, ◌≤◌, Bool, true, false, cond, List, [], length, ◌==◌, nat_lt, refl}
+use Rattle.std.specs.Prelude.{◌≡◌, ℕ, suc, ◌^◌, ◌<◌, ◌≤◌, Bool, true, false, cond, List, [], length, ◌==◌, nat_lt, refl}
 use Rattle.std.proofs.Common.{sym, ap, ◌∙◌, arith, eqb-true, ltb-true}
 use Rattle.words.specs.Bytes.{Bytes}
 use Rattle.unit.specs.Layout.{header_of, is_unit, layout_of}
@@ -20,12 +20,11 @@ use Rattle.run.specs.Returned.{given_function}
 use Rattle.run.specs.laws.Checked.{target_inside}
 use Rattle.run.specs.laws.Runnable.{Runnable}
 use Rattle.desk.specs.Answer.{and_then, layout_check, frame_check, desk_check, stopped_by, desk_answer, stepped_by, step_answer}
-use Rattle.desk.specs.Charge.{price_at}
 use Rattle.desk.specs.Desk.{Due, goes, stops, not_executed, due_at}
 use Rattle.desk.specs.declared.Next.TheVariants.{Goes, Stops}
 use Rattle.desk.specs.declared.Stop.{Stop}
 use Rattle.desk.specs.declared.Stop.TheVariants as stop
-use Rattle.desk.specs.laws.Advance.{Advance, Placed, stands, onward, advanced, stop_at, run_advances, step_advances}
+use Rattle.desk.specs.laws.Advance.{Advance, Placed, onward, advanced, stop_at, run_advances, step_advances}
 use Rattle.desk.specs.laws.Checking.{places_few, not_passed, if_passed}
 use Rattle.desk.specs.laws.Stands.{mute, goes_there}
 
@@ -72,13 +71,13 @@ passed_run u words e =
 -- ---- the answers
 
 -- one step that was done
-reached : (F : Function) → Runnable F → (tariff : List ℕ) (p v : ℕ) (f : List ℕ) → length f ≡ F.sections.locals → (advanced F.sections F.cells tariff 1 p v f).left ≡ 0
-    → (advanced F.sections F.cells tariff 1 p v f).place ≤ length F.cells
+reached : (F : Function) → Runnable F → (p : ℕ) (f : List ℕ) → length f ≡ F.sections.locals → (advanced F.sections F.cells 1 p f).left ≡ 0
+    → (advanced F.sections F.cells 1 p f).place ≤ length F.cells
 unfolding advanced onward
-reached F A tariff p v f long = go (nat_lt p (length F.cells)) refl (due_at F.sections F.cells p f) refl
+reached F A p f long = go (nat_lt p (length F.cells)) refl (due_at F.sections F.cells p f) refl
   where
     here : Bool → Due → Advance
-    here t d = cond t (onward (stands p 1 v f) (λ q g. stands q 0 (v + price_at tariff F.cells p) g) d) (stands p 1 v f)
+    here t d = cond t (onward p 1 f (advanced F.sections F.cells 0) d) (record { place = p; left = 1; frame = f })
 
     go : (t : Bool) → nat_lt p (length F.cells) ≡ t → (d : Due) → due_at F.sections F.cells p f ≡ d → (here t d).left ≡ 0 → (here t d).place ≤ length F.cells
     go true e (goes q g) d z = (goes_there F A mute p f [] q g (ltb-true p (length F.cells) e) long d).2
@@ -101,24 +100,24 @@ module _ (u f : List ℕ) (passed : desk_check u (length f) ≡ Passed) where
   abbrev cells : List Cell
   cells = cells_of u
 
-  pub ran : (tariff : List ℕ) (limit q l v : ℕ) (g : List ℕ) (s : Stop) → Placed (advanced (sections_of u) (cells_of u) tariff limit 0 0 f) q l v g → s ≡ stop_at (sections_of u) (cells_of u) l q g
+  pub ran : (limit q l : ℕ) (g : List ℕ) (s : Stop) → Placed (advanced (sections_of u) (cells_of u) limit 0 f) q l g → s ≡ stop_at (sections_of u) (cells_of u) l q g
       → (s ≡ (desk_answer u f limit).stop) × (g ≡ (desk_answer u f limit).frame)
   unfolding desk_answer stopped_by
-  ran tariff limit q l v g s a e =
-      let run = run_advances S cells tariff limit 0 0 f in
+  ran limit q l g s a e =
+      let run = run_advances S cells limit 0 f in
       rw (passed, run, ← a.place, ← a.left, ← a.frame) (e, refl)
 
-  module _ (tariff : List ℕ) (p q l v : ℕ) (g : List ℕ) (a : Placed (advanced (sections_of u) (cells_of u) tariff 1 p 0 f) q l v g) where
+  module _ (p q l : ℕ) (g : List ℕ) (a : Placed (advanced (sections_of u) (cells_of u) 1 p f) q l g) where
     pub step_went : l ≡ 0 → (Goes q ≡ (step_answer u f p).next) × (g ≡ (step_answer u f p).frame)
     unfolding step_answer stepped_by
     step_went z =
-        let s = (step_advances S cells tariff p 0 f).0 (sym a.left ∙ z) in
+        let s = (step_advances S cells p f).0 (sym a.left ∙ z) in
         rw (passed, s, ← a.place, ← a.frame) (refl, refl)
 
     pub step_stopped : (s : Stop) → 0 < l → s ≡ stop_at (sections_of u) (cells_of u) 1 q g → (Stops s ≡ (step_answer u f p).next) × (g ≡ (step_answer u f p).frame)
     unfolding step_answer stepped_by
     step_stopped s z e =
-        let t = (step_advances S cells tariff p 0 f).1 (rw a.left at z) in
+        let t = (step_advances S cells p f).1 (rw a.left at z) in
         rw (passed, t, ← a.place, ← a.frame) (ap Stops e, refl)
 
     -- a step goes to a place of 32 bits
@@ -127,5 +126,5 @@ module _ (u f : List ℕ) (passed : desk_check u (length f) ≡ Passed) where
     step_place b z =
         let r = passed_run u (length f) passed in
         let n = places_few u b in
-        let h = reached (given_function u) r.runnable tariff p 0 f r.frame (sym a.left ∙ z) in
+        let h = reached (given_function u) r.runnable p f r.frame (sym a.left ∙ z) in
         rw a.place (omega arith)

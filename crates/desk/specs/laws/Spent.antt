@@ -19,7 +19,8 @@ use Rattle.desk.specs.declared.Stop.{Stop}
 use Rattle.desk.specs.declared.Stop.TheVariants.{Returned, Panicked, Ended, Other, Limit, Refused}
 use Rattle.desk.specs.Charge.{price_at, priced, spent_from}
 use Rattle.desk.specs.Desk.{Due, goes, stops, not_executed, loads, due_by, due_at, noted_by, notes_from}
-use Rattle.desk.specs.laws.Advance.{Advance, stands, onward, stop_by, stop_at, advanced}
+use Rattle.desk.specs.laws.Advance.{stop_by, stop_at}
+use Rattle.desk.specs.laws.Priced.{Advance, stands, onward, advanced}
 
 -- the price of the step by which a run stops: of Return and Panic
 unfoldable pub stop_price : ℕ → Stop → ℕ

@@ -25,7 +25,8 @@ use Rattle.run.specs.laws.Runnable.{Runnable}
 use Rattle.run.specs.laws.Step.{step_do}
 use Rattle.desk.specs.declared.Stop.{Stop}
 use Rattle.desk.specs.declared.Stop.TheVariants.{Returned, Panicked, Ended, Other, Limit, Refused}
-use Rattle.desk.specs.Desk.{Stopped, stopped_with, IsEnd, Due, goes, stops, not_executed, loads, due_by, halted, taken, due_at, run_from, noted_by, notes_from}
+use Rattle.desk.specs.Desk.{Stopped, stopped_with, Due, goes, stops, not_executed, loads, due_by, halted, taken, due_at, run_from}
+use Rattle.desk.specs.Desk as desk
 use Rattle.desk.specs.laws.Step.{words_in, Follows, follows}
 
 -- the words of a range of slots
@@ -40,6 +41,15 @@ unfoldable pub is_executed : Due → Bool
 is_executed (goes q g) = true
 is_executed (stops s) = true
 is_executed not_executed = false
+
+-- "returns, panics or runs out at its end"
+unfoldable pub IsEnd : Stop → Type 0
+IsEnd (Returned a b) = Unit {0}
+IsEnd (Panicked a b) = Unit {0}
+IsEnd Ended = Unit {0}
+IsEnd (Other q) = ⊥
+IsEnd Limit = ⊥
+IsEnd (Refused k q) = ⊥
 
 -- Where document 01's run stands when a desk run has stopped with a frame, R being the record before it: behind the step of Return or Panic,
 -- which it took with the frame's words; or before a place, with these words.
@@ -167,9 +177,15 @@ module _ (F : Function) (A : Runnable F) (W : World) where
       let s : Follows F W p f R (x p) (goes q g) = rw d at (stepped p f R i long) in
       (step_do F W p (words_in f) R i ∙ s.0, s.1 ∙ long, goes_inside p f q g i d)
 
-  -- ---- whole runs, with what is noted of the places that they step from
+  -- ---- whole runs, with what is noted of the places that they step from, newest first
 
   module _ (h : ℕ → List ℕ) where
+    abbrev pub noted_by : ℕ → Due → (ℕ → List ℕ → List ℕ) → List ℕ
+    noted_by p d later = desk.noted_by S cells h p later d
+
+    abbrev pub notes_from : ℕ → ℕ → List ℕ → List ℕ
+    notes_from k p f = desk.notes_from S cells h k p f
+
     abbrev pub noting : System (Noted (List Event)) Way
     noting = visiting W P h
 
@@ -198,7 +214,7 @@ module _ (F : Function) (A : Runnable F) (W : World) where
       pub notes : (after noting steps (stand p f R l)).notes ≡ ns ++ l
 
     abbrev pub ArrivesAll : ℕ → Type 0
-    ArrivesAll k = (p : ℕ) (f : List ℕ) (R : List Event) (l : List ℕ) → p ≤ n → length f ≡ S.locals → Arrives k p f R l (run_from S cells k p f) (notes_from S cells h k p f)
+    ArrivesAll k = (p : ℕ) (f : List ℕ) (R : List Event) (l : List ℕ) → p ≤ n → length f ≡ S.locals → Arrives k p f R l (run_from S cells k p f) (notes_from k p f)
 
     -- a run that does not step
     at_end : (k p : ℕ) (f : List ℕ) (R : List Event) (l : List ℕ) → p ≤ n → nat_lt p n ≡ false → Arrives k p f R l (stopped_with Ended f) []
@@ -218,7 +234,7 @@ module _ (F : Function) (A : Runnable F) (W : World) where
 
     -- whatever the limit, and so step by step
     pub arrives : (k : ℕ) → ArrivesAll k
-    unfolding run_from notes_from halted taken noted_by is_executed IsEnd
+    unfolding run_from desk.notes_from halted taken desk.noted_by is_executed IsEnd
     arrives zero p f R l le long = go (nat_lt p n) refl
       where
         by : p < n → (d : Due) → due_at S cells p f ≡ d → Arrives 0 p f R l (halted p f d) []
@@ -231,7 +247,7 @@ module _ (F : Function) (A : Runnable F) (W : World) where
         go false q = at_end 0 p f R l le q
     arrives (suc k) p f R l le long = go (arrives k) (nat_lt p n) refl
       where
-        by : ArrivesAll k → p < n → (d : Due) → due_at S cells p f ≡ d → Arrives (suc k) p f R l (taken p f (run_from S cells k) d) (noted_by S cells h p (notes_from S cells h k) d)
+        by : ArrivesAll k → p < n → (d : Due) → due_at S cells p f ≡ d → Arrives (suc k) p f R l (taken p f (run_from S cells k) d) (noted_by p d (notes_from k))
         by ih i (goes q g) d =
             let s = goes_there p f R q g i long d in
             let r = ih q g R (h p ++ l) s.2 s.1 in
@@ -241,7 +257,7 @@ module _ (F : Function) (A : Runnable F) (W : World) where
               within = suc-le-suc r.within;
               all = λ e. ap suc (r.all e);
               stands = rw a r.stands;
-              notes = rw a (r.notes ∙ sym (append_assoc (notes_from S cells h k q g) (h p) l));
+              notes = rw a (r.notes ∙ sym (append_assoc (notes_from k q g) (h p) l));
             }
         by ih i (stops s) d =
             let there = stops_there p f R s i long d in
@@ -249,6 +265,6 @@ module _ (F : Function) (A : Runnable F) (W : World) where
             record { steps = 1; within = omega arith; all = λ e. absurd (rw e at there.1); stands = rw a there.0; notes = rw a }
         by ih i not_executed d = at_other (suc k) p f R l i d
 
-        go : ArrivesAll k → (t : Bool) → nat_lt p n ≡ t → Arrives (suc k) p f R l (cond t (taken p f (run_from S cells k) (due_at S cells p f)) (stopped_with Ended f)) (cond t (noted_by S cells h p (notes_from S cells h k) (due_at S cells p f)) [])
+        go : ArrivesAll k → (t : Bool) → nat_lt p n ≡ t → Arrives (suc k) p f R l (cond t (taken p f (run_from S cells k) (due_at S cells p f)) (stopped_with Ended f)) (cond t (noted_by p (due_at S cells p f) (notes_from k)) [])
         go ih true q = by ih (ltb-true p n q) (due_at S cells p f) refl
         go ih false q = at_end (suc k) p f R l le q

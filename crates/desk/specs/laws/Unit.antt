@@ -32,7 +32,8 @@ use Rattle.values.specs.Fold.{folding_unary, folding_binary}
 use Rattle.desk.specs.declared.Stop.{Stop}
 use Rattle.desk.specs.declared.Stop.TheVariants.{Returned, Panicked, Ended, Other, Limit}
 use Rattle.desk.specs.Desk.{Due, goes, stops, not_executed, loads, due_by, due_at}
-use Rattle.desk.specs.laws.Advance.{stands, advanced, at_once, goes_on_lem, stays_there, stop_by, stop_at}
+use Rattle.desk.specs.laws.Advance.{Advance, stands, advanced, at_once, goes_on_lem, stays_there, stop_by, stop_at}
+use Rattle.desk.specs.laws.Priced as priced
 use Rattle.desk.specs.laws.Checking.{places, places_few, read_cell}
 use Rattle.desk.specs.laws.Execution.{goes_to, frame_after, due_in, Executable}
 use Rattle.desk.specs.laws.Stands.{is_executed}
@@ -210,14 +211,23 @@ module _ (u : List ℕ) (laid : is_unit u ≡ true) (code : List ℕ) (c : code 
       (some, omega arith)
 
   -- or the run goes no further
-  pub turn_over : (tariff : List ℕ) (v : ℕ) (f : List ℕ) → goes_on ≡ false → advanced (sections_of u) (cells_of u) tariff left p v f ≡ stands p left v f
+  pub turn_over : (f : List ℕ) → goes_on ≡ false → advanced (sections_of u) (cells_of u) left p f ≡ stands p left f
   unfolding advanced
-  turn_over tariff v f t = go left (nat_lt p (length code / 8)) refl t
+  turn_over f t = go left (nat_lt p (length code / 8)) refl t
     where
-      go : (left : ℕ) (b : Bool) → nat_lt p (length code / 8) ≡ b → (nat_lt 0 left && b) ≡ false → advanced (sections_of u) (cells_of u) tariff left p v f ≡ stands p left v f
+      go : (left : ℕ) (b : Bool) → nat_lt p (length code / 8) ≡ b → (nat_lt 0 left && b) ≡ false → advanced (sections_of u) (cells_of u) left p f ≡ stands p left f
       go zero b e t = refl
       go (suc k) true e t = absurd (true≢false (rw (lt-ltb 0 (suc k) (omega arith)) at t))
-      go (suc k) false e t = at_once (sections_of u) (cells_of u) tariff (suc k) p v f (rw (← places u laid c) (ltb-false p (length code / 8) e))
+      go (suc k) false e t = at_once (sections_of u) (cells_of u) (suc k) p f (rw (← places u laid c) (ltb-false p (length code / 8) e))
+
+  pub priced_turn_over : (tariff : List ℕ) (v : ℕ) (f : List ℕ) → goes_on ≡ false → priced.advanced (sections_of u) (cells_of u) tariff left p v f ≡ priced.stands p left v f
+  unfolding priced.advanced
+  priced_turn_over tariff v f t = go left (nat_lt p (length code / 8)) refl t
+    where
+      go : (left : ℕ) (b : Bool) → nat_lt p (length code / 8) ≡ b → (nat_lt 0 left && b) ≡ false → priced.advanced (sections_of u) (cells_of u) tariff left p v f ≡ priced.stands p left v f
+      go zero b e t = refl
+      go (suc k) true e t = absurd (true≢false (rw (lt-ltb 0 (suc k) (omega arith)) at t))
+      go (suc k) false e t = priced.at_once (sections_of u) (cells_of u) tariff (suc k) p v f (rw (← places u laid c) (ltb-false p (length code / 8) e))
 
 -- a turn: a step is left, and the instruction at p is one of the function's
 pub record Turn (u code constants : List ℕ) (left p : ℕ) (f : List ℕ) : Type 0 where
@@ -235,22 +245,37 @@ module _ {u code constants : List ℕ} {left p : ℕ} {f : List ℕ} (t : Turn u
   turn_executable =
       (place_inside u t.laid code p t.code_found t.inside, executable u t.bytes t.laid t.runnable code t.code_found p t.inside (length f) t.frame)
 
+  abbrev here : Advance
+  here = advanced (sections_of u) (cells_of u) left p f
+
   due : due_at (sections_of u) (cells_of u) p f ≡ due_in code constants p f
   due = due_in_lem u t.laid code constants p f t.code_found t.constants_found t.inside
 
   again : suc (left - 1) ≡ left
   again = let h = t.some in omega arith
 
-  module _ (tariff : List ℕ) (v : ℕ) {q : ℕ} {g : List ℕ} (done : (q ≡ goes_to (due_in code constants p f)) × (g ≡ frame_after f (due_in code constants p f))) where
-    pub turn_goes : {price : ℕ} → price ≡ slice_index tariff (instruction_at code p).op → q < 2 ^ 32
-        → (advanced (sections_of u) (cells_of u) tariff left p v f ≡ advanced (sections_of u) (cells_of u) tariff (left - 1) q (v + price) g) × (length g ≡ (sections_of u).locals)
+  module _ {q : ℕ} {g : List ℕ} (done : (q ≡ goes_to (due_in code constants p f)) × (g ≡ frame_after f (due_in code constants p f))) where
+    pub turn_goes : q < 2 ^ 32 → (advanced (sections_of u) (cells_of u) left p f ≡ advanced (sections_of u) (cells_of u) (left - 1) q g) × (length g ≡ (sections_of u).locals)
     unfolding given_function
-    turn_goes e l =
-        let goes = goes_on_lem (given_function u) t.runnable tariff (left - 1) p v f q g t.inside t.frame (rw due done.0) (rw due done.1) l in
-        rw (e, read_cell u p t.code_found t.inside) (rw again at goes)
+    turn_goes l = rw again at (goes_on_lem (given_function u) t.runnable (left - 1) p f q g t.inside t.frame (rw due done.0) (rw due done.1) l)
 
-    pub turn_stays : 2 ^ 32 ≤ q → (advanced (sections_of u) (cells_of u) tariff left p v f ≡ stands p left v f) × (g ≡ f)
+    pub turn_stays : 2 ^ 32 ≤ q → (advanced (sections_of u) (cells_of u) left p f ≡ stands p left f) × (g ≡ f)
     unfolding given_function
     turn_stays l =
-        let stays = stays_there (given_function u) t.runnable tariff (left - 1) p v f q g (places_few u t.bytes) t.inside t.frame (rw due done.0) (rw due done.1) l in
-        rw again at stays
+        rw again at (stays_there (given_function u) t.runnable (left - 1) p f q g (places_few u t.bytes) t.inside t.frame (rw due done.0) (rw due done.1) l)
+
+    -- and of a charged run, where v was spent before
+    module _ (tariff : List ℕ) (v : ℕ) where
+      pub priced_turn_goes : {price : ℕ} → price ≡ slice_index tariff (instruction_at code p).op → q < 2 ^ 32
+          → (priced.advanced (sections_of u) (cells_of u) tariff left p v f ≡ priced.advanced (sections_of u) (cells_of u) tariff (left - 1) q (v + price) g)
+          × (length g ≡ (sections_of u).locals)
+      unfolding given_function
+      priced_turn_goes e l =
+          let goes = priced.goes_on_lem (given_function u) t.runnable tariff (left - 1) p v f q g t.inside t.frame (rw due done.0) (rw due done.1) l in
+          rw (e, read_cell u p t.code_found t.inside) (rw again at goes)
+
+      pub priced_turn_stays : 2 ^ 32 ≤ q → (priced.advanced (sections_of u) (cells_of u) tariff left p v f ≡ priced.stands p left v f) × (g ≡ f)
+      unfolding given_function
+      priced_turn_stays l =
+          let stays = priced.stays_there (given_function u) t.runnable tariff (left - 1) p v f q g (places_few u t.bytes) t.inside t.frame (rw due done.0) (rw due done.1) l in
+          rw again at stays

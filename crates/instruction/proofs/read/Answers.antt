@@ -1,5 +1,4 @@
 use Rattle.instruction.specs.Instruction.{instruction_at}
-use borrow.Author.Rules.{rules}
 use Rattle.instruction.proofs.read.Goals as goal
 
 pub returns : goal.returns

@@ -1,4 +1,3 @@
-
 use Rattle.effects.proofs.form.asked.Goals as goal
 
 pub returns-then-flag : goal.returns-then-flag

@@ -1,6 +1,5 @@
 use mathlib.Core.Path.{refl}
 use Rattle.instruction.specs.Instruction.{of_word}
-use borrow.Author.Rules.{rules}
 use Rattle.instruction.proofs.Instruction.from_word.Goals as goal
 
 pub returns : goal.returns

@@ -1,4 +1,3 @@
-use borrow.Author.Rules.{rules}
 use Rattle.instruction.proofs.Instruction.imm32.Goals as goal
 
 pub returns : goal.returns

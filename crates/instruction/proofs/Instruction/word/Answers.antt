@@ -1,6 +1,5 @@
 use mathlib.Core.Path.{refl}
 use Rattle.instruction.specs.Instruction.{to_word}
-use borrow.Author.Rules.{rules}
 use Rattle.instruction.proofs.Instruction.word.Goals as goal
 
 pub returns : goal.returns

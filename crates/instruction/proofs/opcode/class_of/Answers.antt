@@ -4,7 +4,6 @@ use Rattle.words.specs.laws.Keys.{past}
 use Rattle.instruction.specs.declared.Class.{Class}
 use Rattle.instruction.specs.Class.{number_of, named_class}
 use Rattle.instruction.specs.laws.Class.{named_number, number_past}
-use borrow.Author.Rules.{rules}
 use Rattle.instruction.proofs.opcode.class_of.Goals as goal
 
 -- the class that has the number k

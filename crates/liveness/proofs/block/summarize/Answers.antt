@@ -41,7 +41,8 @@ summarize_block-requires c =
     let d = c.requires.0 in
     let below : l.b < c.args.sets.count = omega arith in
     let rise = c.requires.2 l.b below in
-    let room = row_before c.args.sets.width l.b c.args.sets.count below in record { fits = record {
+    let room = row_before c.args.sets.width l.b c.args.sets.count below in record {
+      fits = record {
         code = omega (arith, rise.1, d.row, d.uses);
         apart = omega (arith, room, d.preserved);
         room = rw l.invariant.1 (omega (arith, room, d.live, d.end));
@@ -49,7 +50,9 @@ summarize_block-requires c =
         flags = rw c.requires.4 rise.1;
         fits = λ p h. let q : p < c.args.sets.code = omega (arith, rise.1) in rw (same_word c.args.sets _ _ _ l.invariant.2 (past_sums c.args.sets _ d) p q) (c.requires.5 p q);
         some = c.requires.6;
-      }; places = omega (arith, rise.0) }
+      };
+      places = omega (arith, rise.0);
+    }
 
 pub loop-b-preserved : goal.loop-b-preserved
 loop-b-preserved c =

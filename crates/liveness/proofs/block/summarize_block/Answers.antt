@@ -34,15 +34,17 @@ summarize_place-requires c =
     let x = both_lent m c.args.sets.uses c.args.sets.preserved c.args.sets.width u.new.row v.new.row _ c.requires.fits.apart c.requires.fits.room refl v.auto.row u.auto.row in
     let o = only_both _ _ _ _ x.only l.invariant.3 in
     let f = c.requires.fits in
-    let q : l.p - 1 + 1 ≤ c.args.end = omega arith in record { fits = record {
-      code = omega (arith, f.code);
-      apart = f.apart;
-      room = rw o.long f.room;
-      entries = omega (arith, f.entries);
-      flags = omega (arith, f.flags);
-      fits = λ p h. rw (o.same p (⊎_elim (λ i. omega (arith, i.0, f.code)) (λ i. omega (arith, i.0, f.code, f.apart)))) (f.fits p (omega arith));
-      some = f.some;
-    } }
+    let q : l.p - 1 + 1 ≤ c.args.end = omega arith in record {
+      fits = record {
+        code = omega (arith, f.code);
+        apart = f.apart;
+        room = rw o.long f.room;
+        entries = omega (arith, f.entries);
+        flags = omega (arith, f.flags);
+        fits = λ p h. rw (o.same p (⊎_elim (λ i. omega (arith, i.0, f.code)) (λ i. omega (arith, i.0, f.code, f.apart)))) (f.fits p (omega arith));
+        some = f.some;
+      };
+    }
 
 pub loop-p-preserved : goal.loop-p-preserved
 loop-p-preserved c =
@@ -81,6 +83,9 @@ returns c =
     let l = c.loop-p in
     let m = c.args.memory.now in
     let x = both_lent m c.args.sets.uses c.args.sets.preserved c.args.sets.width u.new.row v.new.row _ c.requires.fits.apart c.requires.fits.room refl v.auto.row u.auto.row in
-    let end : l.p ≡ c.args.start = omega arith in record { sets = λ n h g.
+    let end : l.p ≡ c.args.start = omega arith in record {
+      sets = λ n h g.
           let code = same_mid _ m _ x.only 0 n (omega arith) (λ j i. ⊎_elim (λ k. omega (arith, i.1, k.0)) (λ k. omega (arith, i.1, k.0))) in
-          rw (code, end) at (l.invariant.4 n h g); rest = only_both _ _ _ _ x.only l.invariant.3 }
+          rw (code, end) at (l.invariant.4 n h g);
+      rest = only_both _ _ _ _ x.only l.invariant.3;
+    }

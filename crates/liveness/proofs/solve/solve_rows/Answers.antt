@@ -44,5 +44,5 @@ pub returns : goal.returns
 returns c =
     let words = c.set_words-w.ensures in
     let g = rw (c.laid_out.ensures, words) at (works c.before.before.before.before) in
-    let x = rw (c.laid_out.ensures, words) at c.solve_blocks.ensures in 
+    let x = rw (c.laid_out.ensures, words) at c.solve_blocks.ensures in
     record { found = λ e constants. x.found e _ constants g; none = λ e constants. x.none e _ constants g; code = x.code }

@@ -23,8 +23,8 @@ by_number-requires c =
       p.4,
       λ v e.
           elim c.match-folded.branch [
-            in-Word+else-fits_imm32 w ↦ wide_word w.folded-is w.fits_imm32.ensures w.if-fits_imm32.false v e
-          | in_default w ↦ no_word (w.folded-is ∙ w.in_default.is) v e
+            | in-Word+else-fits_imm32 w ↦ wide_word w.folded-is w.fits_imm32.ensures w.if-fits_imm32.false v e
+            | in_default w ↦ no_word (w.folded-is ∙ w.in_default.is) v e
           ],
     )
 

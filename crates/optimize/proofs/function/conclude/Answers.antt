@@ -60,11 +60,15 @@ check_relocation-requires c =
 pub returns-in-Refused : goal.returns-in-Refused
 returns-in-Refused c =
     let s = start c.before.before.before.before.before.before.before.before.before.before in
-    let a = s.args in record { answer = concluded_refused s.requires.finished (a.n - 0) (keep_at a.n + a.n - keep_at a.n) (omega arith) (omega arith) a.code.now (code_bytes_lem c.before.before.before.before.before.before.before.before.before.before) (words c.before.before.before.before.before.before.before.before.before.before) (retained c.before.before.before.before.before.before.before.before.before.before) (counted c.before.before.before.before.before.before.before.before.before.before)
-    (sym c.is_unchanged.ensures ∙ c.if-is_unchanged.false) _ (rw (there c.before.before.before.before.before.before.before.before.before.before) at c.check_relocation.ensures) _ _ c.in-Refused.is }
+    let a = s.args in record {
+      answer = concluded_refused s.requires.finished (a.n - 0) (keep_at a.n + a.n - keep_at a.n) (omega arith) (omega arith) a.code.now (code_bytes_lem c.before.before.before.before.before.before.before.before.before.before) (words c.before.before.before.before.before.before.before.before.before.before) (retained c.before.before.before.before.before.before.before.before.before.before) (counted c.before.before.before.before.before.before.before.before.before.before)
+          (sym c.is_unchanged.ensures ∙ c.if-is_unchanged.false) _ (rw (there c.before.before.before.before.before.before.before.before.before.before) at c.check_relocation.ensures) _ _ c.in-Refused.is;
+    }
 
 pub returns-in-Passed : goal.returns-in-Passed
 returns-in-Passed c =
     let s = start c.before.before.before.before.before.before.before.before.before.before in
-    let a = s.args in record { answer = concluded_rewritten s.requires.finished (a.n - 0) (keep_at a.n + a.n - keep_at a.n) (omega arith) (omega arith) a.code.now (code_bytes_lem c.before.before.before.before.before.before.before.before.before.before) (words c.before.before.before.before.before.before.before.before.before.before) (retained c.before.before.before.before.before.before.before.before.before.before) (counted c.before.before.before.before.before.before.before.before.before.before)
-    (sym c.is_unchanged.ensures ∙ c.if-is_unchanged.false) _ (rw (there c.before.before.before.before.before.before.before.before.before.before) at c.check_relocation.ensures) c.in-Passed.is }
+    let a = s.args in record {
+      answer = concluded_rewritten s.requires.finished (a.n - 0) (keep_at a.n + a.n - keep_at a.n) (omega arith) (omega arith) a.code.now (code_bytes_lem c.before.before.before.before.before.before.before.before.before.before) (words c.before.before.before.before.before.before.before.before.before.before) (retained c.before.before.before.before.before.before.before.before.before.before) (counted c.before.before.before.before.before.before.before.before.before.before)
+          (sym c.is_unchanged.ensures ∙ c.if-is_unchanged.false) _ (rw (there c.before.before.before.before.before.before.before.before.before.before) at c.check_relocation.ensures) c.in-Passed.is;
+    }

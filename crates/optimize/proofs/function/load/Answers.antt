@@ -52,6 +52,9 @@ pub returns : goal.returns
 unfolding sections_of ListedBy
 returns c =
     let s = start c.before.before.before.before.before.before.before.before.before.before.before in
-    let a = s.args in record { answer = rw (c.types.ensures, c.functions.ensures, c.externs.ensures, c.cases.ensures, s.requires.given.typed, front c.before.before.before.before.before.before.before.before.before.before.before) at c.check_operands.ensures.0; loaded = λ count e.
+    let a = s.args in record {
+      answer = rw (c.types.ensures, c.functions.ensures, c.externs.ensures, c.cases.ensures, s.requires.given.typed, front c.before.before.before.before.before.before.before.before.before.before.before) at c.check_operands.ensures.0;
+      loaded = λ count e.
           let listed = rw e at c.check_operands.ensures.1 in
-          list_made a.n _ a.at count a.code.now (loaded c.before.before.before.before.before.before.before.before.before.before.before) _ s.requires.list s.requires.given.some (rw (long c.before.before.before.before.before.before.before.before.before.before.before) s.requires.room) c.check_operands.auto.memory (front c.before.before.before.before.before.before.before.before.before.before.before) listed.0 listed.1 c.check_operands.ensures.2 }
+          list_made a.n _ a.at count a.code.now (loaded c.before.before.before.before.before.before.before.before.before.before.before) _ s.requires.list s.requires.given.some (rw (long c.before.before.before.before.before.before.before.before.before.before.before) s.requires.room) c.check_operands.auto.memory (front c.before.before.before.before.before.before.before.before.before.before.before) listed.0 listed.1 c.check_operands.ensures.2;
+    }

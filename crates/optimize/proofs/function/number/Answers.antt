@@ -41,6 +41,9 @@ unfolding sections_of
 returns c =
     let s = start c.before.before.before.before.before.before.before.before.before.before in
     let a = s.args in
-    let whole : a.at - 0 ≡ a.at = omega arith in record { numbered = λ metadata.
+    let whole : a.at - 0 ≡ a.at = omega arith in record {
+      numbered = λ metadata.
           number_renumbered a.n (a.n - 0) (sections_of a.unit.now).locals a.at a.count (a.at - 0) a.work32.now a.work64.now c.mark_leaders.new.marks (omega arith) (omega arith) (size c.before.before.before.before.before.before.before.before.before.before) s.requires.numberable s.requires.listed _ metadata
-          c.number_code.new.memory c.number_code.auto.memory (c.mark_leaders.ensures metadata) (rw (c.types.ensures, c.constants.ensures) at (c.number_code.ensures metadata (sections_of a.unit.now).locals (sections_of a.unit.now).tables)); behind = drop_behind a.work64.now c.number_code.new.memory a.at (a.at - 0) (omega arith) (c.number_code.auto.memory ∙ mid_long a.work64.now 0 (a.at - 0) (omega (arith, s.requires.listed.within)) ∙ whole) }
+          c.number_code.new.memory c.number_code.auto.memory (c.mark_leaders.ensures metadata) (rw (c.types.ensures, c.constants.ensures) at (c.number_code.ensures metadata (sections_of a.unit.now).locals (sections_of a.unit.now).tables));
+      behind = drop_behind a.work64.now c.number_code.new.memory a.at (a.at - 0) (omega arith) (c.number_code.auto.memory ∙ mid_long a.work64.now 0 (a.at - 0) (omega (arith, s.requires.listed.within)) ∙ whole);
+    }

@@ -43,5 +43,7 @@ shape_of-work32 c = search rules
 
 pub returns : goal.returns
 returns c =
-    record { reached = rw c.keep_at-at.ensures
-    (reach_marks c.args.n c.args.metadata.now c.args.words.now c.args.work32.now c.mark_reached.new.work _ c.requires.4 c.requires.1 (rw c.keep_at-at.ensures at c.mark_reached.auto.work) c.mark_reached.ensures.0 (rw c.keep_at-at.ensures at c.check_loops.ensures)) }
+    record {
+      reached = rw c.keep_at-at.ensures
+          (reach_marks c.args.n c.args.metadata.now c.args.words.now c.args.work32.now c.mark_reached.new.work _ c.requires.4 c.requires.1 (rw c.keep_at-at.ensures at c.mark_reached.auto.work) c.mark_reached.ensures.0 (rw c.keep_at-at.ensures at c.check_loops.ensures));
+    }

@@ -79,5 +79,7 @@ returns c =
     let s = start c.before.before.before.before.before.before.before.before.before.before.before.before in
     let keep = keep_at (start c.before.before.before.before.before.before.before.before.before.before.before.before).args.n in
     let list = c.list_at-list.result in
-    record { written = λ made z. write_output (finished c.before.before.before.before.before.before.before.before.before.before.before.before) (listed c.before.before.before.before.before.before.before.before.before.before.before.before) ((start c.before.before.before.before.before.before.before.before.before.before.before.before).args.n - 0) (keep + (start c.before.before.before.before.before.before.before.before.before.before.before.before).args.n + (start c.before.before.before.before.before.before.before.before.before.before.before.before).args.n + 1 - (keep + (start c.before.before.before.before.before.before.before.before.before.before.before.before).args.n)) list (list + get_or (work c.before.before.before.before.before.before.before.before.before.before.before.before) (keep + (start c.before.before.before.before.before.before.before.before.before.before.before.before).args.n + (start c.before.before.before.before.before.before.before.before.before.before.before.before).args.n) 0 - list) (omega arith) (omega arith) c.list_at-list.ensures (omega arith)
-    made s.args.out.now _ (rw (kept c.before.before.before.before.before.before.before.before.before.before.before.before) z) (rw (there c.before.before.before.before.before.before.before.before.before.before.before.before) at c.write_retained.ensures) }
+    record {
+      written = λ made z. write_output (finished c.before.before.before.before.before.before.before.before.before.before.before.before) (listed c.before.before.before.before.before.before.before.before.before.before.before.before) ((start c.before.before.before.before.before.before.before.before.before.before.before.before).args.n - 0) (keep + (start c.before.before.before.before.before.before.before.before.before.before.before.before).args.n + (start c.before.before.before.before.before.before.before.before.before.before.before.before).args.n + 1 - (keep + (start c.before.before.before.before.before.before.before.before.before.before.before.before).args.n)) list (list + get_or (work c.before.before.before.before.before.before.before.before.before.before.before.before) (keep + (start c.before.before.before.before.before.before.before.before.before.before.before.before).args.n + (start c.before.before.before.before.before.before.before.before.before.before.before.before).args.n) 0 - list) (omega arith) (omega arith) c.list_at-list.ensures (omega arith)
+          made s.args.out.now _ (rw (kept c.before.before.before.before.before.before.before.before.before.before.before.before) z) (rw (there c.before.before.before.before.before.before.before.before.before.before.before.before) at c.write_retained.ensures);
+    }

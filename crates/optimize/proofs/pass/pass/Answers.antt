@@ -31,10 +31,12 @@ pub returns : goal.returns
 returns c =
     let a = (start c.before.before.before.before.before.before.before.before.before.before.before.before.before.before.before.before.before.before.before).args in
     let moves = pass_moves a.unit.now (unit-bytes c.before.before.before.before.before.before.before.before.before.before.before.before.before.before.before.before.before.before.before) (length a.out.now) (length a.work32.now) (length a.work64.now) in
-    let output = c.add_lines.ensures.lined _ a.out.now c.answer-r.ensures.answers moves in record { contract = record {
-      answer = c.answer-r.ensures.answers.0;
-      output = output;
-      work32 = c.zero_u32.ensures ∙ rw c.answer-r.auto.work32;
-      work64 = c.zero_u64.ensures ∙ rw c.answer-r.auto.work64;
-      runs = rw output (pass_preserves a.unit.now _ _ a.out.now (unit-bytes c.before.before.before.before.before.before.before.before.before.before.before.before.before.before.before.before.before.before.before));
-    } }
+    let output = c.add_lines.ensures.lined _ a.out.now c.answer-r.ensures.answers moves in record {
+      contract = record {
+        answer = c.answer-r.ensures.answers.0;
+        output = output;
+        work32 = c.zero_u32.ensures ∙ rw c.answer-r.auto.work32;
+        work64 = c.zero_u64.ensures ∙ rw c.answer-r.auto.work64;
+        runs = rw output (pass_preserves a.unit.now _ _ a.out.now (unit-bytes c.before.before.before.before.before.before.before.before.before.before.before.before.before.before.before.before.before.before.before));
+      };
+    }

@@ -54,8 +54,8 @@ loop-k-preserved c =
     let next : Cleared (hint_at s.args.words.now) s.args.keep.now c.if-is_plain_hint.keep 0 (p + 1) =
     cleared_up here (omega arith)
     (elim c.if-is_plain_hint.branch [
-      then-is_plain_hint w ↦ rw w.keep-is (step_on p (omega (arith, inside c.before.before.before.before.before.before, here.long, s.requires.0)) (sym hint ∙ w.if-is_plain_hint.true))
-    | else-is_plain_hint w ↦ rw w.keep-is (step_off p (here.rest p (λ a b. omega arith)) (sym hint ∙ w.if-is_plain_hint.false))
+      | then-is_plain_hint w ↦ rw w.keep-is (step_on p (omega (arith, inside c.before.before.before.before.before.before, here.long, s.requires.0)) (sym hint ∙ w.if-is_plain_hint.true))
+      | else-is_plain_hint w ↦ rw w.keep-is (step_off p (here.rest p (λ a b. omega arith)) (sym hint ∙ w.if-is_plain_hint.false))
     ]) in
     skip_next s.requires.2 (Cleared _ _ _ _) (hints_idle s.args.words.now _ _) _ c.loop-k-test.true next
 

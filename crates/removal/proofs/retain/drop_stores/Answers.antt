@@ -61,5 +61,7 @@ unfolding sections_of
 returns c =
     let s = start c.before.before.before.before.before.before.before.before.before.before.before.before.before.before.before.before in
     let a = s.args in
-    let dropped = rw (c.types.ensures, c.functions.ensures, c.externs.ensures, c.cases.ensures, s.requires.given.typed) at (c.drop_dead_stores.ensures.0 (constants_of a.unit.now)) in record { stored = stores_leave (sections_of a.unit.now) a.n (at c.before.before.before.before.before.before.before.before.before.before.before.before.before.before.before.before - 0) (at c.before.before.before.before.before.before.before.before.before.before.before.before.before.before.before.before + a.n - 0) (words s) a.metadata.now a.work32.now (length a.work64.now) (front c.before.before.before.before.before.before.before.before.before.before.before.before.before.before.before.before) (kept c.before.before.before.before.before.before.before.before.before.before.before.before.before.before.before.before) s.requires.given (code_long s)
-    _ c.number_blocks-count.new.work c.number_blocks-count.auto.work c.number_blocks-count.ensures.0 c.number_blocks-count.ensures.1 a.work64.now _ _ refl dropped c.drop_dead_stores.ensures.1 }
+    let dropped = rw (c.types.ensures, c.functions.ensures, c.externs.ensures, c.cases.ensures, s.requires.given.typed) at (c.drop_dead_stores.ensures.0 (constants_of a.unit.now)) in record {
+      stored = stores_leave (sections_of a.unit.now) a.n (at c.before.before.before.before.before.before.before.before.before.before.before.before.before.before.before.before - 0) (at c.before.before.before.before.before.before.before.before.before.before.before.before.before.before.before.before + a.n - 0) (words s) a.metadata.now a.work32.now (length a.work64.now) (front c.before.before.before.before.before.before.before.before.before.before.before.before.before.before.before.before) (kept c.before.before.before.before.before.before.before.before.before.before.before.before.before.before.before.before) s.requires.given (code_long s)
+          _ c.number_blocks-count.new.work c.number_blocks-count.auto.work c.number_blocks-count.ensures.0 c.number_blocks-count.ensures.1 a.work64.now _ _ refl dropped c.drop_dead_stores.ensures.1;
+    }

@@ -53,8 +53,11 @@ module _ (h : After-drop_hints) where
 pub drop_stores-requires : goal.drop_stores-requires
 drop_stores-requires c =
     let s = begin c.before.before.before.before.before in
-    let a = s.args in record { laid = s.requires.laid; given = rw (there c.before.before.before.before.before)
-          (hints_retainable (sections_of a.unit.now) a.n (a.n - 0) a.metadata.now a.work32.now a.work64.now c.drop_hints.new.work a.at (a.at - 0) (omega arith) (omega arith) (omega (arith, s.requires.within)) s.requires.given (hinted_long c.before.before.before.before.before) (hinted c.before.before.before.before.before)) }
+    let a = s.args in record {
+      laid = s.requires.laid;
+      given = rw (there c.before.before.before.before.before)
+          (hints_retainable (sections_of a.unit.now) a.n (a.n - 0) a.metadata.now a.work32.now a.work64.now c.drop_hints.new.work a.at (a.at - 0) (omega arith) (omega arith) (omega (arith, s.requires.within)) s.requires.given (hinted_long c.before.before.before.before.before) (hinted c.before.before.before.before.before));
+    }
 
 -- what came before the last step
 abbrev hints : After-drop_stores → After-drop_hints

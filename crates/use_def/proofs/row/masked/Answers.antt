@@ -1,4 +1,3 @@
-
 use Rattle.use_def.proofs.row.masked.Goals as goal
 
 pub returns-then-on : goal.returns-then-on

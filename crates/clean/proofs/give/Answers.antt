@@ -1,0 +1,7 @@
+use mathlib.Core.Path.{refl, ◌∙◌}
+use Rattle.clean.specs.laws.Cleaning.{give_answers}
+use borrow.Author.Rules.{rules}
+use Rattle.clean.proofs.give.Goals as goal
+
+pub returns : goal.returns
+returns c = give_answers c.args.k c.args.passes c.args.from.now c.args.out.now _ _ c.requires.3 refl (c.copy.ensures ∙ rw c.output_room.ensures)

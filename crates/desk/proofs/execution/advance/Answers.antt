@@ -1,0 +1,5 @@
+use Rattle.desk.specs.laws.Priced.{placed_unpriced}
+use Rattle.desk.proofs.execution.advance.Goals as goal
+
+pub returns : goal.returns
+returns c = record { reached = placed_unpriced _ _ _ _ _ _ c.advance_priced-reached.ensures.reached }
