@@ -10,8 +10,6 @@ use Rattle.std.proofs.lemmas.Bool.{not-true}
 use Rattle.words.specs.Bytes.{Bytes}
 use Rattle.words.specs.Lists.{is_in}
 use Rattle.words.specs.laws.Truth.{left_true, right_true}
-use Rattle.instruction.specs.declared.Class.{Class}
-use Rattle.instruction.specs.declared.Class.TheVariants.{Jump}
 use Rattle.instruction.specs.Class.{is_pure}
 use Rattle.instruction.specs.Instruction.{class}
 use Rattle.instruction.specs.laws.ReadBack.{jump_class}

@@ -1,7 +1,7 @@
 -- What holds of the units of all numbers: each is a unit, each number has its own, and their order is the one that is asked for.
 -- Assumes nothing.
 use Rattle.std.specs.Prelude.{◌≡◌, refl, Bool, true, false, cond, ◌&&◌, ◌||◌, List, [], ◌∷◌, ℕ, zero, suc, ◌+◌, ◌*◌, ◌-◌, ◌/◌, ◌%◌, ◌^◌, ◌≤◌, ◌<◌, eqb, ltb, length, get_or}
-use Rattle.std.proofs.Common.{sym, ap, ◌∙◌, true≢false, mul-add, mul_assoc, mul-suc, mul-le-mul_left, mod-lt, mod-eq_of_lt, pow-suc, arith, ext_get_or, lt-ltb, le-ltb, eq-eqb, ltb-true, ltb-false}
+use Rattle.std.proofs.Common.{sym, ap, ◌∙◌, true≢false, mul-add, mul_assoc, mul-suc, mul-le-mul_left, mod-lt, mod-eq_of_lt, pow-suc, arith, ext_get_or, le-ltb, eq-eqb, ltb-true, ltb-false}
 use Rattle.std.proofs.Math.Nat.{mod-add-div, mod-one, one-le-pow, div-div-eq-div-mul}
 use Rattle.words.specs.Le.{u64_at}
 use Rattle.words.specs.Le as le

@@ -1,10 +1,10 @@
 -- The memory holds a table of values: after each change of its words it is in order and holds the table with that change.
 -- Assumes nothing.
-use Rattle.std.proofs.Common.{◌≡◌, ℕ, ◌+◌, ◌*◌, ◌/◌, ◌%◌, ◌<◌, ◌≤◌, Bool, true, false, eqb, List, ◌∷◌, get_or, sym, refl, ap, ◌∙◌, arith, lt-ltb, eq-eqb, ne_eqb, eqb-true}
+use Rattle.std.proofs.Common.{◌≡◌, ℕ, ◌+◌, ◌*◌, ◌/◌, ◌%◌, ◌<◌, ◌≤◌, Bool, true, false, eqb, List, ◌∷◌, get_or, sym, refl, ◌∙◌, arith, lt-ltb, eq-eqb, ne_eqb, eqb-true}
 use borrow.Author.Tests.{eqb-false}
 use Rattle.values.specs.Values.{Values, empty, value_in, expression_in, store}
 use Rattle.values.specs.laws.Entries.{newest, Linked}
-use Rattle.values.specs.laws.Memory.{Memory, number_at, bounds_of, first_of, end_of, expression_key, limit, expression_if, expression_at, Ordered, atom_in, atom_found, HasNumber, Holds}
+use Rattle.values.specs.laws.Memory.{Memory, number_at, bounds_of, first_of, end_of, expression_key, limit, expression_if, expression_at, Ordered, atom_in, atom_found, Holds}
 use Rattle.values.specs.declared.Found.{Found}
 use Rattle.values.specs.declared.Found.TheVariants.{At, Nothing}
 use Rattle.values.proofs.Atoms.{atom_start}

@@ -1,6 +1,6 @@
 -- A constant or an expression more: the memory is in order and holds the table of values with it.
 -- Assumes nothing.
-use Rattle.std.proofs.Common.{◌≡◌, ℕ, zero, suc, ◌+◌, ◌-◌, ◌*◌, ◌/◌, ◌%◌, ◌<◌, ◌≤◌, Bool, true, false, cond, ◌&&◌, eqb, ltb, List, ◌∷◌, get_or, sym, refl, ap, ◌∙◌, arith, ltb-false, ltb-true, eq-eqb, ne_eqb, eqb-true}
+use Rattle.std.proofs.Common.{◌≡◌, ℕ, zero, suc, ◌+◌, ◌-◌, ◌*◌, ◌/◌, ◌%◌, ◌<◌, ◌≤◌, Bool, true, false, cond, ◌&&◌, eqb, ltb, List, ◌∷◌, get_or, sym, refl, ap, ◌∙◌, arith, ltb-false, ltb-true, eq-eqb, eqb-true}
 use mathlib.Core.Option.{Option, none, some}
 use borrow.Author.Tests.{eqb-false}
 use Rattle.words.specs.laws.Truth.{both, same_bool}
@@ -8,7 +8,7 @@ use Rattle.values.specs.Values.{Values, Expression, expression_in, same_atom, sa
 use Rattle.values.specs.laws.Entries.{Key, key_at, value, newest, same_key, Added}
 use Rattle.values.specs.laws.Search.{same_key_lem, key_same, newest_le, newest_key}
 use Rattle.values.specs.laws.Lowest.{same_atom_lem}
-use Rattle.values.specs.laws.Memory.{Memory, number_at, bounds_of, first_of, end_of, key_atom, constant_key, expression_key, limit, expression_if, expression_at, Ordered, atom_in, atom_found, HasNumber, Holds}
+use Rattle.values.specs.laws.Memory.{Memory, number_at, bounds_of, key_atom, constant_key, expression_key, limit, expression_if, expression_at, Ordered, atom_in, atom_found, HasNumber, Holds}
 use Rattle.values.specs.declared.Atom.{Atom}
 use Rattle.values.specs.declared.Found.{Found}
 use Rattle.values.specs.declared.Found.TheVariants.{At, Nothing}

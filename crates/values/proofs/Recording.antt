@@ -1,14 +1,13 @@
 -- What the functions of the table do to the memory, each with the table of values that it then holds.
 -- Assumes nothing.
-use Rattle.std.proofs.Common.{◌≡◌, ℕ, ◌+◌, ◌-◌, ◌*◌, ◌/◌, ◌%◌, ◌<◌, ◌≤◌, Bool, true, false, cond, ◌&&◌, eqb, ltb, leb, List, length, get_or, set, sym, refl, ap, ◌∙◌, subst, arith, length-set, get_or-set_other, get_or-set_same, ltb-false, ltb-true, le-ltb, lt-ltb, eq-eqb, ne_eqb, eqb-true}
+use Rattle.std.proofs.Common.{◌≡◌, ℕ, ◌+◌, ◌-◌, ◌*◌, ◌/◌, ◌%◌, ◌<◌, ◌≤◌, Bool, true, false, cond, eqb, ltb, List, length, get_or, set, sym, refl, ap, ◌∙◌, subst, arith, length-set, get_or-set_other, get_or-set_same, ltb-false, ltb-true, eq-eqb, eqb-true}
 use mathlib.Core.Bool.{false≢true}
-use mathlib.Core.Option.{none, some}
 use lib.Seq.{set-get_or}
 use borrow.Rule.Slice.PartMut.{mid_of}
 use borrow.Author.Tests.{eqb-false}
 use Rattle.words.specs.laws.Regions.{mid_set_before}
 use Rattle.words.specs.laws.Truth.{both}
-use Rattle.values.specs.Values.{Values, same_atom, value_of, lowest_slot, or_itself, representative}
+use Rattle.values.specs.Values.{Values, value_of, lowest_slot, or_itself, representative}
 use Rattle.values.specs.laws.Lowest.{holds_as, lowest_is, lowest_none}
 use Rattle.values.specs.laws.Entries.{Linked}
 use Rattle.values.specs.laws.Adding.{next_epoch}

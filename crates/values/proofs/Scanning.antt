@@ -1,6 +1,6 @@
 -- The walk to the lowest slot that holds a number: its invariant, a step, and its ends.
 -- Assumes nothing.
-use Rattle.std.proofs.Common.{◌≡◌, ℕ, ◌+◌, ◌<◌, ◌≤◌, Bool, true, false, ◌&&◌, eqb, List, get_or, sym, refl, ◌∙◌, arith, below_more, eq-eqb}
+use Rattle.std.proofs.Common.{◌≡◌, ℕ, ◌+◌, ◌<◌, ◌≤◌, Bool, true, false, ◌&&◌, eqb, List, get_or, refl, arith, below_more, eq-eqb}
 use Rattle.values.specs.laws.Memory.{Memory, number_at, alike, holder, Lowest}
 
 -- none of the slots from `from` on and below r is one

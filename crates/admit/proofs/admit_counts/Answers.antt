@@ -1,5 +1,4 @@
 use mathlib.Core.Path.{sym, ◌∙◌}
-use borrow.Author.Tests.{not-true, not-false}
 use Rattle.admit.specs.laws.Rows.{rows_skipped, rows_short, rows_refused, rows_admitted}
 use borrow.Author.Rules.{rules}
 use Rattle.admit.proofs.admit_counts.Goals as goal

@@ -1,9 +1,7 @@
 use mathlib.Core.Path.{◌≡◌, refl, sym, ◌∙◌}
-use Prim.Native.Nat.{◌-◌, ◌≤◌}
 use native.Mathlib.Omega.{arith}
-use lib.ListN.{length, length-set}
-use borrow.Rule.Slice.PartMut.{mid_of, put_mid, put_same}
-use borrow.Author.Rules.{rules}
+use lib.ListN.{length-set}
+use borrow.Rule.Slice.PartMut.{put_same}
 use Rattle.again.proofs.Writing.{copy_turn}
 use Rattle.again.proofs.copy.Goals as goal
 

@@ -1,10 +1,7 @@
-use mathlib.Core.Path.{◌≡◌, refl, sym, ◌∙◌}
+use mathlib.Core.Path.{◌≡◌}
 use Prim.Native.Nat.{◌-◌, ◌≤◌}
-use native.Mathlib.Omega.{arith}
-use lib.ListN.{length, length-set}
-use borrow.Rule.Slice.PartMut.{mid_of, put_mid, put_same}
-use borrow.Author.Rules.{rules}
-use Rattle.again.proofs.Writing.{copy_turn}
+use lib.ListN.{length}
+use borrow.Rule.Slice.PartMut.{mid_of, put_mid}
 use Rattle.again.proofs.copy.Given as goal
 
 abbrev pub invariant-loop-i : goal.invariant-loop-i

@@ -1,5 +1,4 @@
 use Rattle.again.specs.LaidOut.{has_offsets}
-use borrow.Author.Rules.{rules}
 use Rattle.again.proofs.has_offsets.Goals as goal
 
 pub returns : goal.returns

@@ -1,4 +1,3 @@
-use borrow.Author.Rules.{rules}
 use Rattle.again.proofs.header_with.Goals as goal
 
 pub offsets_of-offsets-requires : goal.offsets_of-offsets-requires

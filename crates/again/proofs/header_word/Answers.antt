@@ -1,6 +1,5 @@
 use mathlib.Core.Path.{refl}
 use Rattle.again.specs.Again.{header_words}
-use borrow.Author.Rules.{rules}
 use Rattle.again.proofs.header_word.Goals as goal
 
 pub returns : goal.returns

@@ -1,7 +1,6 @@
 use borrow.Author.Tests.{lt-leb, le-leb}
 use Rattle.unit.specs.Size.{result_header_size}
 use Rattle.again.specs.LaidOut.{is_result_of}
-use borrow.Author.Rules.{rules}
 use Rattle.again.proofs.is_result_of.Goals as goal
 
 pub returns-then-res-lt-RESULT_HEADER : goal.returns-then-res-lt-RESULT_HEADER

@@ -1,11 +1,9 @@
 use mathlib.Core.Path.{sym, ◌∙◌}
 use Prim.Native.Nat.{◌+◌, ◌*◌, ◌^◌, ◌<◌}
 use native.Mathlib.Omega.{arith}
-use borrow.Author.Tests.{not-true, not-false}
 use Rattle.unit.specs.Size.{line_size}
 use Rattle.unit.specs.declared.Header.{Header}
 use Rattle.again.proofs.Answering.{unit_refused, none_found, Found, result_found, no_longer, Headed, lines_below, short_room, may_write, written}
-use borrow.Author.Rules.{rules}
 use Rattle.again.proofs.lay_out.Goals as goal
 use Rattle.again.proofs.lay_out.Tie as tie
 use Rattle.again.proofs.lay_out.Lts

@@ -1,6 +1,5 @@
 use mathlib.Core.Path.{refl}
 use Rattle.again.specs.Again.{offsets_of}
-use borrow.Author.Rules.{rules}
 use Rattle.again.proofs.offsets_of.Goals as goal
 
 pub returns : goal.returns

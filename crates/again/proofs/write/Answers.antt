@@ -2,7 +2,6 @@ use native.Mathlib.Omega.{arith}
 use Rattle.words.specs.Bytes.{Bytes}
 use Rattle.again.specs.Again.{header_bytes}
 use Rattle.again.proofs.Writing.{Begins, begins_long, coded_bytes, described_bytes, shared_bytes, parts_of, code_fits, metadata_fits, others_fit, wrote_header, wrote_code, wrote_metadata, wrote_others, wrote_lines, unit_written}
-use borrow.Author.Rules.{rules}
 use Rattle.again.proofs.write.Goals as goal
 use Rattle.again.proofs.write.Tie as tie
 use Rattle.again.proofs.write.Lts

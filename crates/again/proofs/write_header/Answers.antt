@@ -1,10 +1,5 @@
-use Prim.Native.Nat.{◌-◌, ◌≤◌}
 use native.Mathlib.Omega.{arith}
-use lib.ListN.{take}
-use Rattle.words.specs.Le.{to_le}
-use Rattle.again.specs.Again.{header_words, bytes_of}
-use Rattle.again.proofs.Writing.{Begins, begins_long, header_begun, header_turn, header_end}
-use borrow.Author.Rules.{rules}
+use Rattle.again.proofs.Writing.{begins_long, header_begun, header_turn, header_end}
 use Rattle.again.proofs.write_header.Goals as goal
 
 pub loop-q-init : goal.loop-q-init

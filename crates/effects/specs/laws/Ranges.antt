@@ -1,6 +1,6 @@
 -- The ranges of an instruction by number: those of SelectExec's cases, and those of an opcode's parts.
 -- Assumes nothing.
-use Rattle.std.specs.Prelude.{◌≡◌, Bool, true, false, cond, ◌&&◌, List, [], ◌∷◌, map, ℕ, zero, suc, ◌+◌, ◌-◌, ◌*◌, ◌/◌, ◌%◌, ◌^◌, ◌≤◌, ◌<◌, eqb, length}
+use Rattle.std.specs.Prelude.{◌≡◌, Bool, true, false, cond, ◌&&◌, List, [], ◌∷◌, map, ℕ, zero, suc, ◌+◌, ◌*◌, ◌/◌, ◌%◌, ◌^◌, ◌≤◌, ◌<◌, eqb, length}
 use Rattle.std.proofs.Math.Path.{refl, ap}
 use Rattle.std.proofs.Common.{◌∙◌, append-nil, add-zero, add-suc, suc-add, arith}
 use Rattle.std.proofs.lemmas.List.{map-append, length-map}
@@ -11,7 +11,7 @@ use Rattle.unit.specs.Size.{case_size}
 use Rattle.unit.specs.Entry.{case_at}
 use Rattle.effects.specs.declared.Range.{Range}
 use Rattle.effects.specs.Shape.{Tables, Cell, Term, fixed, field_a, field_b, field_c, field_flags, first, second, both, first_flag, second_ok, array, params, results, returns, arguments, When, always, flags_are, flag_bit, closure, Part, tables_of, met, value, applies, range_of}
-use Rattle.effects.specs.Table.{shape_in, write_shape, perhaps_shape, array_shape}
+use Rattle.effects.specs.Table.{shape_in, perhaps_shape, array_shape}
 use Rattle.effects.specs.Effects.{case_reads, case_writes, reads, arrays, sure_writes, perhaps_writes, writes, all_reads, demands_met}
 use Rattle.effects.specs.laws.Form.{forms, form_at, unpack, row_of, reads_of, writes_of, demand_row_of, read_parts, write_parts, empty_range, no_part, demand_at, demands, demands_of}
 use Rattle.effects.specs.laws.TableRows.{unpack_long, unpack_at, rows_read, rows_write, rows_demand}

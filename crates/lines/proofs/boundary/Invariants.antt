@@ -1,10 +1,8 @@
 use Prim.Native.Nat.{◌/◌, ◌-◌, ◌≤◌}
-use native.Mathlib.Omega.{arith}
 use lib.ListN.{length}
 use Rattle.unit.specs.Size.{place_size}
 use Rattle.lines.specs.Lines.{below}
-use Rattle.lines.specs.laws.Below.{Rising, places_in, walk_found, walk_more, walk_end}
-use borrow.Author.Rules.{rules}
+use Rattle.lines.specs.laws.Below.{Rising, places_in}
 use Rattle.lines.proofs.boundary.Given as goal
 
 abbrev pub invariant-loop-b : goal.invariant-loop-b

@@ -1,6 +1,5 @@
 use borrow.Author.Tests.{le-ltb, lt-ltb, eq-eqb, ne_eqb}
 use native.Mathlib.Omega.{arith}
-use borrow.Author.Rules.{rules}
 use Rattle.lines.proofs.position.Goals as goal
 
 pub returns-then-count-eq0 : goal.returns-then-count-eq0

@@ -4,11 +4,10 @@ use Prim.Native.Nat.{ℕ, ◌/◌, ◌-◌, ◌≤◌}
 use native.Mathlib.Omega.{arith}
 use lib.ListN.{length}
 use borrow.Rule.Slice.PartMut.{mid_of}
-use Rattle.unit.specs.Size.{line_size, place_size}
+use Rattle.unit.specs.Size.{place_size}
 use Rattle.words.specs.laws.Regions.{mid_long}
 use Rattle.unit.specs.Result.{result_lines_at, result_places_at}
-use Rattle.lines.specs.laws.Moving.{Swept, moved_none, old_part, swept_past, swept_turn, swept_all}
-use borrow.Author.Rules.{rules}
+use Rattle.lines.specs.laws.Moving.{moved_none, old_part, swept_past, swept_turn, swept_all}
 use Rattle.lines.proofs.write_entries.Goals as goal
 
 pub loop-j-init : goal.loop-j-init

@@ -1,14 +1,8 @@
-use mathlib.Core.Path.{◌≡◌, refl, ◌∙◌}
-use mathlib.Core.List.{List}
-use Prim.Native.Nat.{ℕ, ◌/◌, ◌-◌, ◌≤◌}
-use native.Mathlib.Omega.{arith}
+use mathlib.Core.Path.{◌≡◌}
+use Prim.Native.Nat.{◌/◌, ◌-◌, ◌≤◌}
 use lib.ListN.{length}
-use borrow.Rule.Slice.PartMut.{mid_of}
-use Rattle.unit.specs.Size.{line_size, place_size}
-use Rattle.words.specs.laws.Regions.{mid_long}
-use Rattle.unit.specs.Result.{result_lines_at, result_places_at}
-use Rattle.lines.specs.laws.Moving.{Swept, moved_none, old_part, swept_past, swept_turn, swept_all}
-use borrow.Author.Rules.{rules}
+use Rattle.unit.specs.Size.{line_size}
+use Rattle.lines.specs.laws.Moving.{Swept}
 use Rattle.lines.proofs.write_entries.Given as goal
 
 abbrev pub invariant-loop-j : goal.invariant-loop-j

@@ -1,5 +1,4 @@
 use Rattle.lines.specs.laws.Lined.{lined}
-use borrow.Author.Rules.{rules}
 use Rattle.lines.proofs.write_lines.Goals as goal
 
 pub returns : goal.returns

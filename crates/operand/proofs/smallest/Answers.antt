@@ -1,4 +1,4 @@
-use Rattle.std.proofs.Common.{◌≡◌, ℕ, ◌<◌, false, List, [], ◌∷◌, refl, ap, arith, rules}
+use Rattle.std.proofs.Common.{◌≡◌, ℕ, ◌<◌, false, List, [], ◌∷◌, refl, ap, arith}
 use Rattle.words.specs.Lists.{is_in, every}
 use Rattle.words.specs.laws.Lists.{every_at}
 use Rattle.words.specs.laws.Keys.{NoneOf, none_of}

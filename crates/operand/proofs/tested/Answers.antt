@@ -1,4 +1,4 @@
-use Rattle.std.proofs.Common.{◌∙◌, arith, rules}
+use Rattle.std.proofs.Common.{◌∙◌, arith}
 use Rattle.operand.proofs.Testing.{gives_it, gives_none}
 use Rattle.operand.proofs.tested.Goals as goal
 

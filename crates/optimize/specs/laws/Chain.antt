@@ -1,6 +1,6 @@
 -- From one step of a pass to the next: what a step leaves is what the next one asks.
 -- Assumes nothing.
-use Rattle.std.specs.Prelude.{◌≡◌, refl, true, List, ◌++◌, ℕ, ◌+◌, ◌-◌, ◌*◌, ◌/◌, ◌^◌, ◌≤◌, ◌<◌, length, get_or, take, drop}
+use Rattle.std.specs.Prelude.{◌≡◌, refl, true, List, ◌++◌, ℕ, ◌+◌, ◌*◌, ◌/◌, ◌^◌, ◌≤◌, ◌<◌, length, get_or, take, drop}
 use Rattle.std.proofs.Common.{sym, ap, ◌∙◌, arith, take_at}
 use Rattle.std.proofs.lemmas.List.{length-map}
 use borrow.Rule.Slice.PartMut.{mid_of, post_of}
@@ -8,7 +8,7 @@ use Rattle.words.specs.laws.Regions.{mid_long, put_long}
 use Rattle.instruction.specs.Instruction.{class, of_word}
 use Rattle.unit.specs.Entry.{metadata_at, good_metadata}
 use Rattle.unit.specs.laws.Region.{keep_at}
-use Rattle.unit.specs.Size.{metadata_size, case_size, sets_room, work64_room, max_instructions, max_local_slots}
+use Rattle.unit.specs.Size.{metadata_size, case_size, sets_room, work64_room, max_local_slots}
 use Rattle.unit.specs.laws.Size.{sets_fit}
 use Rattle.effects.specs.declared.Check.{Check}
 use Rattle.effects.specs.declared.Check.TheVariants.{Passed, Refused}

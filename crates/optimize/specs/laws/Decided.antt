@@ -1,7 +1,7 @@
 -- What a pass decides: the answer, and where it is rewritten the work that holds what is retained, from which the result is written. The
 -- 32-bit work has the kept places at `keep_at n` with their map behind them, the 64-bit work the code at [0, n).
 -- Assumes nothing.
-use Rattle.std.specs.Prelude.{◌≡◌, refl, Bool, true, false, cond, ◌&&◌, List, [], ℕ, ◌+◌, ◌*◌, ◌-◌, ◌^◌, ◌≤◌, ◌<◌, eqb, get_or}
+use Rattle.std.specs.Prelude.{◌≡◌, refl, Bool, true, false, cond, ◌&&◌, List, [], ℕ, ◌+◌, ◌*◌, ◌-◌, ◌^◌, ◌≤◌, eqb, get_or}
 use Rattle.std.proofs.Math.Path.{sym, ap}
 use Rattle.std.proofs.Common.{◌∙◌, add-zero, zero-add, arith}
 use Rattle.std.proofs.Math.ListN.{length}

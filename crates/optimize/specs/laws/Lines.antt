@@ -1,8 +1,8 @@
 -- Lines added to the result of a rewritten answer.
 -- Assumes nothing.
-use Rattle.std.specs.Prelude.{◌≡◌, refl, Bool, true, ℕ, ◌+◌, ◌-◌, ◌/◌, ◌^◌, ◌≤◌, ◌<◌, leb, get_or, take, drop}
+use Rattle.std.specs.Prelude.{◌≡◌, refl, Bool, true, ℕ, ◌+◌, ◌-◌, ◌/◌, ◌^◌, ◌≤◌, ◌<◌, get_or, take, drop}
 use Rattle.std.proofs.Math.Path.{sym, ap}
-use Rattle.std.proofs.Common.{◌∙◌, take_at, drop-drop, leb-true}
+use Rattle.std.proofs.Common.{◌∙◌, take_at, drop-drop}
 use mathlib.Core.List.{List, [], ◌++◌}
 use native.Mathlib.Omega.{arith}
 use Rattle.std.proofs.Math.ListN.{length}
@@ -14,7 +14,7 @@ use Rattle.unit.specs.declared.Line.{Line}
 use Rattle.unit.specs.Entry.{lines_in}
 use Rattle.unit.specs.Layout.{header_of, lines_of, is_unit}
 use Rattle.unit.specs.Result.{Retained, result_bytes}
-use Rattle.unit.specs.Size.{line_size, max_instructions, output_room, work32_room, work64_room, result_size}
+use Rattle.unit.specs.Size.{line_size, max_instructions, output_room, result_size}
 use Rattle.unit.specs.laws.UnitLaws.{unit_laid, result_long}
 use Rattle.lines.specs.Lines.{moved_lines, places_of}
 use Rattle.lines.specs.laws.Below.{Rising}

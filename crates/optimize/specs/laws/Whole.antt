@@ -10,12 +10,12 @@ use Rattle.words.specs.Bytes.{Bytes}
 use Rattle.words.specs.laws.Bytes.{bytes_mid}
 use Rattle.words.specs.laws.Truth.{left_true, right_true}
 use Rattle.unit.specs.laws.UnitLaws.{unit_laid}
-use Rattle.unit.specs.Layout.{header_of, code_of, metadata_of, types_of, constants_of, cases_of}
+use Rattle.unit.specs.Layout.{header_of, code_of, metadata_of, types_of, cases_of}
 use Rattle.unit.specs.Size.{instruction_size, constant_size, case_size, output_room, work32_room, work64_room}
 use Rattle.answer.specs.declared.Admission.TheVariants.{Admitted, Unchanged}
 use Rattle.answer.specs.declared.Admission.TheVariants as variant
 use Rattle.answer.specs.Pass.{unchanged, refused, optimized}
-use Rattle.answer.specs.Answer.{Lent, lent_of, cells_of, sections_of, room_for, admission, after_admission, answer_with, pass_answer}
+use Rattle.answer.specs.Answer.{lent_of, cells_of, sections_of, room_for, admission, after_admission, answer_with}
 use Rattle.run.specs.Given.{Worked, cells_long}
 use Rattle.run.specs.laws.Passed.{worked_size}
 use Rattle.optimize.specs.laws.Given.{Given, WorkRoom, Workable, cells_in, cells_in_lem, outcome_in}

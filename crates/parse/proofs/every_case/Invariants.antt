@@ -1,8 +1,6 @@
-use borrow.Author.Tests.{not-true, not-false}
 use Prim.Native.Nat.{◌-◌}
-use Rattle.words.specs.laws.Every.{Passed, none_passed, more_passed, all_passed, one_failed}
+use Rattle.words.specs.laws.Every.{Passed}
 use Rattle.unit.specs.Entry.{good_case, case_at}
-use borrow.Author.Rules.{rules}
 use Rattle.parse.proofs.every_case.Given as goal
 
 abbrev pub invariant-loop-k : goal.invariant-loop-k

@@ -1,8 +1,4 @@
-use borrow.Author.Tests.{not-true, not-false}
-use Prim.Native.Nat.{◌-◌}
-use Rattle.words.specs.laws.Every.{Passed, none_passed, more_passed, all_passed, one_failed}
-use Rattle.unit.specs.Entry.{good_line}
-use borrow.Author.Rules.{rules}
+use Rattle.words.specs.laws.Every.{none_passed, more_passed, all_passed, one_failed}
 use Rattle.parse.proofs.every_line.Goals as goal
 
 pub loop-k-init : goal.loop-k-init

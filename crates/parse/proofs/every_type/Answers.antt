@@ -1,11 +1,9 @@
 use mathlib.Core.Path.{◌≡◌, refl}
-use Prim.Native.Nat.{ℕ, ◌-◌, ◌≤◌}
 use native.Mathlib.Omega.{arith}
 use lib.ListN.{length}
 use Rattle.words.specs.Lists.{every}
 use Rattle.unit.specs.Entry.{good_type, type_at}
 use Rattle.parse.proofs.Sweeping.{every_more}
-use borrow.Author.Rules.{rules}
 use Rattle.parse.proofs.every_type.Goals as goal
 use Rattle.parse.proofs.every_type.Goals.{At-loop-k}
 

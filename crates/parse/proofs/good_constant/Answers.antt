@@ -1,6 +1,5 @@
 use borrow.Author.Tests.{le-leb, lt-leb, eq-eqb, ne_eqb}
 use Rattle.unit.specs.Entry.{good_constant}
-use borrow.Author.Rules.{rules}
 use Rattle.parse.proofs.good_constant.Goals as goal
 
 pub returns-then-section-at-gt4 : goal.returns-then-section-at-gt4

@@ -1,5 +1,4 @@
 use Rattle.unit.specs.Layout.{header_of, good_counts}
-use borrow.Author.Rules.{rules}
 use Rattle.parse.proofs.good_counts.Goals as goal
 
 pub returns : goal.returns

@@ -9,7 +9,6 @@ use borrow.Author.Tests.{lt-ltb, le-ltb}
 use Rattle.unit.specs.Size.{line_size}
 use Rattle.unit.specs.Entry.{line_at, good_line}
 use Rattle.unit.specs.declared.Line.{Line}
-use borrow.Author.Rules.{rules}
 use Rattle.parse.proofs.good_line.Goals as goal
 use Rattle.parse.proofs.good_line.Goals.{After-line-place}
 

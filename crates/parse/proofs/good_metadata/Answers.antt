@@ -1,6 +1,5 @@
 use borrow.Author.Tests.{le-leb, lt-leb, eq-eqb, ne_eqb}
 use Rattle.unit.specs.Entry.{good_metadata}
-use borrow.Author.Rules.{rules}
 use Rattle.parse.proofs.good_metadata.Goals as goal
 
 pub returns-then-d-gt15 : goal.returns-then-d-gt15

@@ -1,8 +1,6 @@
-use mathlib.Core.Path.{sym, ◌∙◌}
 use borrow.Author.Tests.{le-leb, lt-leb}
 use Rattle.unit.specs.Size.{header_size}
 use Rattle.unit.specs.Layout.{has_sections}
-use borrow.Author.Rules.{rules}
 use Rattle.parse.proofs.has_sections.Goals as goal
 
 pub returns-then-unit-lt-HEADER : goal.returns-then-unit-lt-HEADER

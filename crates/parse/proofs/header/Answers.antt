@@ -1,5 +1,4 @@
 use Rattle.unit.specs.Layout.{header_of}
-use borrow.Author.Rules.{rules}
 use Rattle.parse.proofs.header.Goals as goal
 
 pub returns : goal.returns

@@ -1,5 +1,4 @@
 use Rattle.unit.specs.Entry.{is_wide_select}
-use borrow.Author.Rules.{rules}
 use Rattle.parse.proofs.is_wide_select.Goals as goal
 
 pub returns : goal.returns

@@ -8,7 +8,6 @@ use Rattle.unit.specs.Size.{line_size}
 use Rattle.unit.specs.Entry.{good_line}
 use Rattle.unit.specs.Layout.{header_of, lines_of, lines_rise}
 use Rattle.unit.specs.laws.UnitLaws.{Lengths, lengths, within}
-use borrow.Author.Rules.{rules}
 use Rattle.parse.proofs.lines_rise.Goals as goal
 use Rattle.parse.proofs.lines_rise.Goals.{After-word-n, Start}
 

@@ -1,6 +1,5 @@
 use native.Mathlib.Numerals.{add-one}
 use borrow.Author.Tests.{eq-eqb, ne_eqb}
-use borrow.Author.Rules.{rules}
 use Rattle.parse.proofs.lowest.Goals as goal
 
 pub returns-then-found-k : goal.returns-then-found-k

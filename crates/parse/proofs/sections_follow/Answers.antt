@@ -1,7 +1,6 @@
 use native.Mathlib.Nat.{one-mul}
 use Rattle.words.specs.Le.{u32_at}
 use Rattle.unit.specs.Layout.{header_of, sections_follow}
-use borrow.Author.Rules.{rules}
 use Rattle.parse.proofs.sections_follow.Goals as goal
 
 pub returns : goal.returns

@@ -10,7 +10,6 @@ use Rattle.unit.specs.Size.{metadata_size, constant_size, case_size}
 use Rattle.unit.specs.Entry.{good_metadata, is_wide_select, metadata_at, good_type, type_at, good_constant, good_case, case_at}
 use Rattle.unit.specs.Layout.{header_of, metadata_of, types_of, constants_of, cases_of, good_entries, wide_select}
 use Rattle.unit.specs.laws.UnitLaws.{Lengths, lengths, within}
-use borrow.Author.Rules.{rules}
 use Rattle.parse.proofs.sweep.Goals as goal
 use Rattle.parse.proofs.sweep.Goals.{After-every_constant, After-every_type, After-sweep_metadata-metadata, After-word, Start}
 

@@ -1,13 +1,7 @@
-use mathlib.Core.Path.{◌≡◌, refl, ap, ◌∙◌}
-use mathlib.Core.List.{List}
-use Prim.Native.Nat.{ℕ, ◌-◌, ◌/◌, ◌≤◌}
-use native.Mathlib.Omega.{arith}
-use lib.ListN.{length}
+use mathlib.Core.Path.{◌≡◌}
+use Prim.Native.Nat.{◌-◌, ◌≤◌}
 use Rattle.words.specs.Lists.{every, lowest_below}
-use Rattle.unit.specs.Size.{metadata_size}
 use Rattle.unit.specs.Entry.{metadata_at, good_metadata, is_wide_select}
-use Rattle.parse.proofs.Sweeping.{every_more, lowest_more}
-use borrow.Author.Rules.{rules}
 use Rattle.parse.proofs.sweep_metadata.Given as goal
 
 abbrev pub invariant-loop-k : goal.invariant-loop-k

@@ -40,7 +40,7 @@ use Rattle.run.specs.laws.Frame.{In, here, there}
 use Rattle.run.specs.laws.Optimized.{Removing, useful_long}
 use Rattle.run.specs.laws.Solved.{block_later, row_at}
 use Rattle.run.specs.laws.RowBits.{or_left, or_right, joined_bit}
-use Rattle.run.specs.laws.Alive.{last_leader, flow, flow_reads, before as liveAt, after as liveOut, dead, stays, reads, written, whole, whole_after, Analysed, before_flow, whole_flow, after_last, after_inner, at_end}
+use Rattle.run.specs.laws.Alive.{last_leader, flow, flow_reads, before as liveAt, after as liveOut, dead, stays, reads, written, whole, Analysed, before_flow, whole_flow, after_last, after_inner, at_end}
 
 -- a truth value of two
 either : (a b : Bool) → (a || b) ≡ true → (a ≡ true) ⊎ (b ≡ true)

@@ -1,6 +1,6 @@
 -- A result that lies at the front of a buffer is read back.
 -- Assumes nothing.
-use Rattle.std.specs.Prelude.{◌≡◌, refl, true, ℕ, suc, ◌+◌, ◌*◌, ◌^◌, ◌≤◌, ◌<◌, get_or, take, drop}
+use Rattle.std.specs.Prelude.{◌≡◌, refl, true, ℕ, suc, ◌*◌, ◌^◌, ◌≤◌, ◌<◌, get_or, take, drop}
 use Rattle.std.proofs.Common.{sym, ◌∙◌, arith, take_at, drop_at, length-take-le, ext_get_or}
 use Rattle.std.proofs.Math.Path.{ap}
 use mathlib.Core.List.{List, [], ◌∷◌, ◌++◌, append_assoc}

@@ -3,7 +3,7 @@
 -- Assumes nothing.
 use Rattle.std.proofs.Math.Path.{◌≡◌, refl, ap₂}
 use Rattle.std.proofs.Common.{sym, ap, ◌∙◌, arith, eqb-true, eq-eqb, ne_eqb}
-use Rattle.std.specs.Prelude.{Bool, ◌&&◌, ◌∷◌, ℕ, suc, ◌^◌, ◌<◌, eqb}
+use Rattle.std.specs.Prelude.{Bool, ◌&&◌, ℕ, suc, ◌^◌, ◌<◌, eqb}
 use Rattle.std.proofs.Math.Bool.{true, false, cond}
 use Rattle.std.proofs.lemmas.Bool.{false≢true}
 use Rattle.std.proofs.Math.Option.{some}

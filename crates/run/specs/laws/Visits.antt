@@ -20,7 +20,7 @@ use Rattle.pc_map.specs.Relocate.{relocate, retain_from}
 use Rattle.run.specs.System.{System, after, Same}
 use Rattle.run.specs.laws.System.{same_trans}
 use Rattle.run.specs.Machine.{Event, Way, World, Program, State, at, over, system, SameRuns}
-use Rattle.run.specs.Visits.{Noted, noted, note_step, noting, visit, visiting, noted_at, SameVisits}
+use Rattle.run.specs.Visits.{Noted, note_step, noting, visit, visiting, noted_at, SameVisits}
 
 -- ---- notes left out
 

@@ -1,9 +1,8 @@
-use mathlib.Core.Path.{◌≡◌, refl, sym, ◌∙◌}
-use Prim.Native.Nat.{ℕ, ◌-◌, ◌/◌}
+use mathlib.Core.Path.{refl, ◌∙◌}
+use Prim.Native.Nat.{◌-◌, ◌/◌}
 use native.Mathlib.Omega.{arith}
 use Rattle.unit.specs.Size.{header_size}
 use Rattle.short.specs.laws.Digits.{at_header, at_code, at_zero}
-use borrow.Author.Rules.{rules}
 use Rattle.short.proofs.byte.Goals as goal
 
 pub returns-then-i-lt-HEADER : goal.returns-then-i-lt-HEADER

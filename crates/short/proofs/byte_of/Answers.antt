@@ -1,7 +1,6 @@
 use mathlib.Core.Path.{◌≡◌}
 use native.Mathlib.Nat.{div-one}
 use native.Mathlib.Omega.{arith}
-use borrow.Author.Rules.{rules}
 use Rattle.words.specs.laws.Keys.{past}
 use Prim.Native.Nat.{zero-le}
 use Rattle.short.proofs.byte_of.Goals as goal

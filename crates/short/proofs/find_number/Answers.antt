@@ -1,13 +1,10 @@
-use mathlib.Core.Path.{◌≡◌, sym, ap, ◌∙◌}
-use mathlib.Core.Bool.{true, false, true≢false}
-use Prim.Native.Nat.{ℕ, ◌+◌, ◌<◌}
+use mathlib.Core.Path.{sym, ◌∙◌}
+use mathlib.Core.Bool.{true≢false}
+use Prim.Native.Nat.{◌+◌, ◌<◌}
 use native.Mathlib.Omega.{arith}
-use borrow.Author.Tests.{not-true, not-false}
-use Rattle.short.specs.Short.{HasNumber, first_of, short_count}
+use Rattle.short.specs.Short.{short_count}
 use Rattle.short.specs.laws.Ranks.{numbered}
-use Rattle.short.specs.declared.Found.TheVariants.{At}
 use Rattle.short.proofs.Finding.{Candidate, no_length, found, not_found}
-use borrow.Author.Rules.{rules}
 use Rattle.short.proofs.find_number.Goals as goal
 use Rattle.short.proofs.find_number.Tie as tie
 use Rattle.short.proofs.find_number.Lts

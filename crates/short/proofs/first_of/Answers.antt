@@ -1,4 +1,4 @@
-use borrow.Author.Tests.{eq-eqb, ne_eqb}
+use borrow.Author.Tests.{ne_eqb}
 use Rattle.short.specs.Short.{first_of}
 use Rattle.short.proofs.first_of.Goals as goal
 

@@ -5,7 +5,6 @@ use native.Mathlib.Omega.{arith}
 use lib.ListN.{get_or}
 use Rattle.unit.specs.Size.{header_size, instruction_size, metadata_size}
 use Rattle.short.specs.Short.{header_words, unit_size}
-use borrow.Author.Rules.{rules}
 use Rattle.short.proofs.header_word.Goals as goal
 
 -- the words by the unit's end

@@ -1,14 +1,7 @@
-use mathlib.Core.Path.{◌≡◌, refl, sym, ◌∙◌}
-use mathlib.Core.Bool.{Bool, true, false}
+use mathlib.Core.Path.{◌≡◌}
 use Prim.Native.Nat.{ℕ, ◌-◌, ◌≤◌, ◌<◌}
-use native.Mathlib.Omega.{arith}
-use lib.Dec.{ltb}
-use borrow.Author.Tests.{ltb-true, ltb-false}
-use borrow.Author.Count.{below_none, below_more}
 use Rattle.instruction.specs.Instruction.{to_word}
 use Rattle.short.specs.Short.{short_at}
-use Rattle.short.specs.laws.Words.{distinct}
-use borrow.Author.Rules.{rules}
 use Rattle.short.proofs.index.Given as goal
 
 -- no instruction below d has the word

@@ -1,14 +1,7 @@
-use mathlib.Core.Path.{◌≡◌, refl, sym, ap, ◌∙◌}
-use mathlib.Core.Bool.{true, false, true≢false}
-use mathlib.Core.List.{List}
+use mathlib.Core.Path.{◌≡◌}
 use Prim.Native.Nat.{ℕ, ◌-◌, ◌≤◌, ◌<◌}
-use native.Mathlib.Omega.{arith}
 use lib.ListN.{length, get_or}
-use lib.Seq.{ext_get_or}
-use borrow.Author.Count.{below_none, below_more}
 use Rattle.short.specs.Short.{unit_at}
-use Rattle.short.specs.laws.Digits.{unit_at_long}
-use borrow.Author.Rules.{rules}
 use Rattle.short.proofs.is_unit_of.Given as goal
 
 -- the bytes below i are the unit's

@@ -1,11 +1,8 @@
-use mathlib.Core.Path.{◌≡◌, refl}
-use Prim.Native.Nat.{ℕ, ◌-◌}
+use mathlib.Core.Path.{refl}
 use native.Mathlib.Omega.{arith}
-use lib.ListN.{length}
 use Rattle.short.specs.Short.{first_of}
 use Rattle.short.specs.laws.Ranks.{parts}
-use Rattle.short.proofs.Making.{Known, Written, none_made, few, first_below, short_made, unit_made, written_long, written_more, none_written}
-use borrow.Author.Rules.{rules}
+use Rattle.short.proofs.Making.{Known, none_made, few, first_below, short_made, unit_made, written_long, written_more, none_written}
 use Rattle.short.proofs.make_unit.Goals as goal
 use Rattle.short.proofs.make_unit.Tie as tie
 use Rattle.short.proofs.make_unit.Lts

@@ -1,11 +1,5 @@
-use mathlib.Core.Path.{◌≡◌, refl}
-use Prim.Native.Nat.{ℕ, ◌-◌}
-use native.Mathlib.Omega.{arith}
-use lib.ListN.{length}
-use Rattle.short.specs.Short.{first_of}
-use Rattle.short.specs.laws.Ranks.{parts}
-use Rattle.short.proofs.Making.{Known, Written, none_made, few, first_below, short_made, unit_made, written_long, written_more, none_written}
-use borrow.Author.Rules.{rules}
+use Prim.Native.Nat.{◌-◌}
+use Rattle.short.proofs.Making.{Written}
 use Rattle.short.proofs.make_unit.Given as goal
 
 abbrev pub invariant-loop-i : goal.invariant-loop-i

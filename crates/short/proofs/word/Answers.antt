@@ -1,6 +1,5 @@
 use mathlib.Core.Path.{ap, ◌∙◌}
 use Rattle.instruction.specs.Instruction.{to_word}
-use borrow.Author.Rules.{rules}
 use Rattle.short.proofs.word.Goals as goal
 
 pub returns : goal.returns

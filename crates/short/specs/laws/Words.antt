@@ -1,7 +1,7 @@
 -- The words of the 24 instructions: they fit 64 bits, and no two are the same.
 -- Assumes nothing.
-use Rattle.std.specs.Prelude.{◌≡◌, refl, Bool, true, false, cond, ◌||◌, not, ℕ, ◌+◌, ◌^◌, ◌<◌, eqb, ltb}
-use Rattle.std.proofs.Common.{sym, ◌∙◌, arith, eqb-true, eq-eqb, ltb-true}
+use Rattle.std.specs.Prelude.{◌≡◌, refl, true, cond, ℕ, ◌^◌, ◌<◌, eqb, ltb}
+use Rattle.std.proofs.Common.{eqb-true, eq-eqb, ltb-true}
 use Rattle.words.specs.Lists.{every}
 use Rattle.words.specs.laws.Lists.{every_at}
 use Rattle.instruction.specs.Instruction.{to_word}

@@ -2,7 +2,7 @@
 -- Assumes nothing.
 use Rattle.std.specs.Prelude.{◌≡◌, ℕ, suc, ◌%◌, ◌^◌, Bool, true, false, cond, List, [], ◌∷◌, ◌==◌, slice_index}
 use Rattle.std.proofs.Math.Path.{refl, ap}
-use Rattle.std.proofs.Common.{sym, ◌∙◌}
+use Rattle.std.proofs.Common.{◌∙◌}
 use Rattle.std.proofs.Math.Option.{Option, none, some}
 use Rattle.instruction.specs.Opcode as op
 use Rattle.instruction.specs.declared.Instruction.{Instruction}
@@ -11,10 +11,9 @@ use Rattle.instruction.specs.declared.Class.TheVariants.{Hint, LoadInt, LoadCons
 use Rattle.instruction.specs.Instruction.{plain, with_imm32, class}
 use Rattle.effects.specs.Shape.{Sections, Cell}
 use Rattle.values.specs.Fold.{fits_imm32}
-use Rattle.values.specs.Values.{Values, Expression, empty, value_of, expression_in, lowest_slot}
-use Rattle.values.specs.Number.{Numbered, Rule, stays, held_or_stays, fold_unary, fold_binary, is_scalar, stored, cleared, copy_or_stay, copied, folded, by_value_with, number_unary_with, number_binary_with, number_by_with, number_with, number, number_from, number_from_with, number_code, number_code_with}
+use Rattle.values.specs.Values.{Values, Expression, empty, value_of, lowest_slot}
+use Rattle.values.specs.Number.{Numbered, stays, held_or_stays, fold_unary, fold_binary, is_scalar, stored, cleared, copy_or_stay, copied, folded, by_value_with, number_unary_with, number_binary_with, number_by_with, number, number_from, number_from_with, number_code, number_code_with}
 use Rattle.values.specs.laws.Folded.{expression_of}
-use Rattle.values.specs.declared.Atom.{Atom}
 use Rattle.values.specs.declared.Atom.TheVariants.{Integer}
 
 -- the known integer that an instruction folds to

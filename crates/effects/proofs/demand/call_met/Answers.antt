@@ -3,7 +3,6 @@ use native.Mathlib.Omega.{arith}
 use borrow.Author.Tests.{ne_eqb, le-ltb}
 use Rattle.effects.specs.Shape.{met}
 use Rattle.effects.specs.laws.Form.{demand_at}
-use borrow.Author.Rules.{rules}
 use Rattle.effects.proofs.demand.call_met.Goals as goal
 
 pub returns-in-16 : goal.returns-in-16

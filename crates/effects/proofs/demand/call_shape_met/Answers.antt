@@ -1,5 +1,4 @@
 use Rattle.effects.specs.Shape.{met}
-use borrow.Author.Rules.{rules}
 use Rattle.effects.proofs.demand.call_shape_met.Goals as goal
 
 pub returns-then-call_shape_is_closure : goal.returns-then-call_shape_is_closure

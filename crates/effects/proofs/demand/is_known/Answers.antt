@@ -1,5 +1,4 @@
 use Rattle.effects.specs.Shape.{is_known}
-use borrow.Author.Rules.{rules}
 use Rattle.effects.proofs.demand.is_known.Goals as goal
 
 pub returns-in-Returns : goal.returns-in-Returns

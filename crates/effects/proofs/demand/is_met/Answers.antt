@@ -1,7 +1,6 @@
 use borrow.Author.Tests.{ne_eqb, lt-ltb}
 use Rattle.effects.specs.Shape.{met}
 use Rattle.effects.specs.laws.Form.{demand_at}
-use borrow.Author.Rules.{rules}
 use Rattle.effects.proofs.demand.is_met.Goals as goal
 
 pub returns-then-demand-eq0 : goal.returns-then-demand-eq0

@@ -1,5 +1,4 @@
 use Rattle.effects.specs.Shape.{is_there}
-use borrow.Author.Rules.{rules}
 use Rattle.effects.proofs.demand.is_there.Goals as goal
 
 pub returns-in-Slots : goal.returns-in-Slots

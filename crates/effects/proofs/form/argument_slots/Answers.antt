@@ -1,5 +1,4 @@
 use Rattle.effects.specs.Shape.{value}
-use borrow.Author.Rules.{rules}
 use Rattle.effects.proofs.form.argument_slots.Goals as goal
 
 pub returns-then-call_shape_is_closure : goal.returns-then-call_shape_is_closure

@@ -3,7 +3,6 @@ use lib.ListN.{get_or-eq_default}
 use Rattle.effects.specs.Shape.{range_of, applies, value}
 use Rattle.effects.specs.laws.Form.{form_at, forms, no_part}
 use Rattle.words.specs.laws.Keys.{past}
-use borrow.Author.Rules.{rules}
 use Rattle.effects.proofs.form.call_range.Goals as goal
 
 pub returns-in-29 : goal.returns-in-29

@@ -1,5 +1,4 @@
 use Rattle.effects.specs.Shape.{extern_slots}
-use borrow.Author.Rules.{rules}
 use Rattle.effects.proofs.form.extern_slots.Goals as goal
 
 pub returns-in-Returns : goal.returns-in-Returns

@@ -1,5 +1,4 @@
 use Rattle.effects.specs.laws.Plain.{field_slot}
-use borrow.Author.Rules.{rules}
 use Rattle.effects.proofs.form.field.Goals as goal
 
 pub returns : goal.returns

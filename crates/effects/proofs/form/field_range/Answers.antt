@@ -3,7 +3,6 @@ use native.Mathlib.Nat.{add-zero}
 use Rattle.effects.specs.Shape.{range_of, applies, value}
 use Rattle.effects.specs.laws.Form.{form_at, forms}
 use Rattle.words.specs.laws.Keys.{past, only}
-use borrow.Author.Rules.{rules}
 use Rattle.effects.proofs.form.field_range.Goals as goal
 use Rattle.effects.proofs.form.field_range.Goals.{Start}
 

@@ -5,7 +5,6 @@ use Rattle.words.specs.laws.Word.{halves}
 use Rattle.effects.specs.Shape.{range_of, applies, value}
 use Rattle.effects.specs.laws.Form.{form_at, forms}
 use Rattle.words.specs.laws.Keys.{past, only}
-use borrow.Author.Rules.{rules}
 use Rattle.effects.proofs.form.layout_range.Goals as goal
 use Rattle.effects.proofs.form.layout_range.Goals.{Start}
 

@@ -1,4 +1,3 @@
-use borrow.Author.Rules.{rules}
 use Rattle.effects.proofs.form.range_of.Goals as goal
 
 pub returns-then-form-lt3 : goal.returns-then-form-lt3

@@ -1,5 +1,4 @@
 use Rattle.effects.specs.Shape.{return_slots}
-use borrow.Author.Rules.{rules}
 use Rattle.effects.proofs.form.return_slots.Goals as goal
 
 pub returns-in-Slots : goal.returns-in-Slots

@@ -1,7 +1,6 @@
 use mathlib.Core.Path.{◌∙◌}
 use native.Mathlib.Omega.{arith}
 use Rattle.instruction.specs.laws.Instruction.{Fields, of_to}
-use borrow.Author.Rules.{rules}
 use Rattle.effects.proofs.form.slot.Goals as goal
 use Rattle.effects.proofs.form.slot.Goals.{Start}
 

@@ -1,5 +1,4 @@
 use Rattle.effects.specs.laws.Plain.{slot_form}
-use borrow.Author.Rules.{rules}
 use Rattle.effects.proofs.form.slot_range.Goals as goal
 
 pub returns : goal.returns

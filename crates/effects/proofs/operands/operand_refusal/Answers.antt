@@ -1,14 +1,12 @@
 use mathlib.Core.Path.{◌≡◌, sym, ◌∙◌}
 use mathlib.Core.Bool.{true}
 use native.Mathlib.Omega.{arith}
-use borrow.Author.Tests.{not-false}
 use Rattle.instruction.specs.laws.Class.{number_below}
 use Rattle.instruction.specs.Instruction.{of_word, class}
 use Rattle.instruction.specs.laws.Instruction.{word_fields}
 use Rattle.effects.specs.Shape.{Cell, Tables, tables_of}
 use Rattle.effects.specs.laws.Cells.{cell_of}
 use Rattle.effects.specs.laws.Single.{is_single, single_passes, single_outside}
-use borrow.Author.Rules.{rules}
 use Rattle.effects.proofs.operands.operand_refusal.Goals as goal
 use Rattle.effects.proofs.operands.operand_refusal.Goals.{Else-not-is_single}
 

@@ -1,6 +1,5 @@
 use mathlib.Core.Path.{sym}
 use Rattle.effects.specs.laws.Operands.{holds_late, holds_empty, holds_long, holds_sum}
-use borrow.Author.Rules.{rules}
 use Rattle.effects.proofs.operands.range_holds.Goals as goal
 
 pub returns-then-r-gt65535 : goal.returns-then-r-gt65535

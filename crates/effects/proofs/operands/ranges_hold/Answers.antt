@@ -1,10 +1,8 @@
-use borrow.Author.Tests.{not-true, not-false}
 use mathlib.Core.Bool.{true, false, and-false}
 use mathlib.Core.Path.{◌≡◌, sym, ◌∙◌}
 use Rattle.effects.specs.Shape.{Cell, Tables, tables_of}
 use Rattle.effects.specs.Effects.{all_reads, sure_writes, all_of}
 use Rattle.effects.specs.laws.Operands.{range_holds, all_ranges}
-use borrow.Author.Rules.{rules}
 use Rattle.effects.proofs.operands.ranges_hold.Goals as goal
 use Rattle.effects.proofs.operands.ranges_hold.Goals.{Start}
 

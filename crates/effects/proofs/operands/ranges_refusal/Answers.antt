@@ -2,11 +2,9 @@ use mathlib.Core.Path.{◌≡◌, sym, ◌∙◌}
 use mathlib.Core.Bool.{true, false}
 use mathlib.Core.List.{◌++◌}
 use native.Mathlib.Omega.{arith}
-use borrow.Author.Tests.{not-true, not-false}
 use Rattle.effects.specs.Shape.{Cell, Tables, tables_of}
 use Rattle.effects.specs.Effects.{all_reads, writes, demands_met, all_of}
 use Rattle.effects.specs.laws.Operands.{slots, range_holds, cases_inside, refused_demand, not_refused, refused_within, refused_fit}
-use borrow.Author.Rules.{rules}
 use Rattle.effects.proofs.operands.ranges_refusal.Goals as goal
 
 pub returns-then-not-demands_met : goal.returns-then-not-demands_met

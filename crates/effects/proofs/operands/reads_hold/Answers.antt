@@ -1,13 +1,6 @@
-use borrow.Author.Tests.{not-true, not-false}
 use mathlib.Core.Path.{sym, ap, ◌∙◌}
-use Prim.Native.Nat.{◌-◌}
-use lib.ListN.{get_or}
-use Rattle.words.specs.laws.Every.{Passed, none_passed, more_passed, all_passed, one_failed}
-use Rattle.effects.specs.Shape.{tables_of}
-use Rattle.effects.specs.Effects.{all_reads}
-use Rattle.effects.specs.laws.Form.{empty_range}
+use Rattle.words.specs.laws.Every.{none_passed, more_passed, all_passed, one_failed}
 use Rattle.effects.specs.laws.Operands.{range_holds, every_range}
-use borrow.Author.Rules.{rules}
 use Rattle.effects.proofs.operands.reads_hold.Goals as goal
 use Rattle.effects.proofs.operands.reads_hold.Goals.{After-read_count-n, After-read_range}
 

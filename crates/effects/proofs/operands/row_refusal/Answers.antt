@@ -1,6 +1,5 @@
 use mathlib.Core.Path.{sym, ◌∙◌}
 use native.Mathlib.Omega.{arith}
-use borrow.Author.Tests.{not-false}
 use Rattle.instruction.specs.Instruction.{of_word}
 use Rattle.instruction.specs.laws.Instruction.{word_fields}
 use Rattle.effects.specs.Shape.{Cell, Tables, tables_of}

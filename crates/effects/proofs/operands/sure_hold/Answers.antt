@@ -1,14 +1,6 @@
-use borrow.Author.Tests.{not-true, not-false}
 use mathlib.Core.Path.{sym, ap, ◌∙◌}
-use mathlib.Core.List.{List}
-use Prim.Native.Nat.{ℕ, ◌-◌}
-use lib.ListN.{get_or}
-use Rattle.words.specs.laws.Every.{Passed, none_passed, more_passed, all_passed, one_failed}
-use Rattle.effects.specs.Shape.{tables_of}
-use Rattle.effects.specs.Effects.{sure_writes}
-use Rattle.effects.specs.laws.Form.{empty_range}
+use Rattle.words.specs.laws.Every.{none_passed, more_passed, all_passed, one_failed}
 use Rattle.effects.specs.laws.Operands.{range_holds, every_range}
-use borrow.Author.Rules.{rules}
 use Rattle.effects.proofs.operands.sure_hold.Goals as goal
 use Rattle.effects.proofs.operands.sure_hold.Goals.{After-sure_count-n, After-sure_range}
 

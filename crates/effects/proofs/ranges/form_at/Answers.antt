@@ -1,5 +1,4 @@
 use Rattle.effects.specs.laws.TableRows.{pow_bytes}
-use borrow.Author.Rules.{rules}
 use Rattle.effects.proofs.ranges.form_at.Goals as goal
 
 pub returns : goal.returns

@@ -2,7 +2,6 @@ use mathlib.Core.Path.{sym, ◌∙◌}
 use native.Mathlib.Omega.{arith}
 use Rattle.effects.specs.Shape.{Cell}
 use Rattle.effects.specs.laws.Ranges.{perhaps_select, perhaps_next, perhaps_none, case_writes_long}
-use borrow.Author.Rules.{rules}
 use Rattle.effects.proofs.ranges.perhaps_count.Goals as goal
 
 pub returns-in-105 : goal.returns-in-105

@@ -1,12 +1,10 @@
-use mathlib.Core.Path.{◌≡◌, sym, ◌∙◌}
+use mathlib.Core.Path.{◌≡◌}
 use mathlib.Core.List.{[]}
-use Prim.Native.Nat.{◌<◌}
 use native.Mathlib.Omega.{arith}
 use lib.ListN.{length}
 use Rattle.effects.specs.Shape.{Cell, Tables, tables_of}
 use Rattle.effects.specs.Effects.{perhaps_writes}
 use Rattle.effects.specs.laws.Ranges.{perhaps_select, perhaps_only, case_writes_long}
-use borrow.Author.Rules.{rules}
 use Rattle.effects.proofs.ranges.perhaps_range.Goals as goal
 use Rattle.effects.proofs.ranges.perhaps_range.Goals.{Start}
 

@@ -1,6 +1,5 @@
 use mathlib.Core.Path.{sym}
 use Rattle.effects.specs.laws.Ranges.{sure_count_row}
-use borrow.Author.Rules.{rules}
 use Rattle.effects.proofs.ranges.sure_count.Goals as goal
 
 pub returns : goal.returns

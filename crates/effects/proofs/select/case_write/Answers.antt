@@ -1,6 +1,5 @@
 use borrow.Author.Tests.{eq-eqb, ne_eqb}
 use Rattle.effects.specs.laws.Ranges.{case_writes_at}
-use borrow.Author.Rules.{rules}
 use Rattle.effects.proofs.select.case_write.Goals as goal
 
 pub returns-then-x-eq0 : goal.returns-then-x-eq0

@@ -3,7 +3,6 @@ use Rattle.words.specs.Lists.{every}
 use Rattle.instruction.specs.Class.{named_class, number_of}
 use Rattle.instruction.specs.laws.Class.{class_bit}
 use Rattle.effects.specs.laws.Single.{is_single}
-use borrow.Author.Rules.{rules}
 use Rattle.effects.proofs.single.is_single.Goals as goal
 
 pub returns : goal.returns

@@ -1,4 +1,3 @@
-use borrow.Author.Rules.{rules}
 use Rattle.effects.proofs.single.is_within.Goals as goal
 
 pub returns : goal.returns

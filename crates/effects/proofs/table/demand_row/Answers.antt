@@ -9,7 +9,6 @@ use Rattle.words.specs.Lists.{is_in, every}
 use Rattle.words.specs.laws.Lists.{every_at}
 use Rattle.effects.specs.laws.Form.{demand_rows, demand_row_of}
 use Rattle.words.specs.laws.Keys.{none_of}
-use borrow.Author.Rules.{rules}
 use Rattle.effects.proofs.table.demand_row.Goals as goal
 
 -- the opcodes with an arm, the last first

@@ -2,7 +2,6 @@ use Prim.Native.Nat.{zero-le}
 use lib.ListN.{get_or-eq_default}
 use Rattle.effects.specs.laws.Form.{rows}
 use Rattle.words.specs.laws.Keys.{past}
-use borrow.Author.Rules.{rules}
 use Rattle.effects.proofs.table.row.Goals as goal
 
 pub returns-in_default : goal.returns-in_default

@@ -1,4 +1,4 @@
-use Rattle.std.proofs.Common.{◌≡◌, ℕ, ◌-◌, ◌<◌, List, length, get_or, sym, refl, ◌∙◌, arith, length-set, rules}
+use Rattle.std.proofs.Common.{◌<◌, length, get_or, sym, refl, ◌∙◌, arith, length-set}
 use Rattle.flow.specs.laws.Control.{control_inside, at_control, skip_first, skip_next, skip_last}
 use Rattle.flow.specs.laws.Leaders.{Leading, leading_begin, leading_turn, leading_idle, leading_end}
 use Rattle.flow.proofs.block.mark_leaders.Goals as goal

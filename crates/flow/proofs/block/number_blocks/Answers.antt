@@ -1,6 +1,6 @@
-use Rattle.std.proofs.Common.{◌≡◌, ℕ, ◌+◌, ◌-◌, ◌≤◌, get_or, set, ◌∙◌, arith, length-set, rules}
+use Rattle.std.proofs.Common.{◌≡◌, ℕ, ◌+◌, ◌≤◌, get_or, set, ◌∙◌, arith, length-set}
 use Rattle.unit.specs.laws.Region.{starts_at}
-use Rattle.flow.proofs.Numbering.{Buffered, buffered_begin, buffered_few, buffered_flag, buffered_some, buffered_turn, buffered_end}
+use Rattle.flow.proofs.Numbering.{buffered_begin, buffered_few, buffered_flag, buffered_some, buffered_turn, buffered_end}
 use Rattle.flow.proofs.block.number_blocks.Goals as goal
 use Rattle.flow.proofs.block.number_blocks.Tie as tie
 use Rattle.flow.proofs.block.number_blocks.Lts

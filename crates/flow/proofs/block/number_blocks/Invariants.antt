@@ -1,6 +1,5 @@
-use Rattle.std.proofs.Common.{◌≡◌, ℕ, ◌+◌, ◌-◌, ◌≤◌, get_or, set, ◌∙◌, arith, length-set, rules}
-use Rattle.unit.specs.laws.Region.{starts_at}
-use Rattle.flow.proofs.Numbering.{Buffered, buffered_begin, buffered_few, buffered_flag, buffered_some, buffered_turn, buffered_end}
+use Rattle.std.proofs.Common.{◌-◌}
+use Rattle.flow.proofs.Numbering.{Buffered}
 use Rattle.flow.proofs.block.number_blocks.Given as goal
 
 abbrev pub invariant-loop-p : goal.invariant-loop-p

@@ -1,5 +1,4 @@
-use Rattle.std.proofs.Common.{◌≡◌, ◌<◌, ◌≤◌, true, sym, ◌∙◌, arith, rules}
-use borrow.Author.Tests.{not-true}
+use Rattle.std.proofs.Common.{◌≡◌, ◌<◌, ◌≤◌, true, sym, ◌∙◌, arith}
 use Rattle.instruction.specs.laws.Class.{number_below}
 use Rattle.instruction.specs.Instruction.{class}
 use Rattle.flow.specs.Branch.{branches, target}

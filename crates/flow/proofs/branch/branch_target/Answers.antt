@@ -1,4 +1,4 @@
-use Rattle.std.proofs.Common.{eqb, ◌∙◌, arith, rules}
+use Rattle.std.proofs.Common.{eqb, ◌∙◌, arith}
 use Rattle.flow.specs.laws.BranchLaws.{byte_below, loop_target}
 use Rattle.flow.proofs.branch.branch_target.Goals as goal
 

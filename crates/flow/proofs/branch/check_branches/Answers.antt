@@ -1,13 +1,11 @@
-use Rattle.std.proofs.Common.{◌≡◌, ℕ, ◌-◌, ◌<◌, false, cond, List, length, get_or, refl, arith, rules}
+use Rattle.std.proofs.Common.{◌≡◌, ℕ, ◌<◌, false, List, length, get_or, refl, arith}
 use Rattle.instruction.specs.Instruction.{class, of_word}
-use Rattle.unit.specs.Refusal.{branch_outside}
-use Rattle.effects.specs.Shape.{Cell}
 use Rattle.effects.specs.laws.Cells.{cell_of, cells_by, cells_long}
 use Rattle.flow.specs.laws.Block.{no_branch}
-use Rattle.flow.specs.Branch.{branch_inside, branch_check_in}
+use Rattle.flow.specs.Branch.{branch_check_in}
 use Rattle.flow.specs.laws.BranchLaws.{inside_none}
 use Rattle.flow.specs.laws.Control.{is_control, ends_none, control_inside}
-use Rattle.flow.specs.laws.ControlSweep.{Swept, swept_first, swept_none, swept_later, swept_here}
+use Rattle.flow.specs.laws.ControlSweep.{swept_first, swept_none, swept_later, swept_here}
 use Rattle.flow.proofs.branch.check_branches.Invariants.{branch_test}
 use Rattle.flow.proofs.branch.check_branches.Goals as goal
 use Rattle.flow.proofs.branch.check_branches.Tie as tie

@@ -1,13 +1,9 @@
-use Rattle.std.proofs.Common.{◌≡◌, ℕ, ◌-◌, ◌<◌, false, cond, List, length, get_or, refl, arith, rules}
-use Rattle.instruction.specs.Instruction.{class, of_word}
+use Rattle.std.proofs.Common.{◌≡◌, ℕ, ◌-◌, cond, List, length}
 use Rattle.unit.specs.Refusal.{branch_outside}
 use Rattle.effects.specs.Shape.{Cell}
-use Rattle.effects.specs.laws.Cells.{cell_of, cells_by, cells_long}
-use Rattle.flow.specs.laws.Block.{no_branch}
-use Rattle.flow.specs.Branch.{branch_inside, branch_check_in}
-use Rattle.flow.specs.laws.BranchLaws.{inside_none}
-use Rattle.flow.specs.laws.Control.{is_control, ends_none, control_inside}
-use Rattle.flow.specs.laws.ControlSweep.{Swept, swept_first, swept_none, swept_later, swept_here}
+use Rattle.effects.specs.laws.Cells.{cells_by}
+use Rattle.flow.specs.Branch.{branch_inside}
+use Rattle.flow.specs.laws.ControlSweep.{Swept}
 use Rattle.flow.proofs.branch.check_branches.Given as goal
 
 -- the test of `branch_check_in`

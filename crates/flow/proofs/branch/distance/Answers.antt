@@ -1,4 +1,3 @@
-use Rattle.std.proofs.Common.{rules}
 use Rattle.flow.proofs.branch.distance.Goals as goal
 
 pub returns-then-looped : goal.returns-then-looped

@@ -1,4 +1,4 @@
-use Rattle.std.proofs.Common.{refl, arith, rules}
+use Rattle.std.proofs.Common.{refl, arith}
 use Rattle.words.specs.Lists.{every}
 use Rattle.instruction.specs.Class.{named_class}
 use Rattle.instruction.specs.laws.Class.{class_bit}

@@ -1,15 +1,15 @@
-use Rattle.std.proofs.Common.{◌≡◌, ℕ, ◌-◌, ◌<◌, length, get_or, ap, ◌∙◌, arith, rules}
+use Rattle.std.proofs.Common.{◌≡◌, ℕ, ◌<◌, length, get_or, ap, ◌∙◌, arith}
 use borrow.Rule.Slice.PartMut.{mid_of}
 use Rattle.words.specs.laws.Regions.{mid_long}
 use Rattle.instruction.specs.Instruction.{class, of_word}
 use Rattle.effects.specs.Shape.{tables_of}
 use Rattle.effects.specs.Check.{operand_refusal, operand_check}
 use Rattle.effects.specs.laws.Cells.{cell_of}
-use Rattle.effects.specs.laws.Unrefused.{Unrefused, refused_first, refused_none, refused_later, refused_here}
+use Rattle.effects.specs.laws.Unrefused.{refused_first, refused_none, refused_later, refused_here}
 use Rattle.flow.specs.laws.Control.{is_control}
 use Rattle.flow.specs.laws.Listing.{check_of, ListedBy}
 use Rattle.flow.specs.laws.BranchLaws.{byte_below}
-use Rattle.flow.proofs.Controlling.{Controlling, controlling_begin, controlling_word, controlling_turn, controlling_end}
+use Rattle.flow.proofs.Controlling.{controlling_begin, controlling_word, controlling_turn, controlling_end}
 use Rattle.flow.proofs.control.check_operands.Goals as goal
 use Rattle.flow.proofs.control.check_operands.Tie as tie
 use Rattle.flow.proofs.control.check_operands.Lts

@@ -1,11 +1,7 @@
-use Rattle.std.proofs.Common.{◌≡◌, ℕ, ◌-◌, ◌<◌, false, eqb, length, get_or, arith, rules}
-use mathlib.Core.Bool.{and-false}
-use Rattle.instruction.specs.Instruction.{class, of_word}
-use Rattle.effects.specs.laws.Cells.{cell_of, cells_by, cells_long}
-use Rattle.flow.specs.laws.Control.{is_control, control_inside, no_loop_hint}
+use Rattle.std.proofs.Common.{◌-◌, length}
+use Rattle.effects.specs.laws.Cells.{cells_by}
 use Rattle.flow.specs.laws.Hints.{loop_test}
-use Rattle.flow.specs.Loop.{loop_check}
-use Rattle.flow.specs.laws.ControlSweep.{Swept, swept_first, swept_none, swept_later, swept_here}
+use Rattle.flow.specs.laws.ControlSweep.{Swept}
 use Rattle.flow.proofs.hint.check_loops.Given as goal
 
 abbrev pub invariant-loop-k : goal.invariant-loop-k

@@ -1,6 +1,5 @@
-use Rattle.std.proofs.Common.{◌≡◌, get_or, sym, ap, ◌∙◌, rules, ne_eqb}
+use Rattle.std.proofs.Common.{◌≡◌, get_or, sym, ap, ◌∙◌, ne_eqb}
 use mathlib.Core.Bool.{and-false}
-use borrow.Author.Tests.{not-true, not-false}
 use Rattle.instruction.specs.Instruction.{of_word}
 use Rattle.flow.specs.Loop.{is_loop_hint}
 use Rattle.flow.proofs.hint.loop_refusal.Goals as goal

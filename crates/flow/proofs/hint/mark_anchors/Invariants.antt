@@ -1,6 +1,5 @@
-use Rattle.std.proofs.Common.{◌≡◌, ℕ, ◌+◌, ◌-◌, ◌<◌, length, get_or, ◌∙◌, arith, rules}
-use Rattle.flow.specs.laws.Control.{control_inside, at_control, skip_first, skip_next, skip_last}
-use Rattle.flow.proofs.Anchored.{Anchored, anchored_begin, zeroed_long, zeroed_outside, anchored_turn, anchored_idle, anchored_end}
+use Rattle.std.proofs.Common.{◌-◌, length, get_or}
+use Rattle.flow.proofs.Anchored.{Anchored}
 use Rattle.flow.proofs.hint.mark_anchors.Given as goal
 
 abbrev pub invariant-loop-k : goal.invariant-loop-k

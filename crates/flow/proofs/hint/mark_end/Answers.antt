@@ -1,4 +1,4 @@
-use Rattle.std.proofs.Common.{◌≡◌, ℕ, Bool, true, cond, ◌&&◌, eqb, List, [], ◌∷◌, rules}
+use Rattle.std.proofs.Common.{◌≡◌, ℕ, Bool, true, cond, ◌&&◌, eqb, List, [], ◌∷◌}
 use Rattle.instruction.specs.declared.Instruction.{Instruction}
 use Rattle.unit.specs.declared.Metadata.{Metadata}
 use Rattle.flow.specs.Loop.{is_loop_hint}

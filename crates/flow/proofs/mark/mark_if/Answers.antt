@@ -1,4 +1,4 @@
-use Rattle.std.proofs.Common.{sym, rules}
+use Rattle.std.proofs.Common.{sym}
 use lib.Seq.{set_out}
 use Rattle.flow.specs.Reach.{mark_all}
 use Rattle.flow.proofs.mark.mark_if.Goals as goal

@@ -1,4 +1,4 @@
-use Rattle.std.proofs.Common.{◌≡◌, ℕ, ◌<◌, Bool, not, ◌&&◌, ltb, leb, refl, arith, rules}
+use Rattle.std.proofs.Common.{◌≡◌, ℕ, ◌<◌, Bool, not, ◌&&◌, ltb, leb, refl, arith}
 use mathlib.Core.Bool.{beq}
 use Rattle.words.specs.Lists.{every}
 use Rattle.words.specs.laws.Lists.{every_at}

@@ -1,12 +1,7 @@
-use Rattle.std.proofs.Common.{◌≡◌, ℕ, ◌+◌, ◌-◌, ◌*◌, ◌≤◌, List, length, sym, refl, ap, ◌∙◌, arith, rules}
-use borrow.Rule.Slice.PartMut.{same_len_mid}
-use Rattle.unit.specs.laws.Region.{stack_end}
-use Rattle.effects.specs.laws.Cells.{cells_by, cells_long}
-use Rattle.flow.specs.Loop.{reached_places}
-use Rattle.flow.specs.Reach.{reached}
+use Rattle.std.proofs.Common.{length}
+use Rattle.effects.specs.laws.Cells.{cells_by}
 use Rattle.flow.specs.laws.Stack.{marks_of, Walked, left}
 use Rattle.flow.specs.laws.Successors.{following}
-use Rattle.flow.proofs.Walked.{first_long, first_outside, walked_begin, walked_few, walked_then, walked_end}
 use Rattle.flow.proofs.reach.mark_reached.Given as goal
 
 abbrev pub invariant-loop-sp : goal.invariant-loop-sp

@@ -1,13 +1,8 @@
-use Rattle.std.proofs.Common.{◌≡◌, ℕ, ◌+◌, ◌-◌, ◌*◌, ◌<◌, ◌≤◌, List, [], ◌∷◌, length, get_or, set, sym, ◌∙◌, add-one, arith, length-set, rules, ltb-true}
-use borrow.Rule.Slice.PartMut.{mid_of}
-use Rattle.words.specs.laws.Regions.{mid_long}
-use Rattle.words.specs.laws.Truth.{both}
-use Rattle.instruction.specs.Instruction.{of_word}
-use Rattle.unit.specs.laws.Region.{stack_end}
-use Rattle.effects.specs.laws.Cells.{cell_of, cells_by}
+use Rattle.std.proofs.Common.{◌+◌, length}
+use Rattle.effects.specs.laws.Cells.{cells_by}
 use Rattle.flow.specs.laws.Stack.{marks_of, left}
-use Rattle.flow.specs.laws.Successors.{following, successors_few, following_at, goes_on_lem}
-use Rattle.flow.proofs.Running.{Running, run_begin, run_fits, run_place, run_old, run_free, run_push, run_less, run_next}
+use Rattle.flow.specs.laws.Successors.{following}
+use Rattle.flow.proofs.Running.{Running}
 use Rattle.flow.proofs.reach.mark_run.Given as goal
 
 abbrev pub invariant-loop-work : goal.invariant-loop-work

@@ -1,4 +1,4 @@
-use Rattle.std.proofs.Common.{arith, rules}
+use Rattle.std.proofs.Common.{arith}
 use Rattle.flow.specs.laws.Stack.{push_yes, push_no, push_none}
 use Rattle.flow.proofs.reach.push_if.Goals as goal
 

@@ -1,5 +1,4 @@
 use Rattle.flow.proofs.Pushing.{push_no_hint, push_unsound, push_sound}
-use Rattle.std.proofs.Common.{rules}
 use Rattle.flow.proofs.reach.push_loop.Goals as goal
 
 pub returns-then-is_sound : goal.returns-then-is_sound

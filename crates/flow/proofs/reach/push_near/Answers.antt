@@ -1,4 +1,4 @@
-use Rattle.std.proofs.Common.{◌+◌, eqb, arith, rules}
+use Rattle.std.proofs.Common.{◌+◌, eqb, arith}
 use Rattle.instruction.specs.laws.Class.{number_below}
 use Rattle.flow.specs.laws.BranchLaws.{bit_one}
 use Rattle.flow.specs.laws.Successors.{at_most_one}

@@ -1,4 +1,4 @@
-use Rattle.std.proofs.Common.{arith, rules}
+use Rattle.std.proofs.Common.{arith}
 use Rattle.flow.specs.laws.Successors.{near_few}
 use Rattle.flow.proofs.Pushing.{push_all_lem}
 use Rattle.flow.proofs.reach.push_successors.Goals as goal

@@ -1,15 +1,12 @@
 use mathlib.Core.Path.{◌≡◌, refl, ◌∙◌}
 use mathlib.Core.Logic.{⊎_elim}
-use Prim.Native.Nat.{◌+◌, ◌*◌, ◌-◌, ◌≤◌, ◌<◌}
+use Prim.Native.Nat.{◌+◌, ◌*◌, ◌<◌}
 use native.Mathlib.Omega.{arith}
-use lib.ListN.{length}
 use Rattle.effects.specs.Shape.{Tables, tables_of}
-use Rattle.effects.specs.laws.Cells.{cells_by}
-use Rattle.liveness.specs.laws.SetMemory.{code_words, uses_of, preserved_of, InSums, past_sums, in_sums, sums_turn, same_word, same_code_lem}
-use Rattle.words.specs.laws.Only.{Only, only_none, only_both, same_mid}
+use Rattle.liveness.specs.laws.SetMemory.{past_sums, in_sums, sums_turn, same_word, same_code_lem}
+use Rattle.words.specs.laws.Only.{only_none, only_both, same_mid}
 use Rattle.liveness.specs.laws.Shown.{row_before}
-use Rattle.liveness.specs.laws.Visit.{Summed, summed_begin}
-use borrow.Author.Rules.{rules}
+use Rattle.liveness.specs.laws.Visit.{summed_begin}
 use Rattle.liveness.proofs.block.summarize.Goals as goal
 
 pub loop-b-init : goal.loop-b-init

@@ -1,15 +1,11 @@
-use mathlib.Core.Path.{◌≡◌, refl, ◌∙◌}
-use mathlib.Core.Logic.{⊎_elim}
-use Prim.Native.Nat.{◌+◌, ◌*◌, ◌-◌, ◌≤◌, ◌<◌}
-use native.Mathlib.Omega.{arith}
+use mathlib.Core.Path.{◌≡◌}
+use Prim.Native.Nat.{◌-◌, ◌≤◌}
 use lib.ListN.{length}
-use Rattle.effects.specs.Shape.{Tables, tables_of}
+use Rattle.effects.specs.Shape.{tables_of}
 use Rattle.effects.specs.laws.Cells.{cells_by}
-use Rattle.liveness.specs.laws.SetMemory.{code_words, uses_of, preserved_of, InSums, past_sums, in_sums, sums_turn, same_word, same_code_lem}
-use Rattle.words.specs.laws.Only.{Only, only_none, only_both, same_mid}
-use Rattle.liveness.specs.laws.Shown.{row_before}
-use Rattle.liveness.specs.laws.Visit.{Summed, summed_begin}
-use borrow.Author.Rules.{rules}
+use Rattle.liveness.specs.laws.SetMemory.{code_words, uses_of, preserved_of, InSums}
+use Rattle.words.specs.laws.Only.{Only}
+use Rattle.liveness.specs.laws.Visit.{Summed}
 use Rattle.liveness.proofs.block.summarize.Given as goal
 
 abbrev pub invariant-loop-b : goal.invariant-loop-b

@@ -1,6 +1,6 @@
 use mathlib.Core.Path.{◌≡◌, refl, sym, ◌∙◌}
 use mathlib.Core.Logic.{⊎_elim}
-use Prim.Native.Nat.{ℕ, suc, ◌+◌, ◌-◌, ◌≤◌}
+use Prim.Native.Nat.{suc, ◌+◌, ◌-◌, ◌≤◌}
 use native.Mathlib.Omega.{arith}
 use lib.ListN.{length, get_or}
 use borrow.Rule.Slice.PartMut.{mid_of, put_mid}
@@ -8,9 +8,8 @@ use Rattle.words.specs.laws.Regions.{mid_long}
 use Rattle.effects.specs.Shape.{Tables, tables_of}
 use Rattle.effects.specs.laws.Cells.{cell_of, cells_by}
 use Rattle.liveness.specs.laws.SetMemory.{cell_in}
-use Rattle.words.specs.laws.Only.{At, Either, Only, only_none, only_both, lent_long, both_lent, same_mid}
-use Rattle.liveness.specs.laws.Through.{Summary, summary_begin, summary_turn}
-use borrow.Author.Rules.{rules}
+use Rattle.words.specs.laws.Only.{only_none, only_both, lent_long, both_lent, same_mid}
+use Rattle.liveness.specs.laws.Through.{summary_begin, summary_turn}
 use Rattle.liveness.proofs.block.summarize_block.Goals as goal
 
 pub loop-p-init : goal.loop-p-init

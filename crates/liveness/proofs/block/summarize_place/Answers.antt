@@ -12,7 +12,6 @@ use Rattle.use_def.specs.laws.Touched.{writes_fit_any}
 use Rattle.use_def.specs.laws.SingleSets.{SingleFits, single_fits}
 use Rattle.use_def.specs.laws.BranchSets.{BranchFits, branch_fits}
 use Rattle.liveness.specs.laws.Through.{not_placed, lent_placed}
-use borrow.Author.Rules.{rules}
 use Rattle.liveness.proofs.block.summarize_place.Goals as goal
 use Rattle.liveness.proofs.block.summarize_place.Tie as tie
 use Rattle.liveness.proofs.block.summarize_place.Lts

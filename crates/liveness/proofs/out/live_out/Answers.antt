@@ -12,7 +12,6 @@ use Rattle.use_def.specs.laws.Wordwise.{all_bits}
 use Rattle.liveness.specs.laws.SetMemory.{live_of, start_inside, start_row}
 use Rattle.flow.specs.laws.BranchLaws.{byte_below}
 use Rattle.liveness.specs.laws.Out.{both_bits, place_if, next_place, target_place, target_inside, out_joined}
-use borrow.Author.Rules.{rules}
 use Rattle.liveness.proofs.out.live_out.Goals as goal
 use Rattle.liveness.proofs.out.live_out.Tie as tie
 use Rattle.liveness.proofs.out.live_out.Lts

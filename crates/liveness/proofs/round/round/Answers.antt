@@ -1,15 +1,11 @@
 use mathlib.Core.Path.{◌≡◌, refl, ◌∙◌}
-use mathlib.Core.List.{List}
-use Prim.Native.Nat.{ℕ, ◌+◌, ◌-◌, ◌≤◌, ◌<◌}
+use Prim.Native.Nat.{◌+◌, ◌-◌, ◌<◌}
 use native.Mathlib.Omega.{arith}
-use lib.ListN.{length, get_or}
-use Rattle.effects.specs.Shape.{Sections}
+use lib.ListN.{get_or}
 use Rattle.effects.specs.laws.Cells.{cells_by}
-use Rattle.liveness.specs.Live.{Row}
-use Rattle.liveness.specs.laws.SetMemory.{code_words, uses_of, preserved_of, live_of, InRows, still_ready, visited_then}
-use Rattle.words.specs.laws.Only.{Only, only_none, only_both}
-use Rattle.liveness.specs.laws.Rounding.{Around, Rounding, rounding_begin, rounding_turn, rounding_end}
-use borrow.Author.Rules.{rules}
+use Rattle.liveness.specs.laws.SetMemory.{code_words, uses_of, preserved_of, live_of, still_ready, visited_then}
+use Rattle.words.specs.laws.Only.{only_none, only_both}
+use Rattle.liveness.specs.laws.Rounding.{rounding_begin, rounding_turn, rounding_end}
 use Rattle.liveness.proofs.round.round.Goals as goal
 
 pub loop-b-init : goal.loop-b-init

@@ -1,15 +1,13 @@
-use mathlib.Core.Path.{◌≡◌, refl, ◌∙◌}
+use mathlib.Core.Path.{◌≡◌}
 use mathlib.Core.List.{List}
-use Prim.Native.Nat.{ℕ, ◌+◌, ◌-◌, ◌≤◌, ◌<◌}
-use native.Mathlib.Omega.{arith}
-use lib.ListN.{length, get_or}
+use Prim.Native.Nat.{ℕ, ◌≤◌}
+use lib.ListN.{length}
 use Rattle.effects.specs.Shape.{Sections}
 use Rattle.effects.specs.laws.Cells.{cells_by}
 use Rattle.liveness.specs.Live.{Row}
-use Rattle.liveness.specs.laws.SetMemory.{code_words, uses_of, preserved_of, live_of, InRows, still_ready, visited_then}
-use Rattle.words.specs.laws.Only.{Only, only_none, only_both}
-use Rattle.liveness.specs.laws.Rounding.{Around, Rounding, rounding_begin, rounding_turn, rounding_end}
-use borrow.Author.Rules.{rules}
+use Rattle.liveness.specs.laws.SetMemory.{code_words, uses_of, preserved_of, live_of, InRows}
+use Rattle.words.specs.laws.Only.{Only}
+use Rattle.liveness.specs.laws.Rounding.{Around, Rounding}
 use Rattle.liveness.proofs.round.round.Given as goal
 
 abbrev pub invariant-loop-b : goal.invariant-loop-b

@@ -1,17 +1,14 @@
-use mathlib.Core.Path.{◌≡◌, refl, ◌∙◌}
+use mathlib.Core.Path.{◌≡◌}
 use mathlib.Core.List.{List}
 use Prim.Native.Nat.{ℕ}
-use native.Mathlib.Omega.{arith}
 use lib.ListN.{length}
-use borrow.Author.Tests.{not-true, not-false}
 use Rattle.effects.specs.Shape.{Sections}
 use Rattle.effects.specs.laws.Cells.{cells_by}
 use Rattle.liveness.specs.Live.{Row}
-use Rattle.liveness.specs.laws.SetMemory.{code_words, uses_of, preserved_of, live_of, InRows, still_ready, rows_code, rows_uses, rows_preserved}
-use Rattle.words.specs.laws.Only.{Only, only_none, only_both}
+use Rattle.liveness.specs.laws.SetMemory.{code_words, uses_of, preserved_of, live_of, InRows}
+use Rattle.words.specs.laws.Only.{Only}
 use Rattle.liveness.specs.laws.Rounding.{Around}
-use Rattle.liveness.specs.laws.Solving.{Solving, solving_begin, solving_turn, solving_found, solving_none}
-use borrow.Author.Rules.{rules}
+use Rattle.liveness.specs.laws.Solving.{Solving}
 use Rattle.liveness.proofs.round.solve.Given as goal
 
 abbrev pub invariant-loop-k : goal.invariant-loop-k

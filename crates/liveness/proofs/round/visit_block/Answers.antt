@@ -2,7 +2,6 @@ use Prim.Native.Nat.{◌+◌}
 use native.Mathlib.Omega.{arith}
 use Rattle.liveness.specs.laws.SetMemory.{in_rows, visited}
 use Rattle.liveness.specs.laws.Shown.{row_before}
-use borrow.Author.Rules.{rules}
 use Rattle.liveness.proofs.round.visit_block.Goals as goal
 
 pub overflow_mul-at : goal.overflow_mul-at

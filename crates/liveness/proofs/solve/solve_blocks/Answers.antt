@@ -3,7 +3,6 @@ use mathlib.Core.List.{List}
 use Prim.Native.Nat.{ℕ}
 use Rattle.effects.specs.Shape.{tables_of}
 use Rattle.liveness.specs.laws.Workable.{Workable, Begun, part_blocks, part_starts, part_flags, some_size, zero_long, zero_code, summarizable, ready, begun, rows_none, rows_found}
-use borrow.Author.Rules.{rules}
 use Rattle.liveness.proofs.solve.solve_blocks.Goals as goal
 use Rattle.liveness.proofs.solve.solve_blocks.Tie as tie
 use Rattle.liveness.proofs.solve.solve_blocks.Lts

@@ -7,7 +7,6 @@ use Rattle.effects.specs.Shape.{tables_of}
 use Rattle.liveness.specs.laws.Droppable.{few_words, few_blocks}
 use Rattle.liveness.specs.laws.Stores.{no_words, too_many}
 use Rattle.liveness.specs.laws.Workable.{Workable, workable}
-use borrow.Author.Rules.{rules}
 use Rattle.liveness.proofs.solve.solve_rows.Goals as goal
 use Rattle.liveness.proofs.solve.solve_rows.Tie as tie
 use Rattle.liveness.proofs.solve.solve_rows.Lts

@@ -1,12 +1,10 @@
 use mathlib.Core.Path.{refl, ◌∙◌}
 use mathlib.Core.List.{[]}
 use native.Mathlib.Omega.{arith}
-use borrow.Author.Tests.{not-true, not-false}
 use Rattle.unit.specs.laws.Region.{keep_at}
 use Rattle.liveness.specs.laws.Droppable.{few_words}
 use Rattle.liveness.specs.laws.Stores.{skipped}
 use Rattle.liveness.specs.laws.Workable.{put_itself, sweepable, rows_swept}
-use borrow.Author.Rules.{rules}
 use Rattle.liveness.proofs.stores.drop_dead_stores.Goals as goal
 use Rattle.liveness.proofs.stores.drop_dead_stores.Tie as tie
 use Rattle.liveness.proofs.stores.drop_dead_stores.Lts

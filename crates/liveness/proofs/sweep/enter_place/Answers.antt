@@ -4,7 +4,6 @@ use Rattle.instruction.specs.Instruction.{of_word}
 use Rattle.liveness.specs.laws.SetMemory.{live_of}
 use Rattle.words.specs.laws.Only.{only_none}
 use Rattle.liveness.specs.laws.Sweeping.{entered, not_entered}
-use borrow.Author.Rules.{rules}
 use Rattle.liveness.proofs.sweep.enter_place.Goals as goal
 
 pub returns-then-is_last : goal.returns-then-is_last

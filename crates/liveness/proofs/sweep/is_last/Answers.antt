@@ -4,7 +4,6 @@ use native.Mathlib.Numerals.{add-one}
 use native.Mathlib.Omega.{arith}
 use lib.ListN.{length}
 use borrow.Author.Tests.{eq-eqb, ne_eqb}
-use borrow.Author.Rules.{rules}
 use Rattle.liveness.proofs.sweep.is_last.Goals as goal
 
 pub returns-then-p-leaders : goal.returns-then-p-leaders

@@ -1,17 +1,13 @@
 use mathlib.Core.Path.{◌≡◌, refl, sym, ◌∙◌}
-use mathlib.Core.List.{List}
-use Prim.Native.Nat.{ℕ, suc, ◌+◌, ◌-◌, ◌≤◌, ◌<◌}
+use Prim.Native.Nat.{suc, ◌+◌, ◌-◌, ◌≤◌, ◌<◌}
 use native.Mathlib.Omega.{arith}
 use lib.ListN.{length, get_or}
 use Rattle.words.specs.laws.Regions.{mid_long}
 use Rattle.unit.specs.laws.Region.{keep_at}
-use Rattle.effects.specs.Shape.{tables_of}
-use Rattle.effects.specs.laws.Cells.{cells_by, cells_long}
-use Rattle.liveness.specs.Live.{Row}
+use Rattle.effects.specs.laws.Cells.{cells_long}
 use Rattle.liveness.specs.laws.SetMemory.{code_words, row_of, live_of, leaders_of, blocks_of, flags_of, row_inside, code_word, same_word, same_code_lem, same_live, same_leaders, same_blocks, still_coded}
-use Rattle.words.specs.laws.Only.{At, Only, only_none, only_both, lent, lent_long, put_only}
-use Rattle.liveness.specs.laws.Sweep.{Grounds, SweepFrom, sections, sweep_begin, sweep_end, code_turn}
-use borrow.Author.Rules.{rules}
+use Rattle.words.specs.laws.Only.{only_none, only_both, lent, lent_long, put_only}
+use Rattle.liveness.specs.laws.Sweep.{sweep_begin, sweep_end, code_turn}
 use Rattle.liveness.proofs.sweep.sweep.Goals as goal
 use Rattle.liveness.proofs.sweep.sweep.Tie as tie
 use Rattle.liveness.proofs.sweep.sweep.Lts

@@ -1,17 +1,14 @@
-use mathlib.Core.Path.{◌≡◌, refl, sym, ◌∙◌}
+use mathlib.Core.Path.{◌≡◌}
 use mathlib.Core.List.{List}
-use Prim.Native.Nat.{ℕ, suc, ◌+◌, ◌-◌, ◌≤◌, ◌<◌}
-use native.Mathlib.Omega.{arith}
-use lib.ListN.{length, get_or}
-use Rattle.words.specs.laws.Regions.{mid_long}
+use Prim.Native.Nat.{ℕ, ◌≤◌}
+use lib.ListN.{length}
 use Rattle.unit.specs.laws.Region.{keep_at}
 use Rattle.effects.specs.Shape.{tables_of}
-use Rattle.effects.specs.laws.Cells.{cells_by, cells_long}
+use Rattle.effects.specs.laws.Cells.{cells_by}
 use Rattle.liveness.specs.Live.{Row}
-use Rattle.liveness.specs.laws.SetMemory.{code_words, row_of, live_of, leaders_of, blocks_of, flags_of, row_inside, code_word, same_word, same_code_lem, same_live, same_leaders, same_blocks, still_coded}
-use Rattle.words.specs.laws.Only.{At, Only, only_none, only_both, lent, lent_long, put_only}
-use Rattle.liveness.specs.laws.Sweep.{Grounds, SweepFrom, sections, sweep_begin, sweep_end, code_turn}
-use borrow.Author.Rules.{rules}
+use Rattle.liveness.specs.laws.SetMemory.{code_words, row_of, live_of, leaders_of, blocks_of, flags_of}
+use Rattle.words.specs.laws.Only.{At, Only}
+use Rattle.liveness.specs.laws.Sweep.{Grounds, SweepFrom, sections}
 use Rattle.liveness.proofs.sweep.sweep.Given as goal
 
 abbrev pub invariant-loop-p : goal.invariant-loop-p

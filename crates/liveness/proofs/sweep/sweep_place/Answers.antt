@@ -18,7 +18,6 @@ use Rattle.use_def.specs.laws.Free.{dead_by}
 use Rattle.liveness.specs.laws.SetMemory.{row_of, row_inside}
 use Rattle.words.specs.laws.Only.{only_none, lent_long}
 use Rattle.liveness.specs.laws.Sweeping.{swept_off, lent_gone, lent_on, lent_either}
-use borrow.Author.Rules.{rules}
 use Rattle.liveness.proofs.sweep.sweep_place.Goals as goal
 use Rattle.liveness.proofs.sweep.sweep_place.Tie as tie
 use Rattle.liveness.proofs.sweep.sweep_place.Lts

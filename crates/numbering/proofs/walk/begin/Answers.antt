@@ -1,5 +1,4 @@
 use Rattle.numbering.proofs.Starting.{begins}
-use borrow.Author.Rules.{rules}
 use Rattle.numbering.proofs.walk.begin.Goals as goal
 
 pub returns : goal.returns

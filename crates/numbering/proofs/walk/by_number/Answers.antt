@@ -1,6 +1,5 @@
 use mathlib.Core.Path.{sym, ◌∙◌}
 use Rattle.numbering.proofs.Walking.{known_low, known_none, known_found, known_new}
-use borrow.Author.Rules.{rules}
 use Rattle.numbering.proofs.walk.by_number.Goals as goal
 
 pub known-requires : goal.known-requires

@@ -1,8 +1,6 @@
 use mathlib.Core.Path.{◌≡◌, sym, ◌∙◌}
-use mathlib.Core.Logic.{⊎_elim}
 use native.Mathlib.Omega.{arith}
 use Rattle.numbering.proofs.Walking.{word_fits, folded_word, wide_word, no_word}
-use borrow.Author.Rules.{rules}
 use Rattle.numbering.proofs.walk.by_value.Goals as goal
 use Rattle.numbering.proofs.walk.by_value.Goals.{in-Word+else-fits_imm32, in_default}
 

@@ -1,6 +1,5 @@
 use Rattle.numbering.proofs.Walking.{copy_found, copy_none}
 use native.Mathlib.Omega.{arith}
-use borrow.Author.Rules.{rules}
 use Rattle.numbering.proofs.walk.copy_or_stay.Goals as goal
 
 pub overflow_cast-r : goal.overflow_cast-r

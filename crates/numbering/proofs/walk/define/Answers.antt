@@ -1,6 +1,5 @@
 use Rattle.numbering.proofs.Walking.{defines}
 use native.Mathlib.Omega.{arith}
-use borrow.Author.Rules.{rules}
 use Rattle.numbering.proofs.walk.define.Goals as goal
 
 pub store-requires : goal.store-requires

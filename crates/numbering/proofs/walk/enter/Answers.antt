@@ -1,5 +1,4 @@
 use Rattle.numbering.proofs.Loop.{enters_cleared, enters_same}
-use borrow.Author.Rules.{rules}
 use Rattle.numbering.proofs.walk.enter.Goals as goal
 
 pub returns-then-leader-eq1 : goal.returns-then-leader-eq1

@@ -1,5 +1,4 @@
 use Rattle.numbering.proofs.Folding.{fold_definition, fold_binary_numbers, fold_unary_number}
-use borrow.Author.Rules.{rules}
 use Rattle.numbering.proofs.walk.fold_numbers.Goals as goal
 
 pub returns-then-left-zero : goal.returns-then-left-zero

@@ -5,7 +5,6 @@ use mathlib.Core.Path.{sym}
 use mathlib.Core.List.{List, [], ◌∷◌}
 use Prim.Native.Nat.{ℕ}
 use types.Run.{miss}
-use borrow.Author.Rules.{rules}
 use Rattle.numbering.proofs.walk.is_binary.Goals as goal
 
 -- the numbers of the other classes

@@ -1,6 +1,5 @@
 use native.Mathlib.Omega.{arith}
 use Rattle.numbering.proofs.Walking.{known_of_word, known_of_expression}
-use borrow.Author.Rules.{rules}
 use Rattle.numbering.proofs.walk.known.Goals as goal
 
 pub constant-requires : goal.constant-requires

@@ -1,4 +1,3 @@
-use borrow.Author.Rules.{rules}
 use Rattle.numbering.proofs.walk.load.Goals as goal
 
 pub returns : goal.returns

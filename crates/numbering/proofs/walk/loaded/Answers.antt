@@ -2,7 +2,6 @@ use Rattle.values.specs.Number.{constant_atom}
 use Rattle.numbering.specs.laws.Walk.{atom_of, KindOf}
 use Rattle.values.specs.laws.Memory.{key_atom}
 use native.Mathlib.Omega.{arith}
-use borrow.Author.Rules.{rules}
 use Rattle.numbering.proofs.walk.loaded.Goals as goal
 
 pub returns-in-Nil : goal.returns-in-Nil

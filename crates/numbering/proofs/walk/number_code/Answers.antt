@@ -6,8 +6,7 @@ use native.Mathlib.Omega.{arith}
 use lib.ListN.{length, get_or}
 use borrow.Rule.Slice.PartMut.{mid_of, put_mid}
 use Rattle.words.specs.laws.Regions.{mid_long, get_mid}
-use Rattle.numbering.proofs.Loop.{Numbering, numbering_start, numbering_turn, whole_long, code_before, progress_end, turn_room, no_code}
-use borrow.Author.Rules.{rules}
+use Rattle.numbering.proofs.Loop.{numbering_start, numbering_turn, whole_long, code_before, progress_end, turn_room, no_code}
 use Rattle.numbering.proofs.walk.number_code.Goals as goal
 use Rattle.numbering.proofs.walk.number_code.Tie as tie
 use Rattle.numbering.proofs.walk.number_code.Lts

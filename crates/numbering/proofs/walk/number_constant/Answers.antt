@@ -1,5 +1,4 @@
 use Rattle.numbering.proofs.Walking.{kind_known, constant_becomes, forget_becomes, constant_unknown}
-use borrow.Author.Rules.{rules}
 use Rattle.numbering.proofs.walk.number_constant.Goals as goal
 
 pub store_constant-requires : goal.store_constant-requires

@@ -1,6 +1,5 @@
 use Rattle.numbering.proofs.Keeping.{same_limit}
 use Rattle.numbering.proofs.Walking.{copy_becomes}
-use borrow.Author.Rules.{rules}
 use Rattle.numbering.proofs.walk.number_copy.Goals as goal
 
 pub store-requires : goal.store-requires

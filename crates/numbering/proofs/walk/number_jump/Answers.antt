@@ -2,7 +2,6 @@ use borrow.Enum.Refused.{opened}
 use Rattle.numbering.proofs.Walking.{jump_undecided, jump_decided}
 use Rattle.numbering.specs.laws.Walk.{takes}
 use mathlib.Core.Path.{sym, ◌∙◌}
-use borrow.Author.Rules.{rules}
 use Rattle.numbering.proofs.walk.number_jump.Goals as goal
 
 pub returns-in_default : goal.returns-in_default

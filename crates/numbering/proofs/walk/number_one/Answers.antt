@@ -6,7 +6,6 @@ use mathlib.Core.Path.{sym, ◌∙◌}
 use Rattle.values.specs.Number.{number_by_with}
 use Rattle.numbering.specs.laws.Walk.{}
 use Rattle.values.specs.laws.Named.{Named}
-use borrow.Author.Rules.{rules}
 use Rattle.numbering.proofs.walk.number_one.Goals as goal
 
 pub number_jump-requires : goal.number_jump-requires

@@ -1,6 +1,5 @@
 use Rattle.numbering.proofs.Keeping.{same_limit, same_then, room_kept, kept_then}
 use Rattle.numbering.proofs.Walking.{operator_becomes}
-use borrow.Author.Rules.{rules}
 use Rattle.numbering.proofs.walk.number_operator.Goals as goal
 
 pub fold_numbers-folded-requires : goal.fold_numbers-folded-requires

@@ -1,5 +1,4 @@
 use Rattle.numbering.proofs.Walking.{other_pure, other_cleared, forget_becomes}
-use borrow.Author.Rules.{rules}
 use Rattle.numbering.proofs.walk.number_other.Goals as goal
 
 pub returns-then-scalar : goal.returns-then-scalar

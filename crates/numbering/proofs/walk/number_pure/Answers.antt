@@ -6,7 +6,6 @@ use mathlib.Core.Path.{refl, sym, ◌∙◌}
 use Rattle.values.specs.laws.Memory.{key_atom}
 use Rattle.numbering.specs.laws.Walk.{pure_by}
 use Rattle.values.specs.laws.Named.{Named}
-use borrow.Author.Rules.{rules}
 use Rattle.numbering.proofs.walk.number_pure.Goals as goal
 
 pub number_operator-requires : goal.number_operator-requires

@@ -1,6 +1,5 @@
 use Rattle.numbering.proofs.Walking.{read_becomes}
 use mathlib.Core.Path.{refl}
-use borrow.Author.Rules.{rules}
 use Rattle.numbering.proofs.walk.number_read.Goals as goal
 
 pub returns : goal.returns

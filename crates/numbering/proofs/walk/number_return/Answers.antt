@@ -1,7 +1,6 @@
 use Rattle.numbering.proofs.Walking.{return_read, return_other, forget_becomes}
 use borrow.Author.Tests.{eq-eqb, ne_eqb}
 use mathlib.Core.Path.{sym, ◌∙◌}
-use borrow.Author.Rules.{rules}
 use Rattle.numbering.proofs.walk.number_return.Goals as goal
 
 pub number_read-requires : goal.number_read-requires

@@ -9,7 +9,6 @@ use Rattle.values.specs.laws.Folded.{agree, agree_same}
 use lib.ListN.{length, get_or, get_or-eq_default}
 use native.Mathlib.Omega.{arith}
 use borrow.Author.Tests.{ltb-true, ltb-false, ne_eqb}
-use borrow.Author.Rules.{rules}
 use Rattle.numbering.proofs.walk.scalar.Goals as goal
 
 -- within the list no default is read

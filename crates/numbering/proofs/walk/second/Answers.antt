@@ -1,6 +1,5 @@
 use Rattle.numbering.proofs.Walking.{second_chosen, second_none}
 use Rattle.numbering.specs.laws.Walk.{second_number}
-use borrow.Author.Rules.{rules}
 use Rattle.numbering.proofs.walk.second.Goals as goal
 
 pub representative-requires : goal.representative-requires

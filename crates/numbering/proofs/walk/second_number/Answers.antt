@@ -1,6 +1,5 @@
 use Rattle.numbering.specs.laws.Walk.{second_number}
 use native.Mathlib.Omega.{arith}
-use borrow.Author.Rules.{rules}
 use Rattle.numbering.proofs.walk.second_number.Goals as goal
 
 pub number-requires : goal.number-requires

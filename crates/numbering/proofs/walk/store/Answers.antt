@@ -1,5 +1,4 @@
 use Rattle.numbering.proofs.Walking.{store_becomes}
-use borrow.Author.Rules.{rules}
 use Rattle.numbering.proofs.walk.store.Goals as goal
 
 pub returns : goal.returns

@@ -1,5 +1,4 @@
 use Rattle.numbering.proofs.Walking.{store_interned}
-use borrow.Author.Rules.{rules}
 use Rattle.numbering.proofs.walk.store_constant.Goals as goal
 
 pub returns : goal.returns

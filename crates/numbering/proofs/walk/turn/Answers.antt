@@ -1,5 +1,4 @@
 use Rattle.numbering.proofs.Loop.{enter_room, turns}
-use borrow.Author.Rules.{rules}
 use Rattle.numbering.proofs.walk.turn.Goals as goal
 
 pub number_one-numbered-requires : goal.number_one-numbered-requires

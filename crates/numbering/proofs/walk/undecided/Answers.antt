@@ -1,5 +1,4 @@
 use Rattle.numbering.proofs.Walking.{undecided_read, undecided_stay}
-use borrow.Author.Rules.{rules}
 use Rattle.numbering.proofs.walk.undecided.Goals as goal
 
 pub returns-then-scalar : goal.returns-then-scalar

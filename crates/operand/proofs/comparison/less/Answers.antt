@@ -1,4 +1,4 @@
-use Rattle.std.proofs.Common.{arith, rules}
+use Rattle.std.proofs.Common.{arith}
 use Rattle.operand.proofs.Comparing.{less_holds, less_fails}
 use Rattle.operand.proofs.comparison.less.Goals as goal
 

@@ -1,4 +1,3 @@
-use borrow.Author.Tests.{not-true, not-false}
 use Rattle.std.proofs.Common.{arith}
 use Rattle.operand.proofs.Comparing.{signed_greater_holds, signed_greater_fails}
 use Rattle.operand.proofs.comparison.signed_greater.Goals as goal

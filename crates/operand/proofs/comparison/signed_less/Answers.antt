@@ -1,4 +1,4 @@
-use Rattle.std.proofs.Common.{arith, rules}
+use Rattle.std.proofs.Common.{arith}
 use Rattle.operand.proofs.Comparing.{signed_less_holds, signed_less_fails}
 use Rattle.operand.proofs.comparison.signed_less.Goals as goal
 

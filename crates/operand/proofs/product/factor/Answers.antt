@@ -1,4 +1,4 @@
-use Rattle.std.proofs.Common.{arith, rules}
+use Rattle.std.proofs.Common.{arith}
 use lib.Count.{trailing_le}
 use Rattle.operand.proofs.Zeros.{zeros_below, zeros_odd}
 use Rattle.operand.proofs.Factors.{none_right, zero_right, factor_right}

@@ -1,4 +1,4 @@
-use Rattle.std.proofs.Common.{arith, rules}
+use Rattle.std.proofs.Common.{arith}
 use Rattle.operand.proofs.Newton.{own_inverse}
 use Rattle.operand.proofs.product.inverse.Goals as goal
 

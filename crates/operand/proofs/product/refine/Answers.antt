@@ -1,5 +1,4 @@
 use Rattle.operand.proofs.Newton.{refined}
-use Rattle.std.proofs.Common.{rules}
 use Rattle.operand.proofs.product.refine.Goals as goal
 
 pub returns : goal.returns

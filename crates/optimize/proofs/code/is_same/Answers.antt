@@ -1,9 +1,6 @@
 use mathlib.Core.Path.{◌≡◌, ◌∙◌, sym, ap, refl}
-use Prim.Native.Nat.{◌-◌}
-use lib.ListN.{length}
 use Rattle.instruction.specs.Instruction.{instruction_at, to_word}
-use Rattle.optimize.specs.laws.Loading.{Loaded, loaded_none, loaded_next, loaded_all, same_yes, same_no}
-use borrow.Author.Rules.{rules}
+use Rattle.optimize.specs.laws.Loading.{loaded_none, loaded_next, loaded_all, same_yes, same_no}
 use Rattle.optimize.proofs.code.is_same.Goals as goal
 use Rattle.optimize.proofs.code.is_same.Tie as tie
 use Rattle.optimize.proofs.code.is_same.Lts

@@ -1,5 +1,4 @@
 use borrow.Author.Tests.{eq-eqb, ne_eqb}
-use borrow.Author.Rules.{rules}
 use Rattle.optimize.proofs.code.is_unchanged.Goals as goal
 
 pub returns-then-retained-words : goal.returns-then-retained-words

@@ -1,10 +1,8 @@
-use mathlib.Core.Path.{◌≡◌, refl, ◌∙◌, ap}
-use Prim.Native.Nat.{◌-◌}
+use mathlib.Core.Path.{refl, ◌∙◌, ap}
 use native.Mathlib.Omega.{arith}
-use lib.ListN.{length, length-set}
+use lib.ListN.{length-set}
 use Rattle.instruction.specs.Instruction.{to_word}
-use Rattle.optimize.specs.laws.Loading.{Loaded, loaded_none, loaded_set, loaded_all}
-use borrow.Author.Rules.{rules}
+use Rattle.optimize.specs.laws.Loading.{loaded_none, loaded_set, loaded_all}
 use Rattle.optimize.proofs.code.load.Goals as goal
 
 pub loop-p-init : goal.loop-p-init

@@ -1,10 +1,7 @@
-use mathlib.Core.Path.{◌≡◌, refl, ◌∙◌, ap}
+use mathlib.Core.Path.{◌≡◌}
 use Prim.Native.Nat.{◌-◌}
-use native.Mathlib.Omega.{arith}
-use lib.ListN.{length, length-set}
-use Rattle.instruction.specs.Instruction.{to_word}
-use Rattle.optimize.specs.laws.Loading.{Loaded, loaded_none, loaded_set, loaded_all}
-use borrow.Author.Rules.{rules}
+use lib.ListN.{length}
+use Rattle.optimize.specs.laws.Loading.{Loaded}
 use Rattle.optimize.proofs.code.load.Given as goal
 
 abbrev pub invariant-loop-p : goal.invariant-loop-p

@@ -1,12 +1,11 @@
 use mathlib.Core.Path.{◌≡◌, sym, ap, ◌∙◌}
-use Prim.Native.Nat.{ℕ, ◌+◌, ◌-◌, ◌≤◌}
+use Prim.Native.Nat.{ℕ, ◌+◌, ◌-◌}
 use native.Mathlib.Omega.{arith}
-use lib.ListN.{length, get_or}
+use lib.ListN.{get_or}
 use Rattle.words.specs.Bytes.{Bytes}
 use Rattle.unit.specs.laws.Region.{keep_at}
 use Rattle.optimize.specs.laws.Concluded.{Words}
 use Rattle.optimize.specs.laws.Decided.{few_retained, conclude_same_asks, conclude_relocation_asks, concluded_unchanged, concluded_refused, concluded_rewritten}
-use borrow.Author.Rules.{rules}
 use Rattle.optimize.proofs.function.conclude.Goals as goal
 use Rattle.optimize.proofs.function.conclude.Tie as tie
 use Rattle.optimize.proofs.function.conclude.Lts

@@ -8,7 +8,6 @@ use Rattle.words.specs.laws.Regions.{mid_long}
 use Rattle.effects.specs.declared.Check.TheVariants.{Passed}
 use Rattle.effects.specs.Shape.{Sections, Cell}
 use Rattle.effects.specs.Check.{operand_check}
-use Rattle.flow.specs.Branch.{branch_check}
 use Rattle.flow.specs.laws.Listing.{check_of}
 use Rattle.answer.specs.Answer.{sections_of}
 use Rattle.answer.specs.Pass.{after_operands, optimized}
@@ -16,7 +15,6 @@ use Rattle.optimize.specs.laws.Given.{Given, WorkRoom, Checked, cells_in, from_b
 use Rattle.optimize.specs.laws.Steps.{controls_at, Loaded, ListedControls, Renumbered, Marks, list_lent, list_still}
 use Rattle.optimize.specs.laws.Decided.{Finished, decides_refused, conclude_decides}
 use Rattle.optimize.specs.laws.Chain.{checked_refused, checked_passed, same_room, loaded_numberable, loaded_branches, loaded_renumbered, numbered_listed, reached_marks_lem, reached_answer, marks_retainable, kept_finished, kept_answer}
-use borrow.Author.Rules.{rules}
 use Rattle.optimize.proofs.function.decide.Goals as goal
 use Rattle.optimize.proofs.function.decide.Tie as tie
 use Rattle.optimize.proofs.function.decide.Lts

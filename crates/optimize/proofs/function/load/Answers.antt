@@ -1,15 +1,14 @@
-use mathlib.Core.Path.{◌≡◌, sym, ap, ◌∙◌}
+use mathlib.Core.Path.{◌≡◌}
 use mathlib.Core.List.{List, ◌++◌}
 use Prim.Native.Nat.{ℕ, ◌-◌}
 use native.Mathlib.Omega.{arith}
 use lib.ListN.{length}
 use borrow.Rule.Slice.PartMut.{mid_of, post_of}
-use Rattle.flow.specs.laws.Listing.{check_of, ListedBy}
+use Rattle.flow.specs.laws.Listing.{ListedBy}
 use Rattle.answer.specs.Answer.{sections_of}
 use Rattle.optimize.specs.laws.Given.{words_in}
 use Rattle.optimize.specs.laws.Chain.{load_front, load_long, operands_asks}
 use Rattle.optimize.specs.laws.Steps.{list_made}
-use borrow.Author.Rules.{rules}
 use Rattle.optimize.proofs.function.load.Goals as goal
 use Rattle.optimize.proofs.function.load.Tie as tie
 use Rattle.optimize.proofs.function.load.Lts

@@ -5,7 +5,6 @@ use lib.ListN.{length}
 use Rattle.words.specs.laws.Regions.{mid_long, drop_behind}
 use Rattle.answer.specs.Answer.{sections_of}
 use Rattle.optimize.specs.laws.Steps.{leaders_asks, number_asks, number_renumbered}
-use borrow.Author.Rules.{rules}
 use Rattle.optimize.proofs.function.number.Goals as goal
 use Rattle.optimize.proofs.function.number.Tie as tie
 use Rattle.optimize.proofs.function.number.Lts

@@ -1,6 +1,4 @@
-use mathlib.Core.Path.{◌≡◌}
 use Rattle.optimize.specs.laws.Decided.{decided_relocatable, answers_written, answers_decided_unchanged, answers_decided_refused}
-use borrow.Author.Rules.{rules}
 use Rattle.optimize.proofs.function.optimize.Goals as goal
 use Rattle.optimize.proofs.function.optimize.Tie as tie
 use Rattle.optimize.proofs.function.optimize.Lts

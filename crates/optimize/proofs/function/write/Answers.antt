@@ -1,6 +1,6 @@
-use mathlib.Core.Path.{◌≡◌, ap, ◌∙◌}
+use mathlib.Core.Path.{◌≡◌, ap}
 use mathlib.Core.List.{List}
-use Prim.Native.Nat.{ℕ, ◌+◌, ◌-◌, ◌≤◌}
+use Prim.Native.Nat.{ℕ, ◌+◌, ◌-◌}
 use native.Mathlib.Omega.{arith}
 use lib.ListN.{length, get_or}
 use borrow.Rule.Slice.PartMut.{mid_of, put_mid}
@@ -8,7 +8,6 @@ use Rattle.unit.specs.laws.Region.{keep_at, list_at}
 use Rattle.pc_map.specs.Boundary.{boundary}
 use Rattle.pc_map.specs.laws.Listed.{kept_list}
 use Rattle.optimize.specs.laws.Decided.{Finished, few_retained, list_asks, listed_keep, listed_finished, listed_there, write_asks, write_output}
-use borrow.Author.Rules.{rules}
 use Rattle.optimize.proofs.function.write.Goals as goal
 use Rattle.optimize.proofs.function.write.Tie as tie
 use Rattle.optimize.proofs.function.write.Lts

@@ -1,5 +1,4 @@
 use Rattle.optimize.specs.laws.Lines.{linable_to, lined_unchanged, lined_refused, lined_rewritten}
-use borrow.Author.Rules.{rules}
 use Rattle.optimize.proofs.pass.add_lines.Goals as goal
 
 pub lines-requires : goal.lines-requires

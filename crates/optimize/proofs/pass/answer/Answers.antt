@@ -6,7 +6,6 @@ use Rattle.answer.specs.Answer.{lent_of, room_for, admission, pass_answer}
 use Rattle.run.specs.Given.{admitted_worked}
 use Rattle.optimize.specs.laws.Given.{answers_unchanged, answers_refused, answers_same}
 use Rattle.optimize.specs.laws.Whole.{answer_refused, answer_unchanged, answer_admitted}
-use borrow.Author.Rules.{rules}
 use Rattle.optimize.proofs.pass.answer.Goals as goal
 use Rattle.optimize.proofs.pass.answer.Tie as tie
 use Rattle.optimize.proofs.pass.answer.Lts

@@ -4,7 +4,6 @@ use lib.ListN.{length}
 use Rattle.words.specs.Bytes.{Bytes}
 use Rattle.run.specs.Given.{pass_preserves}
 use Rattle.optimize.specs.laws.Lines.{pass_linable, pass_moves}
-use borrow.Author.Rules.{rules}
 use Rattle.optimize.proofs.pass.pass.Goals as goal
 use Rattle.optimize.proofs.pass.pass.Tie as tie
 use Rattle.optimize.proofs.pass.pass.Lts

@@ -6,7 +6,6 @@ use Rattle.unit.specs.Layout.{header_of}
 use Rattle.unit.specs.laws.UnitLaws.{unit_laid}
 use Rattle.optimize.specs.laws.Given.{answers_same}
 use Rattle.optimize.specs.laws.Whole.{room_out, work_workable, work_outcome}
-use borrow.Author.Rules.{rules}
 use Rattle.optimize.proofs.pass.work.Goals as goal
 use Rattle.optimize.proofs.pass.work.Tie as tie
 use Rattle.optimize.proofs.pass.work.Lts

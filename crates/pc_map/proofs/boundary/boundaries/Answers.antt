@@ -1,7 +1,6 @@
-use Rattle.std.proofs.Common.{◌≡◌, ◌+◌, ◌-◌, length, ◌∙◌, arith, length-set, rules}
-use Rattle.pc_map.proofs.Bounding.{Bounding, bounding_begin, bounding_long, bounding_few, bounding_turn, bounding_end}
+use Rattle.std.proofs.Common.{◌≡◌, ◌+◌, length, ◌∙◌, arith, length-set}
+use Rattle.pc_map.proofs.Bounding.{bounding_begin, bounding_long, bounding_few, bounding_turn, bounding_end}
 use Rattle.pc_map.proofs.boundary.boundaries.Goals as goal
-use Rattle.pc_map.proofs.boundary.boundaries.Tie as tie
 use Rattle.pc_map.proofs.boundary.boundaries.Lts
 use Rattle.pc_map.proofs.boundary.boundaries.Reads
 

@@ -1,5 +1,5 @@
-use Rattle.std.proofs.Common.{◌≡◌, ◌+◌, ◌-◌, length, ◌∙◌, arith, length-set, rules}
-use Rattle.pc_map.proofs.Bounding.{Bounding, bounding_begin, bounding_long, bounding_few, bounding_turn, bounding_end}
+use Rattle.std.proofs.Common.{◌-◌}
+use Rattle.pc_map.proofs.Bounding.{Bounding}
 use Rattle.pc_map.proofs.boundary.boundaries.Given as goal
 
 abbrev pub invariant-loop-p : goal.invariant-loop-p

@@ -1,7 +1,6 @@
-use Rattle.std.proofs.Common.{◌+◌, ◌-◌, ◌≤◌, get_or, set, arith, length-set, rules}
-use Rattle.pc_map.proofs.Listing.{Listing, listing_begin, listing_few, listing_flag, listing_turn, listing_end}
+use Rattle.std.proofs.Common.{◌+◌, ◌≤◌, get_or, set, arith, length-set}
+use Rattle.pc_map.proofs.Listing.{listing_begin, listing_few, listing_flag, listing_turn, listing_end}
 use Rattle.pc_map.proofs.boundary.list_kept.Goals as goal
-use Rattle.pc_map.proofs.boundary.list_kept.Tie as tie
 use Rattle.pc_map.proofs.boundary.list_kept.Lts
 use Rattle.pc_map.proofs.boundary.list_kept.Reads
 

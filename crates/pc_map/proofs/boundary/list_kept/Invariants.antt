@@ -1,5 +1,5 @@
-use Rattle.std.proofs.Common.{◌+◌, ◌-◌, ◌≤◌, get_or, set, arith, length-set, rules}
-use Rattle.pc_map.proofs.Listing.{Listing, listing_begin, listing_few, listing_flag, listing_turn, listing_end}
+use Rattle.std.proofs.Common.{◌-◌}
+use Rattle.pc_map.proofs.Listing.{Listing}
 use Rattle.pc_map.proofs.boundary.list_kept.Given as goal
 
 abbrev pub invariant-loop-p : goal.invariant-loop-p

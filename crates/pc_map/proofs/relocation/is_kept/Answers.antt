@@ -1,5 +1,4 @@
 use lib.ListN.{get_or-eq_default}
-use Rattle.std.proofs.Common.{rules}
 use Rattle.pc_map.proofs.relocation.is_kept.Goals as goal
 
 pub returns-else-q-keep : goal.returns-else-q-keep

@@ -1,4 +1,4 @@
-use Rattle.std.proofs.Common.{arith, rules}
+use Rattle.std.proofs.Common.{arith}
 use Rattle.pc_map.proofs.Relocating.{for_loop_moved}
 use Rattle.pc_map.proofs.relocation.moved_for_loop.Goals as goal
 

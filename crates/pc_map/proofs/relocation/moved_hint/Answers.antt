@@ -1,4 +1,4 @@
-use Rattle.std.proofs.Common.{sym, ◌∙◌, rules}
+use Rattle.std.proofs.Common.{sym, ◌∙◌}
 use Rattle.pc_map.proofs.Relocating.{exit_moved, exit_none}
 use Rattle.pc_map.proofs.relocation.moved_hint.Goals as goal
 

@@ -1,7 +1,6 @@
 use borrow.Enum.Refused.{opened}
-use Rattle.std.proofs.Common.{◌≡◌, true, [], ◌∷◌, sym, refl, ◌∙◌, arith, rules}
+use Rattle.std.proofs.Common.{◌≡◌, true, [], ◌∷◌, sym, refl, ◌∙◌, arith}
 use mathlib.Core.Bool.{false≢true}
-use borrow.Author.Tests.{not-true, not-false}
 use Rattle.instruction.specs.Class.{named_class}
 use Rattle.flow.specs.Block.{ends_block}
 use Rattle.flow.specs.Branch.{branches}

@@ -1,5 +1,4 @@
-use Rattle.std.proofs.Common.{sym, ◌∙◌, rules}
-use borrow.Author.Tests.{not-true, not-false}
+use Rattle.std.proofs.Common.{sym, ◌∙◌}
 use Rattle.pc_map.specs.laws.View.{retained_found}
 use Rattle.pc_map.proofs.Relocating.{end_moved, end_none}
 use Rattle.pc_map.proofs.relocation.relocate_metadata.Goals as goal

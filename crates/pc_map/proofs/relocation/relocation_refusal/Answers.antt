@@ -1,6 +1,5 @@
-use Rattle.std.proofs.Common.{◌≡◌, Bool, ◌&&◌, leb, length, get_or, sym, ap, ◌∙◌, rules, ne_eqb}
+use Rattle.std.proofs.Common.{◌≡◌, Bool, ◌&&◌, leb, length, get_or, sym, ap, ◌∙◌, ne_eqb}
 use mathlib.Core.Bool.{and-false}
-use borrow.Author.Tests.{not-true, not-false}
 use Rattle.instruction.specs.Instruction.{of_word}
 use Rattle.flow.specs.Loop.{is_loop_hint}
 use Rattle.pc_map.proofs.relocation.relocation_refusal.Goals as goal

@@ -1,9 +1,8 @@
-use Rattle.std.proofs.Common.{◌≡◌, ℕ, ◌-◌, ◌≤◌, List, length, refl, ◌∙◌, arith, rules}
+use Rattle.std.proofs.Common.{◌≡◌, ℕ, ◌-◌, ◌≤◌, List, length}
 use Rattle.unit.specs.Result.{code_bytes}
 use Rattle.unit.specs.Size.{result_header_size}
 use Rattle.pc_map.specs.laws.Listed.{Listed}
-use Rattle.pc_map.specs.laws.Retaining.{code_section}
-use Rattle.pc_map.proofs.Writing.{WrittenTo, section_begin, section_turn, section_end}
+use Rattle.pc_map.proofs.Writing.{WrittenTo}
 use Rattle.pc_map.proofs.retained.write_code.Given as goal
 
 abbrev pub invariant-loop-q : goal.invariant-loop-q

@@ -1,4 +1,3 @@
-use Rattle.std.proofs.Common.{length, rules}
 use Rattle.pc_map.proofs.Writing.{end_asked, kept_metadata}
 use Rattle.pc_map.proofs.retained.write_entry.Goals as goal
 

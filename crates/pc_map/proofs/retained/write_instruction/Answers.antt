@@ -1,4 +1,4 @@
-use Rattle.std.proofs.Common.{length, arith, rules}
+use Rattle.std.proofs.Common.{length, arith}
 use Rattle.pc_map.proofs.Writing.{asked, kept_code}
 use Rattle.pc_map.proofs.retained.write_instruction.Goals as goal
 

@@ -1,8 +1,6 @@
-use Rattle.std.proofs.Common.{◌≡◌, ℕ, ◌-◌, ◌<◌, ◌≤◌, List, length, refl, ◌∙◌, arith, rules}
-use Rattle.unit.specs.Result.{metadata_bytes_all}
-use Rattle.pc_map.specs.laws.Listed.{Listed}
+use Rattle.std.proofs.Common.{◌<◌, length, refl, ◌∙◌, arith}
 use Rattle.pc_map.specs.laws.Retaining.{metadata_section}
-use Rattle.pc_map.proofs.Writing.{WrittenTo, section_begin, section_turn, section_end}
+use Rattle.pc_map.proofs.Writing.{section_begin, section_turn, section_end}
 use Rattle.pc_map.proofs.retained.write_metadata.Goals as goal
 
 pub loop-q-init : goal.loop-q-init

@@ -1,8 +1,7 @@
-use Rattle.std.proofs.Common.{◌≡◌, ℕ, ◌-◌, ◌<◌, ◌≤◌, List, length, refl, ◌∙◌, arith, rules}
+use Rattle.std.proofs.Common.{◌≡◌, ℕ, ◌-◌, ◌≤◌, List, length}
 use Rattle.unit.specs.Result.{metadata_bytes_all}
 use Rattle.pc_map.specs.laws.Listed.{Listed}
-use Rattle.pc_map.specs.laws.Retaining.{metadata_section}
-use Rattle.pc_map.proofs.Writing.{WrittenTo, section_begin, section_turn, section_end}
+use Rattle.pc_map.proofs.Writing.{WrittenTo}
 use Rattle.pc_map.proofs.retained.write_metadata.Given as goal
 
 abbrev pub invariant-loop-q : goal.invariant-loop-q

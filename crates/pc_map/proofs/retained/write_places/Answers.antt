@@ -1,8 +1,6 @@
-use Rattle.std.proofs.Common.{◌≡◌, ℕ, ◌+◌, ◌-◌, ◌*◌, ◌≤◌, List, length, get_or, refl, ◌∙◌, arith, rules}
-use Rattle.unit.specs.Result.{place_bytes}
-use Rattle.pc_map.specs.laws.Listed.{kept_list}
+use Rattle.std.proofs.Common.{◌+◌, ◌*◌, get_or, refl, ◌∙◌, arith}
 use Rattle.pc_map.specs.laws.Retaining.{place_section}
-use Rattle.pc_map.proofs.Writing.{kept_place, WrittenTo, section_begin, section_turn, section_end}
+use Rattle.pc_map.proofs.Writing.{kept_place, section_begin, section_turn, section_end}
 use Rattle.pc_map.proofs.retained.write_places.Goals as goal
 
 pub loop-q-init : goal.loop-q-init

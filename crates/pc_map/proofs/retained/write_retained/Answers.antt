@@ -1,7 +1,7 @@
 use Rattle.effects.specs.laws.Cells.{cells_by}
 use Rattle.pc_map.specs.Relocate.{retain_from}
 use Rattle.pc_map.proofs.Writing.{listed_many, all_written}
-use Rattle.std.proofs.Common.{length, rules}
+use Rattle.std.proofs.Common.{length}
 use Rattle.pc_map.proofs.retained.write_retained.Goals as goal
 
 pub returns : goal.returns

@@ -1,6 +1,6 @@
 use Rattle.std.proofs.Common.{eq-eqb, ne_eqb}
 use mathlib.Core.Path.{◌≡◌, refl, ◌∙◌}
-use mathlib.Core.Logic.{⊎_elim, inl, inr}
+use mathlib.Core.Logic.{inl, inr}
 use Prim.Native.Nat.{ℕ, ◌-◌, ◌<◌}
 use native.Mathlib.Numerals.{add-one}
 use native.Mathlib.Omega.{arith}
@@ -8,7 +8,6 @@ use lib.Dec.{eqb}
 use lib.ListN.{length, get_or}
 use Rattle.removal.specs.laws.Next.{next_kept}
 use Rattle.removal.specs.laws.JumpRounds.{Walked, Takes, keep_in, walk_begin, walk_asks, walk_flags, walk_inside, walk_below, walk_on, walk_end, idle_dropped}
-use borrow.Author.Rules.{rules}
 use Rattle.removal.proofs.jump.drop_idle.Goals as goal
 use Rattle.removal.proofs.jump.drop_idle.Goals.{then-idle, else-idle}
 use Rattle.removal.proofs.jump.drop_idle.Tie as tie

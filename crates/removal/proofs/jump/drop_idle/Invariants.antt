@@ -1,13 +1,4 @@
-use mathlib.Core.Path.{◌≡◌, refl, ◌∙◌}
-use mathlib.Core.Logic.{⊎_elim, inl, inr}
-use Prim.Native.Nat.{ℕ, ◌-◌, ◌<◌}
-use native.Mathlib.Numerals.{add-one}
-use native.Mathlib.Omega.{arith}
-use lib.Dec.{eqb}
-use lib.ListN.{length, get_or}
-use Rattle.removal.specs.laws.Next.{next_kept}
-use Rattle.removal.specs.laws.JumpRounds.{Walked, Takes, keep_in, walk_begin, walk_asks, walk_flags, walk_inside, walk_below, walk_on, walk_end, idle_dropped}
-use borrow.Author.Rules.{rules}
+use Rattle.removal.specs.laws.JumpRounds.{Walked}
 use Rattle.removal.proofs.jump.drop_idle.Given as goal
 
 abbrev pub invariant-loop-k : goal.invariant-loop-k

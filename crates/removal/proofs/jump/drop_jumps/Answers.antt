@@ -1,5 +1,4 @@
 use Rattle.removal.specs.laws.JumpRounds.{map_asks, map_made}
-use borrow.Author.Rules.{rules}
 use Rattle.removal.proofs.jump.drop_jumps.Goals as goal
 use Rattle.removal.proofs.jump.drop_jumps.Tie as tie
 use Rattle.removal.proofs.jump.drop_jumps.Lts

@@ -1,8 +1,6 @@
 use mathlib.Core.Path.{◌∙◌}
 use native.Mathlib.Omega.{arith}
-use borrow.Author.Tests.{not-true}
-use Rattle.removal.specs.laws.JumpRounds.{Rounding, rounding_begin, rounding_asks, rounding_turn, rounding_last, rounding_end}
-use borrow.Author.Rules.{rules}
+use Rattle.removal.specs.laws.JumpRounds.{rounding_begin, rounding_asks, rounding_turn, rounding_last, rounding_end}
 use Rattle.removal.proofs.jump.drop_rounds.Goals as goal
 use Rattle.removal.proofs.jump.drop_rounds.Tie as tie
 use Rattle.removal.proofs.jump.drop_rounds.Lts

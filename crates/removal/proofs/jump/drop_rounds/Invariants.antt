@@ -1,8 +1,4 @@
-use mathlib.Core.Path.{◌∙◌}
-use native.Mathlib.Omega.{arith}
-use borrow.Author.Tests.{not-true}
-use Rattle.removal.specs.laws.JumpRounds.{Rounding, rounding_begin, rounding_asks, rounding_turn, rounding_last, rounding_end}
-use borrow.Author.Rules.{rules}
+use Rattle.removal.specs.laws.JumpRounds.{Rounding}
 use Rattle.removal.proofs.jump.drop_rounds.Given as goal
 
 abbrev pub invariant-loop-k : goal.invariant-loop-k

@@ -1,7 +1,5 @@
 use mathlib.Core.Path.{refl}
-use borrow.Author.Tests.{not-true, not-false}
 use Rattle.removal.specs.laws.Jumping.{no_jump, too_far, near_enough}
-use borrow.Author.Rules.{rules}
 use Rattle.removal.proofs.jump.is_idle.Goals as goal
 use Rattle.removal.proofs.jump.is_idle.Tie as tie
 use Rattle.removal.proofs.jump.is_idle.Lts

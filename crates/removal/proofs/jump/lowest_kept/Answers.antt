@@ -1,12 +1,8 @@
 use mathlib.Core.Path.{◌≡◌, refl, sym, ◌∙◌}
-use mathlib.Core.List.{List}
-use Prim.Native.Nat.{ℕ, ◌-◌, ◌≤◌, ◌<◌}
 use native.Mathlib.Numerals.{add-one}
 use native.Mathlib.Omega.{arith}
-use lib.ListN.{get_or}
 use borrow.Author.Tests.{eq-eqb, ne_eqb}
-use Rattle.removal.specs.laws.Next.{kept_from, from_kept, from_dropped}
-use borrow.Author.Rules.{rules}
+use Rattle.removal.specs.laws.Next.{from_kept, from_dropped}
 use Rattle.removal.proofs.jump.lowest_kept.Goals as goal
 
 pub loop-p-init : goal.loop-p-init

@@ -1,12 +1,8 @@
-use mathlib.Core.Path.{◌≡◌, refl, sym, ◌∙◌}
+use mathlib.Core.Path.{◌≡◌}
 use mathlib.Core.List.{List}
 use Prim.Native.Nat.{ℕ, ◌-◌, ◌≤◌, ◌<◌}
-use native.Mathlib.Numerals.{add-one}
-use native.Mathlib.Omega.{arith}
 use lib.ListN.{get_or}
-use borrow.Author.Tests.{eq-eqb, ne_eqb}
-use Rattle.removal.specs.laws.Next.{kept_from, from_kept, from_dropped}
-use borrow.Author.Rules.{rules}
+use Rattle.removal.specs.laws.Next.{kept_from}
 use Rattle.removal.proofs.jump.lowest_kept.Given as goal
 
 -- none is kept below p

@@ -1,13 +1,7 @@
-use mathlib.Core.Path.{◌≡◌, ◌∙◌, sym, ap}
-use mathlib.Core.Logic.{⊎_elim}
-use Prim.Native.Nat.{◌+◌, ◌-◌, ◌<◌}
-use native.Mathlib.Omega.{arith}
+use Prim.Native.Nat.{◌-◌}
 use lib.ListN.{length, get_or}
-use Rattle.flow.specs.laws.Control.{control_inside, at_control, skip_first, skip_next, skip_last}
-use Rattle.flow.specs.Loop.{is_plain_hint}
-use Rattle.removal.specs.laws.Cleared.{Cleared, step_on, step_off, cleared_none, cleared_up}
-use Rattle.removal.specs.laws.PlainHints.{hint_at, hints_idle, hints_dropped}
-use borrow.Author.Rules.{rules}
+use Rattle.removal.specs.laws.Cleared.{Cleared}
+use Rattle.removal.specs.laws.PlainHints.{hint_at}
 use Rattle.removal.proofs.plain.drop_hints.Given as goal
 
 abbrev pub invariant-loop-k : goal.invariant-loop-k

@@ -9,7 +9,6 @@ use Rattle.unit.specs.laws.Region.{keep_at}
 use Rattle.unit.specs.Layout.{constants_of}
 use Rattle.answer.specs.Answer.{sections_of}
 use Rattle.removal.specs.laws.Retained.{blocks_asks, stores_asks, stores_leave}
-use borrow.Author.Rules.{rules}
 use Rattle.removal.proofs.retain.drop_stores.Goals as goal
 use Rattle.removal.proofs.retain.drop_stores.Tie as tie
 use Rattle.removal.proofs.retain.drop_stores.Lts

@@ -9,7 +9,6 @@ use Rattle.unit.specs.laws.Region.{keep_at}
 use Rattle.answer.specs.Answer.{sections_of}
 use Rattle.removal.specs.laws.KeptWork.{Useful, Stored}
 use Rattle.removal.specs.laws.RetainedWork.{hints_asks, hints_retainable, stores_long, behind_same, jumps_asks, jumps_retained}
-use borrow.Author.Rules.{rules}
 use Rattle.removal.proofs.retain.retain.Goals as goal
 use Rattle.removal.proofs.retain.retain.Tie as tie
 use Rattle.removal.proofs.retain.retain.Lts

@@ -1,6 +1,5 @@
 use borrow.Author.Tests.{lt-ltb, le-ltb}
 use Rattle.unit.specs.Entry.{extern_at}
-use borrow.Author.Rules.{rules}
 use Rattle.unit.proofs.entry.extern_of.Goals as goal
 
 pub returns-then-k-section : goal.returns-then-k-section

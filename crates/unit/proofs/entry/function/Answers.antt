@@ -1,6 +1,5 @@
 use borrow.Author.Tests.{lt-ltb, le-ltb}
 use Rattle.unit.specs.Entry.{function_at}
-use borrow.Author.Rules.{rules}
 use Rattle.unit.proofs.entry.function.Goals as goal
 
 pub returns-then-k-section : goal.returns-then-k-section

@@ -1,5 +1,4 @@
 use Rattle.unit.specs.Entry.{line_at}
-use borrow.Author.Rules.{rules}
 use Rattle.unit.proofs.entry.line.Goals as goal
 
 pub returns : goal.returns

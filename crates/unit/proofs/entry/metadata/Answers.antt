@@ -1,5 +1,4 @@
 use Rattle.unit.specs.Entry.{metadata_at}
-use borrow.Author.Rules.{rules}
 use Rattle.unit.proofs.entry.metadata.Goals as goal
 
 pub returns : goal.returns

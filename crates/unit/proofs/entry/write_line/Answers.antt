@@ -3,7 +3,6 @@ use Rattle.words.specs.Le.{to_le}
 use Rattle.words.specs.laws.Le.{length_to_le}
 use Rattle.words.specs.laws.Regions.{put_put}
 use Rattle.unit.specs.Entry.{line_bytes}
-use borrow.Author.Rules.{rules}
 use Rattle.unit.proofs.entry.write_line.Goals as goal
 
 pub returns : goal.returns

@@ -1,7 +1,6 @@
 use native.Mathlib.Omega.{arith}
 use Rattle.unit.proofs.Writing.{four_words}
 use Rattle.unit.specs.laws.UnitLaws.{metadata_words}
-use borrow.Author.Rules.{rules}
 use Rattle.unit.proofs.entry.write_metadata.Goals as goal
 
 pub returns : goal.returns

@@ -1,7 +1,6 @@
 use native.Mathlib.Omega.{arith}
 use Rattle.unit.proofs.Writing.{six_words}
 use Rattle.unit.specs.Result.{result_header}
-use borrow.Author.Rules.{rules}
 use Rattle.unit.proofs.result.write_header.Goals as goal
 
 pub returns : goal.returns

@@ -2,7 +2,6 @@ use mathlib.Core.Path.{◌≡◌}
 use Prim.Native.Nat.{◌*◌, ◌-◌}
 use native.Mathlib.Omega.{arith}
 use Rattle.words.specs.Le.{u32_at}
-use borrow.Author.Rules.{rules}
 use Rattle.unit.proofs.section.part.Goals as goal
 
 pub returns : goal.returns

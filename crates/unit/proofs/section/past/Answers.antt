@@ -1,7 +1,6 @@
 use Prim.Native.Nat.{◌*◌, ◌≤◌}
 use native.Mathlib.Nat.{mul-le-mul}
 use native.Mathlib.Omega.{arith}
-use borrow.Author.Rules.{rules}
 use Rattle.unit.proofs.section.past.Goals as goal
 
 product : (c : goal.After-word-2) → c.args.size * c.word-2.result ≤ 16 * 4294967295

@@ -3,7 +3,6 @@ use Prim.Native.Nat.{◌*◌, ◌≤◌}
 use native.Mathlib.Nat.{zero-mul, mul-le-mul}
 use native.Mathlib.Omega.{arith}
 use Rattle.unit.specs.Size.{set_words}
-use borrow.Author.Rules.{rules}
 use Rattle.unit.proofs.size.work64_room.Goals as goal
 
 -- at most 1,024 words, and n below 2^32

@@ -1,7 +1,6 @@
-use Rattle.std.proofs.Common.{◌≡◌, ℕ, ◌+◌, ◌-◌, ◌*◌, ◌<◌, ◌≤◌, true, length, sym, ◌∙◌, arith, rules}
-use borrow.Author.Tests.{not-true, not-false}
+use Rattle.std.proofs.Common.{◌*◌, ◌<◌, length, sym, ◌∙◌, arith}
 use Rattle.use_def.specs.laws.Sets.{range, within_end}
-use Rattle.use_def.specs.laws.Free.{free_slot, not_free, all_free, free_more}
+use Rattle.use_def.specs.laws.Free.{not_free, all_free, free_more}
 use Rattle.use_def.proofs.dead.each_free.Goals as goal
 
 pub loop-k-init : goal.loop-k-init

@@ -1,7 +1,5 @@
-use Rattle.std.proofs.Common.{◌≡◌, ℕ, ◌+◌, ◌-◌, ◌*◌, ◌<◌, ◌≤◌, true, length, sym, ◌∙◌, arith, rules}
-use borrow.Author.Tests.{not-true, not-false}
-use Rattle.use_def.specs.laws.Sets.{range, within_end}
-use Rattle.use_def.specs.laws.Free.{free_slot, not_free, all_free, free_more}
+use Rattle.std.proofs.Common.{◌≡◌, ℕ, ◌+◌, ◌-◌, ◌<◌, ◌≤◌, true}
+use Rattle.use_def.specs.laws.Free.{free_slot}
 use Rattle.use_def.proofs.dead.each_free.Given as goal
 
 abbrev pub invariant-loop-k : goal.invariant-loop-k

@@ -1,5 +1,3 @@
-use borrow.Author.Tests.{not-true, not-false}
-use Rattle.std.proofs.Common.{rules}
 use Rattle.use_def.proofs.dead.is_dead.Goals as goal
 
 pub returns-then-not-is_pure : goal.returns-then-not-is_pure

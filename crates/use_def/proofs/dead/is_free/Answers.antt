@@ -1,5 +1,4 @@
 use Rattle.flow.specs.laws.Control.{same_default}
-use Rattle.std.proofs.Common.{rules}
 use Rattle.use_def.proofs.dead.is_free.Goals as goal
 
 pub returns : goal.returns

@@ -1,4 +1,4 @@
-use Rattle.std.proofs.Common.{◌*◌, length, sym, ◌∙◌, arith, rules}
+use Rattle.std.proofs.Common.{◌*◌, length, sym, ◌∙◌, arith}
 use Rattle.use_def.specs.laws.Sets.{within_end}
 use Rattle.use_def.specs.laws.Free.{one_free}
 use Rattle.use_def.proofs.dead.is_range_free.Goals as goal

@@ -1,4 +1,4 @@
-use Rattle.std.proofs.Common.{sym, ◌∙◌, rules}
+use Rattle.std.proofs.Common.{sym, ◌∙◌}
 use Rattle.instruction.specs.Instruction.{of_word}
 use Rattle.use_def.specs.laws.SingleSets.{single_dead, single_spans}
 use Rattle.use_def.proofs.dead.is_single_dead.Goals as goal

@@ -1,5 +1,5 @@
-use Rattle.std.proofs.Common.{◌-◌, ◌≤◌, length, refl, arith, rules}
-use Rattle.use_def.specs.laws.Wordwise.{Stored, stored_begin, stored_turn, filled}
+use Rattle.std.proofs.Common.{refl, arith}
+use Rattle.use_def.specs.laws.Wordwise.{stored_begin, stored_turn, filled}
 use Rattle.use_def.proofs.row.fill.Goals as goal
 
 pub loop-k-init : goal.loop-k-init

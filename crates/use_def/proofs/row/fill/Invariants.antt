@@ -1,5 +1,5 @@
-use Rattle.std.proofs.Common.{◌-◌, ◌≤◌, length, refl, arith, rules}
-use Rattle.use_def.specs.laws.Wordwise.{Stored, stored_begin, stored_turn, filled}
+use Rattle.std.proofs.Common.{◌-◌, ◌≤◌, length}
+use Rattle.use_def.specs.laws.Wordwise.{Stored}
 use Rattle.use_def.proofs.row.fill.Given as goal
 
 abbrev pub invariant-loop-k : goal.invariant-loop-k

@@ -1,8 +1,8 @@
-use Rattle.std.proofs.Common.{◌≡◌, ◌+◌, ◌-◌, ◌≤◌, length, refl, arith, rules}
+use Rattle.std.proofs.Common.{◌≡◌, ◌+◌, ◌≤◌, length, refl, arith}
 use borrow.Rule.Slice.PartMut.{mid_of}
 use Rattle.words.specs.laws.Regions.{mid_long}
-use Rattle.words.specs.laws.Only.{At, Only, only_none}
-use Rattle.use_def.specs.laws.Wordwise.{join_words, join_past, joined_sets, Stored, stored_begin, stored_end, part_only, part_other, part_turn}
+use Rattle.words.specs.laws.Only.{only_none}
+use Rattle.use_def.specs.laws.Wordwise.{join_past, joined_sets, stored_begin, stored_end, part_only, part_other, part_turn}
 use Rattle.use_def.proofs.row.join.Goals as goal
 
 pub loop-k-init : goal.loop-k-init

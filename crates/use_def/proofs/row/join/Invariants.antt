@@ -1,8 +1,7 @@
-use Rattle.std.proofs.Common.{◌≡◌, ◌+◌, ◌-◌, ◌≤◌, length, refl, arith, rules}
+use Rattle.std.proofs.Common.{◌≡◌, ◌-◌, ◌≤◌, length}
 use borrow.Rule.Slice.PartMut.{mid_of}
-use Rattle.words.specs.laws.Regions.{mid_long}
-use Rattle.words.specs.laws.Only.{At, Only, only_none}
-use Rattle.use_def.specs.laws.Wordwise.{join_words, join_past, joined_sets, Stored, stored_begin, stored_end, part_only, part_other, part_turn}
+use Rattle.words.specs.laws.Only.{At, Only}
+use Rattle.use_def.specs.laws.Wordwise.{join_words, Stored}
 use Rattle.use_def.proofs.row.join.Given as goal
 
 abbrev pub invariant-loop-k : goal.invariant-loop-k

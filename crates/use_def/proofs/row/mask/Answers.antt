@@ -1,4 +1,4 @@
-use Rattle.std.proofs.Common.{◌≡◌, ℕ, ◌+◌, ◌%◌, ◌^◌, ◌<◌, Bool, true, false, arith, rules}
+use Rattle.std.proofs.Common.{◌≡◌, ℕ, ◌+◌, ◌%◌, ◌^◌, ◌<◌, Bool, true, false, arith}
 use mir.Val.{bool_byte}
 use Rattle.use_def.specs.laws.Wordwise.{all_bits}
 use Rattle.use_def.proofs.row.mask.Goals as goal

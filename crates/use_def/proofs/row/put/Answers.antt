@@ -1,5 +1,4 @@
 use Rattle.use_def.specs.laws.Sets.{put_in, put_out}
-use Rattle.std.proofs.Common.{rules}
 use Rattle.use_def.proofs.row.put.Goals as goal
 
 pub returns-then-on : goal.returns-then-on

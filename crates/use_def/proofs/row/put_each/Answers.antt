@@ -1,6 +1,6 @@
-use Rattle.std.proofs.Common.{◌≡◌, ◌-◌, ◌*◌, ◌≤◌, length, arith, rules}
+use Rattle.std.proofs.Common.{◌≡◌, ◌*◌, length, arith}
 use Rattle.use_def.specs.laws.Sets.{range}
-use Rattle.use_def.specs.laws.Sets.{Putting, putting_begin, putting_turn, within_end}
+use Rattle.use_def.specs.laws.Sets.{putting_begin, putting_turn, within_end}
 use Rattle.use_def.proofs.row.put_each.Goals as goal
 
 pub loop-k-init : goal.loop-k-init

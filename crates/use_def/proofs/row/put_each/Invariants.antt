@@ -1,6 +1,5 @@
-use Rattle.std.proofs.Common.{◌≡◌, ◌-◌, ◌*◌, ◌≤◌, length, arith, rules}
-use Rattle.use_def.specs.laws.Sets.{range}
-use Rattle.use_def.specs.laws.Sets.{Putting, putting_begin, putting_turn, within_end}
+use Rattle.std.proofs.Common.{◌-◌, ◌≤◌}
+use Rattle.use_def.specs.laws.Sets.{Putting}
 use Rattle.use_def.proofs.row.put_each.Given as goal
 
 abbrev pub invariant-loop-k : goal.invariant-loop-k

@@ -1,4 +1,4 @@
-use Rattle.std.proofs.Common.{◌/◌, arith, rules}
+use Rattle.std.proofs.Common.{◌/◌, arith}
 use Rattle.use_def.specs.laws.Sets.{if_inside, put_if}
 use Rattle.use_def.proofs.row.put_if.Goals as goal
 

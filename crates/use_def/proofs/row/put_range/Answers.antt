@@ -1,4 +1,4 @@
-use Rattle.std.proofs.Common.{◌*◌, length, arith, rules}
+use Rattle.std.proofs.Common.{◌*◌, length, arith}
 use Rattle.use_def.specs.laws.Sets.{within_end, put_one}
 use Rattle.use_def.proofs.row.put_range.Goals as goal
 

@@ -1,9 +1,7 @@
-use Rattle.std.proofs.Common.{◌≡◌, ◌+◌, ◌-◌, ◌^◌, ◌<◌, ◌≤◌, length, get_or, sym, refl, ◌∙◌, arith, rules}
-use lib.Bits.{or_lt, and_lt}
+use Rattle.std.proofs.Common.{◌≡◌, ◌-◌, ◌≤◌, length}
 use borrow.Rule.Slice.PartMut.{mid_of}
-use Rattle.words.specs.laws.Regions.{mid_long}
-use Rattle.words.specs.laws.Only.{At, Only, only_none}
-use Rattle.use_def.specs.laws.Wordwise.{transfer_words, transfer_past, transferred_sets, stored_end, Storing, storing_begin, moved, part_only, part_other, part_moves}
+use Rattle.words.specs.laws.Only.{At, Only}
+use Rattle.use_def.specs.laws.Wordwise.{transfer_words, Storing}
 use Rattle.use_def.proofs.row.transfer.Given as goal
 
 abbrev pub invariant-loop-k : goal.invariant-loop-k

@@ -1,4 +1,4 @@
-use Rattle.std.proofs.Common.{sym, ◌∙◌, rules}
+use Rattle.std.proofs.Common.{sym, ◌∙◌}
 use Rattle.instruction.specs.laws.Class.{number_below}
 use Rattle.use_def.specs.laws.BranchSets.{put_branch_reads}
 use Rattle.use_def.proofs.touch.branch_before.Goals as goal

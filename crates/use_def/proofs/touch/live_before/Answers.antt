@@ -1,7 +1,6 @@
 use Rattle.unit.specs.Entry.{metadata_at}
 use Rattle.effects.specs.Shape.{Tables, Cell, tables_of}
 use Rattle.use_def.specs.laws.Touched.{writes_fit_any, before}
-use Rattle.std.proofs.Common.{rules}
 use Rattle.use_def.proofs.touch.live_before.Goals as goal
 
 pub put_writes-requires : goal.put_writes-requires

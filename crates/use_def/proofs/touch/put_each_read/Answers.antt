@@ -1,7 +1,6 @@
-use Rattle.std.proofs.Common.{◌-◌, true, arith, rules}
+use Rattle.std.proofs.Common.{arith}
 use Rattle.effects.specs.Shape.{tables_of}
-use Rattle.effects.specs.Effects.{all_reads}
-use Rattle.use_def.specs.laws.Touched.{Ranging, ranging_begin, ranging_next, ranging_fits, ranging_turn, ranging_end}
+use Rattle.use_def.specs.laws.Touched.{ranging_begin, ranging_next, ranging_fits, ranging_turn, ranging_end}
 use Rattle.use_def.proofs.touch.put_each_read.Goals as goal
 
 pub loop-k-init : goal.loop-k-init

@@ -1,7 +1,6 @@
-use Rattle.std.proofs.Common.{ℕ, ◌-◌, List, [], arith, rules}
+use Rattle.std.proofs.Common.{[], arith}
 use Rattle.effects.specs.Shape.{tables_of}
-use Rattle.effects.specs.Effects.{sure_writes}
-use Rattle.use_def.specs.laws.Touched.{Ranging, ranging_begin, ranging_fits, ranging_turn, ranging_end}
+use Rattle.use_def.specs.laws.Touched.{ranging_begin, ranging_fits, ranging_turn, ranging_end}
 use Rattle.use_def.proofs.touch.put_each_write.Goals as goal
 
 pub loop-k-init : goal.loop-k-init

@@ -1,6 +1,5 @@
-use Rattle.std.proofs.Common.{Bool, ◌&&◌, sym, refl, ap, ◌∙◌, rules}
+use Rattle.std.proofs.Common.{Bool, ◌&&◌, sym, refl, ap, ◌∙◌}
 use mathlib.Core.Bool.{and-true}
-use borrow.Author.Tests.{not-true, not-false}
 use Rattle.words.specs.laws.Truth.{left_true}
 use Rattle.instruction.specs.laws.Class.{number_below}
 use Rattle.use_def.specs.laws.SingleSets.{put_single_reads, no_single_reads, none_put}

@@ -1,4 +1,4 @@
-use Rattle.std.proofs.Common.{◌≡◌, ◌*◌, false, [], length, sym, ◌∙◌, rules}
+use Rattle.std.proofs.Common.{◌≡◌, ◌*◌, false, [], length, sym, ◌∙◌}
 use Rattle.unit.specs.Entry.{metadata_at}
 use Rattle.effects.specs.Shape.{Tables, Cell, tables_of}
 use Rattle.effects.specs.laws.ByClass.{is_outside}

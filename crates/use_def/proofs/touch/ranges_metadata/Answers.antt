@@ -1,4 +1,4 @@
-use Rattle.std.proofs.Common.{◌≡◌, ℕ, ◌+◌, ◌*◌, ◌≤◌, Bool, true, false, cond, not, ap, ◌∙◌, arith, rules}
+use Rattle.std.proofs.Common.{◌≡◌, ℕ, ◌+◌, ◌*◌, ◌≤◌, Bool, true, false, cond, not, ap, ◌∙◌, arith}
 use Rattle.unit.specs.Size.{metadata_size}
 use Rattle.effects.specs.laws.Form.{row_of}
 use Rattle.effects.specs.laws.Plain.{is_plain}

@@ -1,5 +1,5 @@
 use borrow.Enum.Refused.{opened}
-use Rattle.std.proofs.Common.{◌≡◌, [], ◌∷◌, get_or, sym, refl, ◌∙◌, rules}
+use Rattle.std.proofs.Common.{◌≡◌, [], ◌∷◌, get_or, sym, refl, ◌∙◌}
 use Rattle.instruction.specs.Class.{named_class}
 use Rattle.effects.specs.laws.Form.{empty_range}
 use Rattle.flow.proofs.Classes.{by_tags}

@@ -1,6 +1,5 @@
 use Rattle.use_def.specs.laws.Touched.{before}
 use Rattle.use_def.specs.laws.SingleSets.{single_stays}
-use Rattle.std.proofs.Common.{rules}
 use Rattle.use_def.proofs.touch.single_before.Goals as goal
 
 pub put_single_reads-requires : goal.put_single_reads-requires

@@ -1,4 +1,4 @@
-use Rattle.std.proofs.Common.{sym, ◌∙◌, rules}
+use Rattle.std.proofs.Common.{sym, ◌∙◌}
 use Rattle.instruction.specs.laws.Class.{number_below}
 use Rattle.use_def.specs.laws.BranchSets.{loop_condition, put_loop_write}
 use Rattle.use_def.proofs.touch.take_loop_write.Goals as goal

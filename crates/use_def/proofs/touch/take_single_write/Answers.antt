@@ -1,4 +1,4 @@
-use Rattle.std.proofs.Common.{refl, rules}
+use Rattle.std.proofs.Common.{refl}
 use Rattle.use_def.specs.laws.SingleSets.{put_single_write}
 use Rattle.use_def.proofs.touch.take_single_write.Goals as goal
 

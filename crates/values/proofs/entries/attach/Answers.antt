@@ -1,5 +1,4 @@
-use Rattle.std.proofs.Common.{◌-◌, rules}
-use Rattle.values.specs.laws.Attaching.{Descent, descent_start, descent_less, descent_on, attach_room, attached}
+use Rattle.values.specs.laws.Attaching.{descent_start, descent_less, descent_on, attach_room, attached}
 use Rattle.values.proofs.entries.attach.Goals as goal
 
 pub loop-w-init : goal.loop-w-init

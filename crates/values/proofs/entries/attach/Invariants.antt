@@ -1,5 +1,5 @@
-use Rattle.std.proofs.Common.{◌-◌, rules}
-use Rattle.values.specs.laws.Attaching.{Descent, descent_start, descent_less, descent_on, attach_room, attached}
+use Rattle.std.proofs.Common.{◌-◌}
+use Rattle.values.specs.laws.Attaching.{Descent}
 use Rattle.values.proofs.entries.attach.Given as goal
 
 abbrev pub invariant-loop-w : goal.invariant-loop-w

@@ -1,6 +1,6 @@
 use Rattle.values.specs.laws.Entries.{bucket_of}
 use Rattle.values.specs.laws.Search.{scaled_low, scaled_fits}
-use Rattle.std.proofs.Common.{◌/◌, arith, rules, le-ltb, lt-ltb}
+use Rattle.std.proofs.Common.{◌/◌, arith, le-ltb, lt-ltb}
 use Rattle.values.proofs.entries.bucket.Goals as goal
 
 pub overflow_mul-mixed : goal.overflow_mul-mixed

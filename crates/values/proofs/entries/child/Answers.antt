@@ -1,5 +1,4 @@
 use Rattle.values.specs.laws.Attaching.{child_shifted}
-use Rattle.std.proofs.Common.{rules}
 use Rattle.values.proofs.entries.child.Goals as goal
 
 pub returns : goal.returns

@@ -1,6 +1,4 @@
-use Rattle.values.specs.laws.Entries.{key}
-use Rattle.values.specs.laws.Search.{ahead, Walk, walk_start, walk_hit, walk_less, walk_on, walk_end}
-use Rattle.std.proofs.Common.{rules}
+use Rattle.values.specs.laws.Search.{walk_start, walk_hit, walk_less, walk_on, walk_end}
 use Rattle.values.proofs.entries.find.Goals as goal
 
 pub loop-p-init : goal.loop-p-init

@@ -1,6 +1,5 @@
 use Rattle.values.specs.laws.Entries.{key}
-use Rattle.values.specs.laws.Search.{ahead, Walk, walk_start, walk_hit, walk_less, walk_on, walk_end}
-use Rattle.std.proofs.Common.{rules}
+use Rattle.values.specs.laws.Search.{ahead, Walk}
 use Rattle.values.proofs.entries.find.Given as goal
 
 abbrev pub invariant-loop-p : goal.invariant-loop-p

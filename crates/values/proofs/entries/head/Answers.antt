@@ -1,5 +1,5 @@
 use Rattle.values.specs.laws.Entries.{head_at}
-use Rattle.std.proofs.Common.{rules, eq-eqb, ne_eqb}
+use Rattle.std.proofs.Common.{eq-eqb, ne_eqb}
 use Rattle.values.proofs.entries.head.Goals as goal
 
 pub returns-then-x-epoch : goal.returns-then-x-epoch

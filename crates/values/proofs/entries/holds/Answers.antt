@@ -1,5 +1,5 @@
 use Rattle.values.specs.laws.Entries.{same_key}
-use Rattle.std.proofs.Common.{refl, rules}
+use Rattle.std.proofs.Common.{refl}
 use Rattle.values.proofs.entries.holds.Goals as goal
 
 pub returns : goal.returns

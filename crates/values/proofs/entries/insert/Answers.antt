@@ -1,4 +1,4 @@
-use Rattle.std.proofs.Common.{arith, length-set, rules}
+use Rattle.std.proofs.Common.{arith, length-set}
 use Rattle.values.specs.laws.Adding.{first_added, attach_asks, later_added}
 use Rattle.values.proofs.entries.insert.Goals as goal
 

@@ -1,5 +1,4 @@
 use Rattle.values.specs.laws.Attaching.{link_shifted}
-use Rattle.std.proofs.Common.{rules}
 use Rattle.values.proofs.entries.link.Goals as goal
 
 pub returns : goal.returns

@@ -1,5 +1,4 @@
 use Rattle.values.specs.laws.Entries.{mixed}
-use Rattle.std.proofs.Common.{rules}
 use Rattle.values.proofs.entries.mix.Goals as goal
 
 pub returns : goal.returns

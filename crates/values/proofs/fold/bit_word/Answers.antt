@@ -1,4 +1,4 @@
-use Rattle.std.proofs.Common.{sym, arith, rules, ne_eqb}
+use Rattle.std.proofs.Common.{sym, arith, ne_eqb}
 use Rattle.values.specs.Fold.{bit_word}
 use Rattle.values.specs.laws.Bitwise.{and_bits, or_bits, xor_bits}
 use Rattle.values.proofs.fold.bit_word.Goals as goal

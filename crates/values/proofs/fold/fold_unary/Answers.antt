@@ -1,5 +1,5 @@
 use borrow.Enum.Refused.{opened}
-use Rattle.std.proofs.Common.{sym, ◌∙◌, rules}
+use Rattle.std.proofs.Common.{sym, ◌∙◌}
 use Rattle.values.specs.laws.Folded.{folded_as}
 use Rattle.values.specs.Number.{fold_unary}
 use Rattle.values.proofs.Unfolded.{unfolded_unary}

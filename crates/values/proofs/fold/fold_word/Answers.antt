@@ -1,4 +1,4 @@
-use Rattle.std.proofs.Common.{arith, rules, ne_eqb}
+use Rattle.std.proofs.Common.{arith, ne_eqb}
 use Rattle.values.specs.Fold.{fold_word}
 use Rattle.values.proofs.fold.fold_word.Goals as goal
 

@@ -1,4 +1,4 @@
-use Rattle.std.proofs.Common.{rules, le-leb}
+use Rattle.std.proofs.Common.{le-leb}
 use borrow.Author.Tests.{lt-leb}
 use Rattle.values.specs.Fold.{low_bits}
 use Rattle.values.proofs.fold.low_8.Goals as goal

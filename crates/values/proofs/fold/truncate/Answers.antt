@@ -1,4 +1,4 @@
-use Rattle.std.proofs.Common.{rules, ne_eqb}
+use Rattle.std.proofs.Common.{ne_eqb}
 use Rattle.values.specs.Fold.{trunc}
 use Rattle.values.proofs.fold.truncate.Goals as goal
 

@@ -1,5 +1,4 @@
 use Rattle.values.specs.laws.Memory.{alike}
-use Rattle.std.proofs.Common.{rules}
 use Rattle.values.proofs.table.are_alike.Goals as goal
 
 pub returns-then-exact : goal.returns-then-exact

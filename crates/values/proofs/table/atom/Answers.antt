@@ -1,6 +1,5 @@
 use Rattle.values.proofs.Reading.{integer_none, integer_zero, integer_entry, float_entry}
 use Rattle.values.specs.laws.Folded.{integer_of}
-use Rattle.std.proofs.Common.{rules}
 use Rattle.values.proofs.table.atom.Goals as goal
 
 pub returns-then-number-zero : goal.returns-then-number-zero

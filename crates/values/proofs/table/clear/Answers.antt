@@ -1,5 +1,5 @@
 use Rattle.values.proofs.Recording.{clears}
-use Rattle.std.proofs.Common.{arith, length-set, rules}
+use Rattle.std.proofs.Common.{arith, length-set}
 use Rattle.values.proofs.table.clear.Goals as goal
 
 pub bounds-t-1 : goal.bounds-t-1

@@ -2,7 +2,7 @@ use Rattle.values.proofs.Growing.{interns_zero, interns_found, interns_new, cons
 use Rattle.values.proofs.Recording.{few}
 use Rattle.values.specs.laws.Entries.{newest}
 use Rattle.values.specs.laws.Memory.{memory_of, constant_key}
-use Rattle.std.proofs.Common.{◌≡◌, arith, rules}
+use Rattle.std.proofs.Common.{◌≡◌, arith}
 use Rattle.values.proofs.table.constant.Goals as goal
 use Rattle.values.proofs.table.constant.Tie as tie
 use Rattle.values.proofs.table.constant.Lts

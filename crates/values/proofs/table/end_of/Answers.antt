@@ -1,5 +1,5 @@
 use Rattle.values.specs.laws.Memory.{end_of}
-use Rattle.std.proofs.Common.{rules, le-ltb, lt-ltb, eq-eqb, ne_eqb}
+use Rattle.std.proofs.Common.{le-ltb, lt-ltb, eq-eqb, ne_eqb}
 use Rattle.values.proofs.table.end_of.Goals as goal
 
 pub returns-then-word-epoch : goal.returns-then-word-epoch

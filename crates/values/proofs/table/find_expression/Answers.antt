@@ -2,7 +2,7 @@ use Rattle.values.proofs.Reading.{expression_none, found_few, expression_value}
 use Rattle.values.proofs.Recording.{few}
 use Rattle.values.specs.laws.Entries.{key, newest}
 use Rattle.values.specs.laws.Memory.{memory_of}
-use Rattle.std.proofs.Common.{◌≡◌, arith, rules}
+use Rattle.std.proofs.Common.{◌≡◌, arith}
 use Rattle.values.proofs.table.find_expression.Goals as goal
 use Rattle.values.proofs.table.find_expression.Tie as tie
 use Rattle.values.proofs.table.find_expression.Lts

@@ -1,4 +1,3 @@
-use Rattle.std.proofs.Common.{rules}
 use Rattle.values.proofs.table.first_expression.Goals as goal
 
 pub returns : goal.returns

@@ -1,5 +1,5 @@
 use Rattle.values.specs.laws.Memory.{first_of}
-use Rattle.std.proofs.Common.{rules, eq-eqb, ne_eqb}
+use Rattle.std.proofs.Common.{eq-eqb, ne_eqb}
 use Rattle.values.proofs.table.first_of.Goals as goal
 
 pub returns-then-word-epoch : goal.returns-then-word-epoch

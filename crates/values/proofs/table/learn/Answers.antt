@@ -1,5 +1,4 @@
 use Rattle.values.proofs.Growing.{expressions_room, expression_new, learns}
-use Rattle.std.proofs.Common.{rules}
 use Rattle.values.proofs.table.learn.Goals as goal
 
 pub insert-requires : goal.insert-requires

@@ -1,6 +1,5 @@
-use Rattle.values.specs.laws.Memory.{memory_of}
-use Rattle.values.proofs.Scanning.{Passed, scan_start, scan_hit, scan_on, scan_end}
-use Rattle.std.proofs.Common.{◌-◌, length, arith, rules}
+use Rattle.values.proofs.Scanning.{scan_start, scan_hit, scan_on, scan_end}
+use Rattle.std.proofs.Common.{arith}
 use Rattle.values.proofs.table.lowest.Goals as goal
 
 pub loop-r-init : goal.loop-r-init

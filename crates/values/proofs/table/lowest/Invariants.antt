@@ -1,6 +1,6 @@
 use Rattle.values.specs.laws.Memory.{memory_of}
-use Rattle.values.proofs.Scanning.{Passed, scan_start, scan_hit, scan_on, scan_end}
-use Rattle.std.proofs.Common.{◌-◌, length, arith, rules}
+use Rattle.values.proofs.Scanning.{Passed}
+use Rattle.std.proofs.Common.{◌-◌, length}
 use Rattle.values.proofs.table.lowest.Given as goal
 
 abbrev pub invariant-loop-r : goal.invariant-loop-r

@@ -1,5 +1,4 @@
 use Rattle.values.proofs.Scanning.{scan_first}
-use Rattle.std.proofs.Common.{rules}
 use Rattle.values.proofs.table.lowest_typed.Goals as goal
 
 pub returns-then-types-from : goal.returns-then-types-from

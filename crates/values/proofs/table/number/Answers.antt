@@ -1,6 +1,6 @@
 use Rattle.values.proofs.Reading.{number_read}
 use Rattle.values.specs.laws.Memory.{number_at}
-use Rattle.std.proofs.Common.{rules, eq-eqb, ne_eqb}
+use Rattle.std.proofs.Common.{eq-eqb, ne_eqb}
 use Rattle.values.proofs.table.number.Goals as goal
 
 pub returns-then-w-t : goal.returns-then-w-t

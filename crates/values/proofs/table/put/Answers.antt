@@ -1,4 +1,4 @@
-use Rattle.std.proofs.Common.{◌-◌, refl, arith, rules}
+use Rattle.std.proofs.Common.{◌-◌, refl, arith}
 use Rattle.values.proofs.table.put.Goals as goal
 use Rattle.values.proofs.table.put.Tie as tie
 use Rattle.values.proofs.table.put.Lts

@@ -1,6 +1,6 @@
 use Rattle.values.proofs.Recording.{Walks, place_asks, place_long, walk_fits, walk_ready, walk_number, walk_near, represents}
 use Rattle.values.specs.laws.Memory.{memory_of, limit}
-use Rattle.std.proofs.Common.{◌<◌, length, refl, arith, rules}
+use Rattle.std.proofs.Common.{◌<◌, length, refl, arith}
 use Rattle.values.proofs.table.representative.Goals as goal
 use Rattle.values.proofs.table.representative.Tie as tie
 use Rattle.values.proofs.table.representative.Lts

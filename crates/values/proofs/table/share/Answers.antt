@@ -1,5 +1,5 @@
 use Rattle.values.proofs.Recording.{Bounded, place_asks, place_long, end_inside, put_asks, near_found, shares_none, shares_found, shares_other}
-use Rattle.std.proofs.Common.{length, refl, arith, rules}
+use Rattle.std.proofs.Common.{length, refl, arith}
 use Rattle.values.proofs.table.share.Goals as goal
 use Rattle.values.proofs.table.share.Tie as tie
 use Rattle.values.proofs.table.share.Lts

@@ -1,5 +1,5 @@
 use Rattle.values.proofs.Recording.{Bounded, place_asks, place_long, end_inside, put_asks, stores}
-use Rattle.std.proofs.Common.{length, refl, arith, rules}
+use Rattle.std.proofs.Common.{length, refl, arith}
 use Rattle.values.proofs.table.store.Goals as goal
 use Rattle.values.proofs.table.store.Tie as tie
 use Rattle.values.proofs.table.store.Lts
