@@ -8,7 +8,6 @@ use Rattle.answer.specs.Clean.{spare_for}
 use Rattle.run.specs.Given.{admitted_worked}
 use Rattle.clean.specs.laws.Cleaning.{answers_cleaned, stop_answers}
 use Rattle.clean.specs.laws.First.{unaltered_answers, room_shortest, clean_refused, clean_unchanged, clean_admitted}
-use borrow.Author.Rules.{rules}
 use Rattle.clean.proofs.answer.Goals as goal
 use Rattle.clean.proofs.answer.Tie as tie
 use Rattle.clean.proofs.answer.Lts

@@ -15,7 +15,6 @@ use Rattle.optimize.specs.PassAnswer.{answer_of}
 use Rattle.clean.specs.declared.Cleaned.{Cleaned}
 use Rattle.clean.specs.CleanAnswer.{cleaned_of}
 use Rattle.optimize.specs.laws.Lines.{clean_linable, clean_moves}
-use borrow.Author.Rules.{rules}
 use Rattle.clean.proofs.clean.Goals as goal
 use Rattle.clean.proofs.clean.Tie as tie
 use Rattle.clean.proofs.clean.Lts

@@ -1,10 +1,9 @@
-use mathlib.Core.Path.{◌≡◌, refl}
+use mathlib.Core.Path.{refl}
 use native.Mathlib.Omega.{arith}
 use lib.ListN.{length}
 use Rattle.words.specs.Bytes.{Bytes}
 use Rattle.clean.specs.laws.Cleaning.{answers_cleaned, stop_answers, ready_as}
 use Rattle.clean.specs.laws.First.{unaltered_answers, first_worked, first_unchanged, first_refused, first_ready, first_rewritten}
-use borrow.Author.Rules.{rules}
 use Rattle.clean.proofs.first_pass.Goals as goal
 use Rattle.clean.proofs.first_pass.Tie as tie
 use Rattle.clean.proofs.first_pass.Lts

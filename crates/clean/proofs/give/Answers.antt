@@ -1,6 +1,5 @@
 use mathlib.Core.Path.{refl, ◌∙◌}
 use Rattle.clean.specs.laws.Cleaning.{give_answers}
-use borrow.Author.Rules.{rules}
 use Rattle.clean.proofs.give.Goals as goal
 
 pub returns : goal.returns

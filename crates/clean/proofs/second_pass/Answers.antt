@@ -4,7 +4,6 @@ use native.Mathlib.Omega.{arith}
 use Rattle.answer.specs.Answer.{sections_of}
 use Rattle.run.specs.laws.Reading.{retained_in}
 use Rattle.clean.specs.laws.Cleaning.{answers_cleaned, stop_answers, from_unchanged, from_refused, ready_as, next_ready, from_rewritten}
-use borrow.Author.Rules.{rules}
 use Rattle.clean.proofs.second_pass.Goals as goal
 use Rattle.clean.proofs.second_pass.Tie as tie
 use Rattle.clean.proofs.second_pass.Lts

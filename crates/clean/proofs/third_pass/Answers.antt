@@ -5,7 +5,6 @@ use Rattle.answer.specs.Answer.{sections_of}
 use Rattle.answer.specs.Clean.{clean_from}
 use Rattle.run.specs.laws.Reading.{retained_in}
 use Rattle.clean.specs.laws.Cleaning.{answers_cleaned, stop_answers, from_unchanged, from_refused, next_ready, from_rewritten}
-use borrow.Author.Rules.{rules}
 use Rattle.clean.proofs.third_pass.Goals as goal
 use Rattle.clean.proofs.third_pass.Tie as tie
 use Rattle.clean.proofs.third_pass.Lts

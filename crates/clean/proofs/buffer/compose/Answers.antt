@@ -1,10 +1,5 @@
 use mathlib.Core.Path.{◌≡◌, refl, ◌∙◌}
-use Prim.Native.Nat.{◌-◌, ◌*◌, ◌≤◌}
 use native.Mathlib.Omega.{arith}
-use lib.ListN.{length}
-use borrow.Rule.Slice.PartMut.{put_mid}
-use borrow.Author.Rules.{rules}
-use Rattle.unit.specs.Size.{place_size}
 use Rattle.clean.specs.laws.Placing.{composed, place_left, compose_turn, compose_end}
 use Rattle.clean.proofs.buffer.compose.Goals as goal
 

@@ -1,11 +1,9 @@
-use mathlib.Core.Path.{◌≡◌, refl, ◌∙◌}
+use mathlib.Core.Path.{◌≡◌}
 use Prim.Native.Nat.{◌-◌, ◌*◌, ◌≤◌}
-use native.Mathlib.Omega.{arith}
 use lib.ListN.{length}
 use borrow.Rule.Slice.PartMut.{put_mid}
-use borrow.Author.Rules.{rules}
 use Rattle.unit.specs.Size.{place_size}
-use Rattle.clean.specs.laws.Placing.{composed, place_left, compose_turn, compose_end}
+use Rattle.clean.specs.laws.Placing.{composed}
 use Rattle.clean.proofs.buffer.compose.Given as goal
 
 abbrev pub invariant-loop-p : goal.invariant-loop-p

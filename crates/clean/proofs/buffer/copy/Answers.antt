@@ -1,9 +1,6 @@
 use mathlib.Core.Path.{◌≡◌, refl, ◌∙◌}
-use Prim.Native.Nat.{◌-◌, ◌≤◌}
 use native.Mathlib.Omega.{arith}
-use lib.ListN.{length, length-set}
-use borrow.Rule.Slice.PartMut.{mid_of, put_mid}
-use borrow.Author.Rules.{rules}
+use lib.ListN.{length-set}
 use Rattle.clean.specs.laws.Placing.{copy_turn}
 use Rattle.clean.proofs.buffer.copy.Goals as goal
 

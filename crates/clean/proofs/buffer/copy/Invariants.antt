@@ -1,10 +1,7 @@
-use mathlib.Core.Path.{◌≡◌, refl, ◌∙◌}
+use mathlib.Core.Path.{◌≡◌}
 use Prim.Native.Nat.{◌-◌, ◌≤◌}
-use native.Mathlib.Omega.{arith}
-use lib.ListN.{length, length-set}
+use lib.ListN.{length}
 use borrow.Rule.Slice.PartMut.{mid_of, put_mid}
-use borrow.Author.Rules.{rules}
-use Rattle.clean.specs.laws.Placing.{copy_turn}
 use Rattle.clean.proofs.buffer.copy.Given as goal
 
 abbrev pub invariant-loop-i : goal.invariant-loop-i

@@ -2,7 +2,6 @@ use Rattle.words.specs.Bytes.{Bytes}
 use mathlib.Core.Path.{refl}
 use native.Mathlib.Omega.{arith}
 use Rattle.clean.specs.laws.Later.{small_answers, unchanged_answers, refused_answers, places_inside, rewritten_answers}
-use borrow.Author.Rules.{rules}
 use Rattle.clean.proofs.later.later.Goals as goal
 use Rattle.clean.proofs.later.later.Tie as tie
 use Rattle.clean.proofs.later.later.Lts

@@ -1,5 +1,4 @@
 use Rattle.clean.specs.laws.Later.{place_asks, place_puts}
-use borrow.Author.Rules.{rules}
 use Rattle.clean.proofs.later.place.Goals as goal
 
 pub compose-requires : goal.compose-requires

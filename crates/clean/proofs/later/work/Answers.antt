@@ -1,9 +1,7 @@
-use mathlib.Core.Path.{◌≡◌}
 use native.Mathlib.Omega.{arith}
 use Rattle.words.specs.Bytes.{Bytes}
 use Rattle.optimize.specs.laws.Given.{answers_same}
 use Rattle.clean.specs.laws.Ready.{code_part, metadata_part, later_workable, later_outcome_lem}
-use borrow.Author.Rules.{rules}
 use Rattle.clean.proofs.later.work.Goals as goal
 use Rattle.clean.proofs.later.work.Tie as tie
 use Rattle.clean.proofs.later.work.Lts
