@@ -12,7 +12,8 @@ use Rattle.words.specs.Le.{u32_at}
 use Rattle.unit.specs.Layout.{header_of, is_unit, layout_of}
 use Rattle.unit.specs.Refusal.{short_buffer}
 use Rattle.unit.specs.Size.{line_size}
-use Rattle.unit.specs.laws.UnitLaws.{WellFormed, unit_laid, layout_unit}
+use Rattle.unit.specs.laws.UnitLaws.{WellFormed, layout_unit}
+use Rattle.unit.proofs.laws.UnitLaws.{unit_laid}
 use Rattle.unit.specs.declared.Header.{Header}
 use Rattle.unit.specs.declared.Layout.TheVariants.{Unit as UnitLayout, Refused as RefusedLayout}
 use Rattle.again.specs.Again.{counts_with, offsets_of, header_with}

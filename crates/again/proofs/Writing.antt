@@ -15,7 +15,8 @@ use Rattle.words.specs.laws.Le.{length_to_le, to_le_mod}
 use Rattle.words.specs.laws.Regions.{mid_long, mid_more, put_long, put_more, put_put}
 use Rattle.unit.specs.Layout.{header_of}
 use Rattle.unit.specs.Size.{header_size, instruction_size, metadata_size, line_size, result_header_size}
-use Rattle.unit.specs.laws.UnitLaws.{WellFormed, unit_laid}
+use Rattle.unit.specs.laws.UnitLaws.{WellFormed}
+use Rattle.unit.proofs.laws.UnitLaws.{unit_laid}
 use Rattle.unit.specs.declared.Header.{Header}
 use Rattle.again.specs.Again.{counts_with, offsets_of, header_with, header_words, header_bytes, bytes_of}
 use Rattle.again.specs.LaidOut.{laid_unit}

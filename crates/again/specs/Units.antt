@@ -11,7 +11,8 @@ use Rattle.unit.specs.Layout.{header_of, wide_select, metadata_of, lines_of, lay
 use Rattle.unit.specs.Refusal.{too_many_cases}
 use Rattle.unit.specs.Result.{Retained}
 use Rattle.unit.specs.Size.{line_size}
-use Rattle.unit.specs.laws.UnitLaws.{WellFormed, unit_laid, too_many_cases_lem}
+use Rattle.unit.specs.laws.UnitLaws.{WellFormed, too_many_cases_lem}
+use Rattle.unit.proofs.laws.UnitLaws.{unit_laid}
 use Rattle.unit.specs.declared.Layout.TheVariants.{Unit, Refused}
 use Rattle.unit.specs.declared.Line.{Line}
 use Rattle.effects.specs.Shape.{cell_at}

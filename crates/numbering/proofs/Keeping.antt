@@ -11,7 +11,7 @@ use Rattle.values.specs.laws.Folded.{expression_of}
 use Rattle.values.specs.laws.Entries.{Key, value, newest}
 use Rattle.values.specs.laws.Search.{newest_le}
 use Rattle.values.specs.laws.Memory.{memory_of, number_at, expression_key, limit, expression_if, expression_at, Ready, atom_in, atom_found, Holds}
-use Rattle.values.specs.laws.Lowest.{lowest_found}
+use Rattle.values.proofs.laws.Lowest.{lowest_found}
 use Rattle.values.specs.laws.Promises.{Kept, Same, Shares}
 use Rattle.numbering.specs.laws.Walk.{Room}
 use Rattle.values.specs.declared.Atom.{Atom}

@@ -19,7 +19,8 @@ use Rattle.unit.specs.declared.Line.{Line}
 use Rattle.lines.specs.Lines.{moved_lines, places_of}
 use Rattle.unit.specs.Entry.{metadata_at, lines_in, constant_of, constant_at, constant_kind, constant_value}
 use Rattle.unit.specs.Layout.{header_of, code_of, metadata_of, constants_of, lines_of, is_unit, lines_rise, layout_of}
-use Rattle.unit.specs.laws.UnitLaws.{MetadataFields, unit_laid, layout_unit}
+use Rattle.unit.specs.laws.UnitLaws.{MetadataFields, layout_unit}
+use Rattle.unit.proofs.laws.UnitLaws.{unit_laid}
 use Rattle.unit.specs.Result.{Retained, result_bytes, read_result}
 use Rattle.unit.specs.Size.{instruction_size, metadata_size, constant_size, result_size, max_instructions}
 use Rattle.unit.specs.declared.Layout.{Layout}

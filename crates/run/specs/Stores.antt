@@ -18,8 +18,8 @@ use Rattle.unit.specs.Size.{set_words, max_set_words}
 use Rattle.effects.specs.Shape.{Tables, Sections, Cell, cell_at}
 use Rattle.effects.specs.Effects.{sure_writes, writes, range_has, all_of, any_of}
 use Rattle.effects.specs.laws.Sound.{sound, sure_within}
-use Rattle.effects.specs.laws.ByClass.{perhaps_by_class}
-use Rattle.effects.specs.laws.Ranges.{writes_sure}
+use Rattle.effects.proofs.laws.ByClass.{perhaps_by_class}
+use Rattle.effects.proofs.laws.Ranges.{writes_sure}
 use Rattle.unit.specs.Layout.{header_of}
 use Rattle.unit.specs.Result.{Retained}
 use Rattle.lines.specs.Lines.{places_of}

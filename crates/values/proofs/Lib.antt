@@ -7,3 +7,4 @@ pub mod Learning
 pub mod Recording
 pub mod Growing
 pub mod Reading
+pub mod laws

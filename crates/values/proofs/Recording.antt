@@ -8,7 +8,8 @@ use borrow.Author.Tests.{eqb-false}
 use Rattle.words.specs.laws.Regions.{mid_set_before}
 use Rattle.words.specs.laws.Truth.{both}
 use Rattle.values.specs.Values.{Values, value_of, lowest_slot, or_itself, representative}
-use Rattle.values.specs.laws.Lowest.{holds_as, lowest_is, lowest_none}
+use Rattle.values.specs.laws.Lowest.{holds_as}
+use Rattle.values.proofs.laws.Lowest.{lowest_is, lowest_none}
 use Rattle.values.specs.laws.Entries.{Linked}
 use Rattle.values.specs.laws.Adding.{next_epoch}
 use Rattle.values.specs.laws.Memory.{slots_at, bounds_at, constants_at, expressions_at, end_at, Memory, memory_of, number_at, bounds_of, first_of, end_of, alike, holder, Lowest, limit, Ordered, Ready, atom_in, Holds}

@@ -10,7 +10,8 @@ use Rattle.unit.specs.declared.Header.{Header}
 use Rattle.unit.specs.declared.Layout.TheVariants.{Unit}
 use Rattle.unit.specs.declared.Layout.TheVariants as layout
 use Rattle.unit.specs.Layout.{header_of, layout_of}
-use Rattle.unit.specs.laws.UnitLaws.{unit_laid, layout_unit}
+use Rattle.unit.specs.laws.UnitLaws.{layout_unit}
+use Rattle.unit.proofs.laws.UnitLaws.{unit_laid}
 use Rattle.unit.specs.Refusal.{short_buffer, metadata_count, type_count}
 use Rattle.unit.specs.Size.{output_room, work32_room, work64_room, max_instructions, max_local_slots}
 use Rattle.effects.specs.declared.Check.TheVariants.{Passed, Refused}

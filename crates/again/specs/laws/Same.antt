@@ -20,7 +20,8 @@ use Rattle.instruction.specs.Instruction.{to_word, instruction_at}
 use Rattle.unit.specs.Entry.{metadata_at, metadata_bytes, line_at, line_bytes, lines_in}
 use Rattle.unit.specs.Layout.{header_of, is_unit, code_of, metadata_of, types_of, constants_of, functions_of, externs_of, cases_of, lines_of}
 use Rattle.unit.specs.Size.{header_size, instruction_size, metadata_size, line_size}
-use Rattle.unit.specs.laws.UnitLaws.{WellFormed, unit_laid, metadata_words}
+use Rattle.unit.specs.laws.UnitLaws.{WellFormed, metadata_words}
+use Rattle.unit.proofs.laws.UnitLaws.{unit_laid}
 use Rattle.answer.specs.Answer.{cells_of}
 use Rattle.run.specs.Given.{cells_long, metadata_fields}
 use Rattle.again.specs.Again.{counts_with, offsets_of, header_with, header_words, bytes_of, header_bytes, cell_code, cell_metadata, unit_of}

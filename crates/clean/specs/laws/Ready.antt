@@ -16,7 +16,8 @@ use Rattle.words.specs.laws.Lists.{length_tabulate, get_d_tabulate}
 use Rattle.words.specs.laws.Regions.{mid_long}
 use Rattle.instruction.specs.Instruction.{instruction_at}
 use Rattle.unit.specs.Entry.{metadata_at, good_metadata}
-use Rattle.unit.specs.laws.UnitLaws.{unit_laid, result_long, result_header_long, code_bytes_long, metadata_bytes_all_long, place_bytes_long}
+use Rattle.unit.specs.laws.UnitLaws.{result_long, result_header_long, code_bytes_long, metadata_bytes_all_long, place_bytes_long}
+use Rattle.unit.proofs.laws.UnitLaws.{unit_laid}
 use Rattle.unit.specs.Layout.{header_of, constants_of, cases_of, is_unit}
 use Rattle.unit.specs.Result.{Retained, retained_from, result_header, code_bytes, metadata_bytes_all, place_bytes, line_bytes_all, result_bytes, result_metadata_at, result_places_at}
 use Rattle.unit.specs.Size.{place_size, instruction_size, metadata_size, constant_size, case_size, result_header_size, result_size, set_words, max_set_words, max_instructions}

@@ -16,7 +16,8 @@ use Rattle.unit.specs.Entry.{metadata_at, good_metadata}
 use Rattle.unit.specs.Layout.{header_of, code_of, metadata_of, types_of, functions_of, externs_of, cases_of, is_unit, layout_of}
 use Rattle.unit.specs.Refusal.{metadata_count, type_count, branch_outside}
 use Rattle.unit.specs.Size.{instruction_size, metadata_size, case_size, max_local_slots}
-use Rattle.unit.specs.laws.UnitLaws.{unit_laid, layout_unit}
+use Rattle.unit.specs.laws.UnitLaws.{layout_unit}
+use Rattle.unit.proofs.laws.UnitLaws.{unit_laid}
 use Rattle.effects.specs.declared.Check.{Check}
 use Rattle.effects.specs.declared.Check.TheVariants.{Passed, Refused}
 use Rattle.effects.specs.Check.{operand_refusal, operand_check}

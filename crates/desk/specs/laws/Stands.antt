@@ -13,7 +13,8 @@ use Rattle.instruction.specs.Instruction.{class}
 use Rattle.unit.specs.declared.Constant.{Constant}
 use Rattle.unit.specs.declared.Constant.TheVariants.{Nil, Bool as BoolConstant, Int, Float, String, Missing}
 use Rattle.effects.specs.Shape.{Sections, Cell, cell_at}
-use Rattle.effects.specs.laws.ByClass.{is_outside, reads_by_class, reads_by_class_lem}
+use Rattle.effects.specs.laws.ByClass.{is_outside, reads_by_class}
+use Rattle.effects.proofs.laws.ByClass.{reads_by_class_lem}
 use Rattle.flow.specs.Branch.{branches, target_by}
 use Rattle.values.specs.Fold.{folding_unary, folding_binary}
 use Rattle.run.specs.System.{System, after}

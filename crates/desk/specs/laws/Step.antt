@@ -22,7 +22,8 @@ use Rattle.unit.specs.Entry.{constant_at}
 use Rattle.effects.specs.declared.Range.{Range}
 use Rattle.effects.specs.Shape.{Sections, Cell}
 use Rattle.effects.specs.Effects.{all_reads, writes, range_has, range_within, all_of, any_of}
-use Rattle.effects.specs.laws.ByClass.{is_outside, reads_by_class, writes_by_class, reads_by_class_lem, writes_by_class_lem}
+use Rattle.effects.specs.laws.ByClass.{is_outside, reads_by_class, writes_by_class}
+use Rattle.effects.proofs.laws.ByClass.{reads_by_class_lem, writes_by_class_lem}
 use Rattle.effects.specs.laws.Single.{is_single}
 use Rattle.effects.specs.laws.Sound.{sound, within_slot}
 use Rattle.flow.specs.Branch.{target_by}

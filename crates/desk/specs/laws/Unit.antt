@@ -11,7 +11,7 @@ use Rattle.instruction.specs.declared.Class.{Class}
 use Rattle.instruction.specs.declared.Class.TheVariants.{Hint, LoadInt, LoadConst, Copy, CopyN, Unary, Binary, Jump, JumpIf, JumpIfNot, ForLoop, Return, Panic, Outside, Invalid}
 use Rattle.instruction.specs.declared.Instruction.{Instruction}
 use Rattle.unit.specs.Layout.{is_unit, code_of, constants_of}
-use Rattle.unit.specs.laws.UnitLaws.{unit_laid}
+use Rattle.unit.proofs.laws.UnitLaws.{unit_laid}
 use Rattle.unit.specs.declared.Constant.{Constant}
 use Rattle.unit.specs.declared.Constant.TheVariants.{Nil, Bool as BoolConstant, Int, Float, String, Missing}
 use Rattle.unit.specs.Entry.{constant_at}
@@ -24,7 +24,8 @@ use Rattle.run.specs.laws.Runnable.{Runnable}
 use Rattle.run.specs.laws.Slots.{named_of}
 use Rattle.effects.specs.Effects.{all_reads, writes, range_within, all_of}
 use Rattle.effects.specs.declared.Range.{Range}
-use Rattle.effects.specs.laws.ByClass.{is_outside, reads_by_class, writes_by_class, reads_by_class_lem, writes_by_class_lem}
+use Rattle.effects.specs.laws.ByClass.{is_outside, reads_by_class, writes_by_class}
+use Rattle.effects.proofs.laws.ByClass.{reads_by_class_lem, writes_by_class_lem}
 use Rattle.effects.specs.laws.Sound.{sound, within_slot}
 use Rattle.words.specs.Lists.{is_in}
 use Rattle.words.specs.laws.Truth.{left_true, right_true}

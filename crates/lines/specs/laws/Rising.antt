@@ -7,7 +7,7 @@ use Rattle.words.specs.laws.Lists.{every_at, length_tabulate, get_d_tabulate}
 use Rattle.unit.specs.Entry.{line_at, good_line, lines_in}
 use Rattle.unit.specs.Layout.{header_of, lines_of, is_unit, lines_rise}
 use Rattle.unit.specs.Size.{line_size}
-use Rattle.unit.specs.laws.UnitLaws.{unit_laid}
+use Rattle.unit.proofs.laws.UnitLaws.{unit_laid}
 use Rattle.lines.specs.laws.Moving.{RisingLines, no_line}
 
 -- each place is below the next

@@ -23,7 +23,8 @@ use Rattle.effects.specs.Check.{operand_refusal}
 use Rattle.effects.specs.laws.Cells.{cell_of, cells_by, cells_long, cell_at_lem}
 use Rattle.words.specs.laws.Truth.{left_true, right_true}
 use Rattle.effects.specs.laws.Operands.{cases_inside}
-use Rattle.effects.specs.laws.ByClass.{is_outside, writes_by_class, sure_by_class}
+use Rattle.effects.specs.laws.ByClass.{is_outside, writes_by_class}
+use Rattle.effects.proofs.laws.ByClass.{sure_by_class}
 use Rattle.effects.specs.laws.Sound.{Sound, sound, sure_within}
 use Rattle.flow.specs.Branch.{branch_inside}
 use Rattle.flow.specs.Block.{block_of, block_count}

@@ -13,7 +13,8 @@ use Rattle.effects.specs.declared.Range.{Range}
 use Rattle.effects.specs.Shape.{Sections, Cell}
 use Rattle.effects.specs.Effects.{writes, all_of}
 use Rattle.effects.specs.laws.Form.{empty_range}
-use Rattle.effects.specs.laws.ByClass.{is_outside, writes_by_class, writes_by_class_lem}
+use Rattle.effects.specs.laws.ByClass.{is_outside, writes_by_class}
+use Rattle.effects.proofs.laws.ByClass.{writes_by_class_lem}
 use Rattle.values.specs.Number.{is_scalar}
 use Rattle.use_def.specs.laws.Free.{free_slot, free_range, dead_by}
 use Rattle.liveness.specs.Live.{Row}

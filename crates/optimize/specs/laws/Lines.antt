@@ -15,7 +15,8 @@ use Rattle.unit.specs.Entry.{lines_in}
 use Rattle.unit.specs.Layout.{header_of, lines_of, is_unit}
 use Rattle.unit.specs.Result.{Retained, result_bytes}
 use Rattle.unit.specs.Size.{line_size, max_instructions, output_room, result_size}
-use Rattle.unit.specs.laws.UnitLaws.{unit_laid, result_long}
+use Rattle.unit.specs.laws.UnitLaws.{result_long}
+use Rattle.unit.proofs.laws.UnitLaws.{unit_laid}
 use Rattle.lines.specs.Lines.{moved_lines, places_of}
 use Rattle.lines.specs.laws.Below.{Rising}
 use Rattle.lines.specs.laws.Moving.{RisingLines, Unlined}

@@ -9,7 +9,7 @@ use borrow.Author.Tests.{leb-true}
 use Rattle.words.specs.Bytes.{Bytes}
 use Rattle.words.specs.laws.Bytes.{bytes_mid}
 use Rattle.words.specs.laws.Truth.{left_true, right_true}
-use Rattle.unit.specs.laws.UnitLaws.{unit_laid}
+use Rattle.unit.proofs.laws.UnitLaws.{unit_laid}
 use Rattle.unit.specs.Layout.{header_of, code_of, metadata_of, types_of, cases_of}
 use Rattle.unit.specs.Size.{instruction_size, constant_size, case_size, output_room, work32_room, work64_room}
 use Rattle.answer.specs.declared.Admission.TheVariants.{Admitted, Unchanged}

@@ -3,7 +3,8 @@ use mathlib.Core.Bool.{true}
 use borrow.Author.Tests.{not-true, not-false}
 use native.Mathlib.Omega.{arith}
 use Rattle.unit.specs.Layout.{has_sections, is_unit, lines_rise, header_of}
-use Rattle.unit.specs.laws.UnitLaws.{has_header, has_sections_lem, no_sections, by_entries, not_laid_out, lines_fall, too_many_cases_lem, laid_out_lem}
+use Rattle.unit.specs.laws.UnitLaws.{has_header, no_sections, by_entries, not_laid_out, lines_fall, too_many_cases_lem, laid_out_lem}
+use Rattle.unit.proofs.laws.UnitLaws.{has_sections_lem}
 use Rattle.parse.proofs.check.Goals as goal
 use Rattle.parse.proofs.check.Goals.{After-word, Else-not-entries, Else-not-has_sections, Else-not-lines_rise}
 

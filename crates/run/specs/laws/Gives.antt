@@ -10,7 +10,8 @@ use Rattle.instruction.specs.Instruction.{class}
 use Rattle.instruction.specs.declared.Class.TheVariants.{Jump}
 use Rattle.effects.specs.Shape.{Tables, Cell}
 use Rattle.effects.specs.Effects.{sure_writes, range_has, any_of}
-use Rattle.effects.specs.laws.ByClass.{is_outside, writes_by_class, by_class, sure_by_class}
+use Rattle.effects.specs.laws.ByClass.{is_outside, writes_by_class, by_class}
+use Rattle.effects.proofs.laws.ByClass.{sure_by_class}
 use Rattle.run.specs.Program.{given_ranges}
 
 module _ (T : Tables) (x : Cell) (inside : is_outside (class x.instruction) ≡ false) where

@@ -24,7 +24,8 @@ use Rattle.unit.specs.Entry.{constant_at}
 use Rattle.effects.specs.Shape.{Tables, Sections, Cell}
 use Rattle.effects.specs.Effects.{all_reads, range_has, any_of}
 use Rattle.effects.specs.Check.{operand_refusal}
-use Rattle.effects.specs.laws.ByClass.{is_outside, reads_by_class, writes_by_class, reads_by_class_lem}
+use Rattle.effects.specs.laws.ByClass.{is_outside, reads_by_class, writes_by_class}
+use Rattle.effects.proofs.laws.ByClass.{reads_by_class_lem}
 use Rattle.flow.specs.Branch.{target_by}
 use Rattle.values.specs.declared.Atom.{Atom}
 use Rattle.values.specs.declared.Atom.TheVariants.{Integer, Float}

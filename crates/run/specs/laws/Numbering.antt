@@ -23,7 +23,7 @@ use Rattle.values.specs.declared.Atom.{Atom}
 use Rattle.values.specs.declared.Atom.TheVariants.{Integer, Float, Definition}
 use Rattle.values.specs.Fold.{fold_word, folding_unary, folding_binary, fits_imm32}
 use Rattle.values.specs.Values.{Values, Expression, empty, at_start, value_of, expression_in, lowest_slot, or_itself, representative, store}
-use Rattle.values.specs.laws.Lowest.{lowest_found}
+use Rattle.values.proofs.laws.Lowest.{lowest_found}
 use Rattle.values.specs.Number.{Numbered, set_a, set_b, set_bc, constant_atom, fold_unary, fold_binary, held_or_stays, folded, is_scalar, stored, copy_or_stay, copied as copiedOf, by_expression, by_value, by_value_with, number_unary, number_unary_with, number_binary, number_binary_with, number_copy, number_constant, number_read, decided, number_jump, number_by, number_by_with, cleared}
 use Rattle.values.specs.laws.Named.{Named}
 use Rattle.instruction.specs.Class.{number_of}

@@ -9,7 +9,8 @@ use Rattle.instruction.specs.Instruction.{class}
 use Rattle.effects.specs.Shape.{Tables, Sections, Cell}
 use Rattle.effects.specs.Effects.{all_reads, sure_writes, perhaps_writes, writes, demands_met}
 use Rattle.effects.specs.Check.{operand_refusal, effects_sound}
-use Rattle.effects.specs.laws.ByClass.{is_outside, reads_by_class, writes_by_class, reads_by_class_lem, sure_by_class, perhaps_by_class, demands_by_class}
+use Rattle.effects.specs.laws.ByClass.{is_outside, reads_by_class, writes_by_class}
+use Rattle.effects.proofs.laws.ByClass.{reads_by_class_lem, sure_by_class, perhaps_by_class, demands_by_class}
 use Rattle.flow.specs.Loop.{is_loop_hint}
 use Rattle.pc_map.specs.Relocate.{moved_jump, moved_for_loop, moved_hint, relocate_by}
 use Rattle.run.specs.Machine.{Words, World}

@@ -15,7 +15,8 @@ use Rattle.effects.specs.Shape.{Tables, Cell}
 use Rattle.effects.specs.Effects.{writes, all_reads, range_fits, range_within, all_of}
 use Rattle.effects.specs.Check.{operand_refusal, effects_sound}
 use Rattle.effects.specs.laws.Operands.{all_append}
-use Rattle.effects.specs.laws.ByClass.{is_outside, reads_by_class, writes_by_class, inside_valid, reads_by_class_lem, writes_by_class_lem, demands_by_class}
+use Rattle.effects.specs.laws.ByClass.{is_outside, reads_by_class, writes_by_class, inside_valid}
+use Rattle.effects.proofs.laws.ByClass.{reads_by_class_lem, writes_by_class_lem, demands_by_class}
 use Rattle.effects.specs.laws.Sound.{sound}
 use Rattle.values.specs.laws.Named.{Named}
 

@@ -18,7 +18,7 @@ use Rattle.unit.specs.declared.Layout.TheVariants.{Unit, Refused}
 use Rattle.unit.specs.declared.Line.{Line}
 use Rattle.unit.specs.declared.Metadata.{Metadata}
 
-passed : (s t : Bool) → cond s t false ≡ true → (s ≡ true) × (t ≡ true)
+pub passed : (s t : Bool) → cond s t false ≡ true → (s ≡ true) × (t ≡ true)
 passed true t e = (refl, e)
 passed false t e = let z : ◌≡◌ {A = ℕ} 0 1 = cc in absurd (omega arith)
 
@@ -33,29 +33,6 @@ pub record Sections (h : Header) (size : ℕ) : Type 0 where
   pub cases : h.offsets.cases ≡ h.offsets.externs + extern_size * h.counts.externs
   pub lines : h.offsets.lines ≡ h.offsets.cases + case_size * h.counts.cases
   pub end : size ≡ h.offsets.lines + line_size * h.counts.lines
-
-pub sections_follow_lem : (h : Header) (size : ℕ) → sections_follow h size ≡ true → Sections h size
-unfolding sections_follow
-sections_follow_lem h size e =
-    let lines = both _ _ e in
-    let cases = both _ _ lines.0 in
-    let externs = both _ _ cases.0 in
-    let functions = both _ _ externs.0 in
-    let constants = both _ _ functions.0 in
-    let types = both _ _ constants.0 in
-    let metadata = both _ _ types.0 in
-    let code = both _ _ metadata.0 in
-    record {
-      code = eqb-true _ _ code.0;
-      metadata = eqb-true _ _ code.1;
-      types = eqb-true _ _ metadata.1;
-      constants = eqb-true _ _ types.1;
-      functions = eqb-true _ _ constants.1;
-      externs = eqb-true _ _ functions.1;
-      cases = eqb-true _ _ externs.1;
-      lines = eqb-true _ _ cases.1;
-      end = eqb-true _ _ lines.1;
-    }
 
 -- so each section lies within the unit
 pub record Within (h : Header) (size : ℕ) : Type 0 where
@@ -131,31 +108,9 @@ pub has_header : (u : List ℕ) → has_sections u ≡ true → header_size ≤ 
 unfolding has_sections
 has_header u e = leb-true header_size (length u) (passed (leb header_size (length u)) _ e).0
 
-pub has_sections_lem : (u : List ℕ) → has_sections u ≡ true → Sections (header_of u) (length u)
-unfolding has_sections
-has_sections_lem u e = sections_follow_lem (header_of u) (length u) (both (sections_follow (header_of u) (length u)) _ (passed (leb header_size (length u)) _ e).1).0
-
-has_counts : (u : List ℕ) → has_sections u ≡ true → good_counts (header_of u) ≡ true
+pub has_counts : (u : List ℕ) → has_sections u ≡ true → good_counts (header_of u) ≡ true
 unfolding has_sections
 has_counts u e = (both (sections_follow (header_of u) (length u)) _ (passed (leb header_size (length u)) _ e).1).1
-
-pub unit_laid : (u : List ℕ) → is_unit u ≡ true → WellFormed u
-unfolding is_unit good_counts
-unit_laid u e =
-    let tests = passed (has_sections u) (good_entries u) e in
-    let counts = both _ _ (has_counts u tests.0) in
-    let s : Sections (header_of u) (length u) = has_sections_lem u tests.0 in
-    let w : Within (header_of u) (length u) = within (header_of u) (length u) s in
-    record {
-      header = has_header u tests.0;
-      locals = leb-true _ _ counts.0;
-      defer = leb-true _ _ counts.1;
-      good = tests.1;
-      sections = s;
-      within = w;
-      lengths = lengths u w;
-      entries = entries u tests.1;
-    }
 
 -- what the check finds, and its answers
 pub no_sections : (u : List ℕ) → has_sections u ≡ false → is_unit u ≡ false

@@ -9,7 +9,8 @@ use Rattle.instruction.specs.Instruction.{of_word, class}
 use Rattle.effects.specs.Shape.{Tables}
 use Rattle.effects.specs.Effects.{range_has, any_of}
 use Rattle.effects.specs.laws.Form.{empty_range}
-use Rattle.effects.specs.laws.ByClass.{reads_by_class, writes_by_class, reads_by_class_lem, sure_by_class}
+use Rattle.effects.specs.laws.ByClass.{reads_by_class, writes_by_class}
+use Rattle.effects.proofs.laws.ByClass.{reads_by_class_lem, sure_by_class}
 use Rattle.effects.specs.laws.Branching.{is_branching, reads_condition, is_loop, by_branching, branching_inside}
 use Rattle.unit.specs.declared.Metadata.{Metadata}
 use Rattle.use_def.specs.laws.Sets.{Put, range, slot_if, slot_within}

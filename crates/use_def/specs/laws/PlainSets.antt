@@ -15,7 +15,8 @@ use Rattle.effects.specs.Shape.{Tables, Cell, range_of}
 use Rattle.effects.specs.Effects.{all_reads, sure_writes}
 use Rattle.effects.specs.laws.Form.{form_at, unpack, row_of}
 use Rattle.effects.specs.laws.TableRows.{rows_read, rows_write}
-use Rattle.effects.specs.laws.Ranges.{CasesInside, reads_other, sure_parts}
+use Rattle.effects.specs.laws.Ranges.{CasesInside}
+use Rattle.effects.proofs.laws.Ranges.{reads_other, sure_parts}
 use Rattle.effects.specs.laws.Plain.{is_plain, slot_form}
 
 -- what an instruction reads and surely writes with metadata m is what it does with m'

@@ -14,7 +14,8 @@ use Rattle.instruction.specs.Instruction.{of_word, class}
 use Rattle.effects.specs.Shape.{Tables, Cell}
 use Rattle.effects.specs.laws.Form.{empty_range}
 use Rattle.effects.specs.laws.ByClass.{reads_by_class, writes_by_class}
-use Rattle.effects.specs.laws.Single.{is_single, reads_first, reads_second, by_single, single_inside}
+use Rattle.effects.specs.laws.Single.{is_single, reads_first, reads_second}
+use Rattle.effects.proofs.laws.Single.{by_single, single_inside}
 use Rattle.unit.specs.Entry.{type_value, type_float}
 use Rattle.unit.specs.declared.Metadata.{Metadata}
 use Rattle.use_def.specs.laws.Sets.{Put, Same, range, slot_if, slot_within}

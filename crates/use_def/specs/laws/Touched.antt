@@ -15,8 +15,10 @@ use Rattle.effects.specs.Effects.{all_reads, sure_writes, range_has, range_withi
 use Rattle.effects.specs.laws.Form.{empty_range}
 use Rattle.words.specs.laws.Truth.{left_true, right_true}
 use Rattle.effects.specs.laws.Operands.{all_at}
-use Rattle.effects.specs.laws.Ranges.{CasesInside, same_sure}
-use Rattle.effects.specs.laws.ByClass.{is_outside, reads_by_class, writes_by_class, reads_by_class_lem, sure_by_class}
+use Rattle.effects.specs.laws.Ranges.{CasesInside}
+use Rattle.effects.proofs.laws.Ranges.{same_sure}
+use Rattle.effects.specs.laws.ByClass.{is_outside, reads_by_class, writes_by_class}
+use Rattle.effects.proofs.laws.ByClass.{reads_by_class_lem, sure_by_class}
 use Rattle.use_def.specs.laws.Sets.{Put, slot_if, put_more, put_as, put_slot, has_none}
 
 -- an instruction's word with metadata

@@ -1,6 +1,6 @@
 use Rattle.effects.specs.Shape.{Tables, tables_of, Cell, met}
 use Rattle.effects.specs.laws.Form.{demand_at}
-use Rattle.effects.specs.laws.Ranges.{demands_row}
+use Rattle.effects.proofs.laws.Ranges.{demands_row}
 use Rattle.effects.proofs.demand.demands_met.Goals as goal
 
 pub returns-then-row-eq0 : goal.returns-then-row-eq0

@@ -6,7 +6,8 @@ use Rattle.instruction.specs.Instruction.{of_word, class}
 use Rattle.instruction.specs.laws.Instruction.{word_fields}
 use Rattle.effects.specs.Shape.{Cell, Tables, tables_of}
 use Rattle.effects.specs.laws.Cells.{cell_of}
-use Rattle.effects.specs.laws.Single.{is_single, single_passes, single_outside}
+use Rattle.effects.specs.laws.Single.{is_single}
+use Rattle.effects.proofs.laws.Single.{single_passes, single_outside}
 use Rattle.effects.proofs.operands.operand_refusal.Goals as goal
 use Rattle.effects.proofs.operands.operand_refusal.Goals.{Else-not-is_single}
 

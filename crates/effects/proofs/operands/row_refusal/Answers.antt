@@ -5,7 +5,8 @@ use Rattle.instruction.specs.laws.Instruction.{word_fields}
 use Rattle.effects.specs.Shape.{Cell, Tables, tables_of}
 use Rattle.effects.specs.laws.Cells.{cell_of}
 use Rattle.effects.specs.laws.Operands.{refused_invalid}
-use Rattle.effects.specs.laws.Plain.{Plain, plain_row, plain_passes, plain_outside}
+use Rattle.effects.specs.laws.Plain.{Plain}
+use Rattle.effects.proofs.laws.Plain.{plain_row, plain_passes, plain_outside}
 use borrow.Author.Rules.{rules}
 use Rattle.effects.proofs.operands.row_refusal.Goals as goal
 

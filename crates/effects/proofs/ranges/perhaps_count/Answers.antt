@@ -1,7 +1,8 @@
 use mathlib.Core.Path.{sym, ◌∙◌}
 use native.Mathlib.Omega.{arith}
 use Rattle.effects.specs.Shape.{Cell}
-use Rattle.effects.specs.laws.Ranges.{perhaps_select, perhaps_next, perhaps_none, case_writes_long}
+use Rattle.effects.specs.laws.Ranges.{case_writes_long}
+use Rattle.effects.proofs.laws.Ranges.{perhaps_select, perhaps_next, perhaps_none}
 use Rattle.effects.proofs.ranges.perhaps_count.Goals as goal
 
 pub returns-in-105 : goal.returns-in-105

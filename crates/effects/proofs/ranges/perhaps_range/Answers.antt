@@ -4,7 +4,8 @@ use native.Mathlib.Omega.{arith}
 use lib.ListN.{length}
 use Rattle.effects.specs.Shape.{Cell, Tables, tables_of}
 use Rattle.effects.specs.Effects.{perhaps_writes}
-use Rattle.effects.specs.laws.Ranges.{perhaps_select, perhaps_only, case_writes_long}
+use Rattle.effects.specs.laws.Ranges.{case_writes_long}
+use Rattle.effects.proofs.laws.Ranges.{perhaps_select, perhaps_only}
 use Rattle.effects.proofs.ranges.perhaps_range.Goals as goal
 use Rattle.effects.proofs.ranges.perhaps_range.Goals.{Start}
 

@@ -1,6 +1,7 @@
 use mathlib.Core.Path.{sym}
 use Rattle.effects.specs.Shape.{Cell}
-use Rattle.effects.specs.laws.Ranges.{reads_select, case_reads_long, read_count_row}
+use Rattle.effects.specs.laws.Ranges.{case_reads_long}
+use Rattle.effects.proofs.laws.Ranges.{reads_select, read_count_row}
 use Rattle.effects.proofs.ranges.read_count.Goals as goal
 
 pub returns-then-op-eq-SELECT_EXEC : goal.returns-then-op-eq-SELECT_EXEC

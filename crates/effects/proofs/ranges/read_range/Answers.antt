@@ -5,7 +5,8 @@ use lib.ListN.{length}
 use Rattle.effects.specs.Shape.{Cell, Tables, tables_of}
 use Rattle.effects.specs.Effects.{all_reads}
 use Rattle.effects.specs.laws.TableRows.{reads_few}
-use Rattle.effects.specs.laws.Ranges.{reads_select, case_reads_long, read_count_row, read_at_row}
+use Rattle.effects.specs.laws.Ranges.{case_reads_long}
+use Rattle.effects.proofs.laws.Ranges.{reads_select, read_count_row, read_at_row}
 use Rattle.effects.proofs.ranges.read_range.Goals as goal
 
 pub case_read-requires : goal.case_read-requires

@@ -1,5 +1,5 @@
 use mathlib.Core.Path.{sym}
-use Rattle.effects.specs.laws.Ranges.{sure_count_row}
+use Rattle.effects.proofs.laws.Ranges.{sure_count_row}
 use Rattle.effects.proofs.ranges.sure_count.Goals as goal
 
 pub returns : goal.returns

@@ -3,7 +3,7 @@ use Prim.Native.Nat.{◌/◌, ◌%◌, ◌≤◌, ◌<◌}
 use native.Mathlib.Omega.{arith}
 use Rattle.effects.specs.Shape.{Cell, Tables, tables_of}
 use Rattle.effects.specs.laws.TableRows.{writes_few}
-use Rattle.effects.specs.laws.Ranges.{sure_count_row, sure_at_row}
+use Rattle.effects.proofs.laws.Ranges.{sure_count_row, sure_at_row}
 use Rattle.effects.proofs.ranges.sure_range.Goals as goal
 use Rattle.effects.proofs.ranges.sure_range.Goals.{Start}
 

@@ -1,5 +1,5 @@
 use borrow.Author.Tests.{eq-eqb, ne_eqb}
-use Rattle.effects.specs.laws.Ranges.{case_reads_at}
+use Rattle.effects.proofs.laws.Ranges.{case_reads_at}
 use Rattle.effects.proofs.select.case_read.Goals as goal
 
 pub returns-then-k-eq0 : goal.returns-then-k-eq0

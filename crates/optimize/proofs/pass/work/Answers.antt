@@ -3,7 +3,7 @@ use native.Mathlib.Omega.{arith}
 use lib.ListN.{length}
 use Rattle.words.specs.Bytes.{Bytes}
 use Rattle.unit.specs.Layout.{header_of}
-use Rattle.unit.specs.laws.UnitLaws.{unit_laid}
+use Rattle.unit.proofs.laws.UnitLaws.{unit_laid}
 use Rattle.optimize.specs.laws.Given.{answers_same}
 use Rattle.optimize.specs.laws.Whole.{room_out, work_workable, work_outcome}
 use Rattle.optimize.proofs.pass.work.Goals as goal

@@ -1,6 +1,6 @@
 use native.Mathlib.Omega.{arith}
 use Rattle.unit.specs.Layout.{header_of}
-use Rattle.unit.specs.laws.UnitLaws.{unit_laid}
+use Rattle.unit.proofs.laws.UnitLaws.{unit_laid}
 use Rattle.unit.proofs.section.metadata.Goals as goal
 
 pub part-requires : goal.part-requires

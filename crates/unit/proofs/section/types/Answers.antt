@@ -2,7 +2,7 @@ use mathlib.Core.Path.{◌∙◌}
 use native.Mathlib.Nat.{one-mul}
 use native.Mathlib.Omega.{arith}
 use Rattle.unit.specs.Layout.{header_of}
-use Rattle.unit.specs.laws.UnitLaws.{unit_laid}
+use Rattle.unit.proofs.laws.UnitLaws.{unit_laid}
 use Rattle.unit.proofs.section.types.Goals as goal
 
 pub part-requires : goal.part-requires

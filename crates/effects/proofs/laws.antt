@@ -1,0 +1,4 @@
+pub mod ByClass
+pub mod Plain
+pub mod Ranges
+pub mod Single
