@@ -10,7 +10,7 @@ use Rattle.unit.specs.Layout.{lines_of}
 use Rattle.answer.specs.Answer.{Lent}
 use Rattle.answer.specs.Clean.{Cleaned as Cleaning, clean_answer, clean_lines}
 use Rattle.answer.specs.Pass.{Outcome, unchanged, refused, rewritten, output_after, lines_after}
-use Rattle.run.specs.Given.{clean_lines_lem, clean_preserves}
+use Rattle.run.proofs.Given.{clean_lines_lem, clean_preserves}
 use Rattle.optimize.specs.PassAnswer.{answer_of}
 use Rattle.clean.specs.declared.Cleaned.{Cleaned}
 use Rattle.clean.specs.CleanAnswer.{cleaned_of}

@@ -27,7 +27,8 @@ use Rattle.optimize.specs.declared.Answer.TheVariants.{Unchanged, Refused, Rewri
 use Rattle.optimize.specs.PassAnswer.{Answers, answer_of}
 use Rattle.optimize.specs.laws.Whole.{given_unit, room_out, room_work, answer_refused, answer_unchanged, answer_admitted}
 use Rattle.run.specs.laws.Reading.{AllFit, retained_in}
-use Rattle.run.specs.laws.Fitting.{AllSound, Again, optimized_again, again_fits}
+use Rattle.run.specs.laws.Fitting.{AllSound}
+use Rattle.run.proofs.laws.Fitting.{Again, optimized_again, again_fits}
 use Rattle.clean.specs.laws.Ready.{Ready, cases_in, written_back, written_ready}
 use Rattle.optimize.specs.laws.Outcomes.{To, outcome_unchanged, outcome_refused, outcome_rewritten}
 use Rattle.clean.specs.laws.Cleaning.{stopped}

@@ -31,7 +31,8 @@ use Rattle.run.specs.Program.{Function}
 use Rattle.run.specs.Returned.{result_function}
 use Rattle.optimize.specs.laws.Given.{Given, WorkRoom, Workable, cells_in, cells_in_lem, outcome_in}
 use Rattle.run.specs.laws.Reading.{AllFit, code_in, metadata_in, places_in, retained_in, retained_at, no_retained, metadata_in_lem, places_in_lem, metadata_back, retained_back}
-use Rattle.run.specs.laws.Fitting.{AllSound, Again, optimized_again, placed_long, placed_fits}
+use Rattle.run.specs.laws.Fitting.{AllSound, placed_long}
+use Rattle.run.proofs.laws.Fitting.{Again, optimized_again, placed_fits}
 use Rattle.clean.specs.laws.Placing.{composed}
 
 -- room for n instructions is room for fewer

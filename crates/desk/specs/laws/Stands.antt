@@ -23,7 +23,7 @@ use Rattle.run.specs.Program.{Function, program_of, event, slots_of, slots_from}
 use Rattle.run.specs.Visits.{Noted, noted, visit, visiting}
 use Rattle.run.specs.laws.RelocatedRun.{pick}
 use Rattle.run.specs.laws.Runnable.{Runnable}
-use Rattle.run.specs.laws.Step.{step_do}
+use Rattle.run.proofs.laws.Step.{step_do}
 use Rattle.desk.specs.declared.Stop.{Stop}
 use Rattle.desk.specs.declared.Stop.TheVariants.{Returned, Panicked, Ended, Other, Limit, Refused}
 use Rattle.desk.specs.Desk.{Stopped, stopped_with, Due, goes, stops, not_executed, loads, due_by, halted, taken, due_at, run_from}

@@ -107,7 +107,18 @@ module _ (F : Function) (keep : List ℕ) (reach : ℕ → Type 0) (live : ℕ �
         → (s : ℕ) → live q s → gives p s ≡ false → live p s
     pub drops : (p : ℕ) → p < length F.cells → reach p → is_kept keep p ≡ false → Dropped p
 
-  module _ (A : Removable) where
+-- What follows of what must hold.
+module _ (F : Function) (keep : List ℕ) (reach : ℕ → Type 0) (live : ℕ → ℕ → Type 0) where
+  abbrev cell : ℕ → Cell
+  cell p = cell_at F.cells p
+
+  abbrev class_at : ℕ → Class
+  class_at p = class (cell p).instruction
+
+  abbrev T : Tables
+  T = F.sections.tables
+
+  module _ (A : Removable F keep reach live) where
     abbrev F' : Function
     F' = result_function F.sections (retain_from keep 0 F.cells)
 
@@ -190,7 +201,7 @@ module _ (F : Function) (keep : List ℕ) (reach : ℕ → Type 0) (live : ℕ �
       unfolding act_by
       jumping x σ k e = rw e (_, refl)
 
-      gone_place : (p : ℕ) (σ : Words) → p < length F.cells → is_kept keep p ≡ false → Dropped p → Gone live (boundary keep) (program_of F W) p σ
+      gone_place : (p : ℕ) (σ : Words) → p < length F.cells → is_kept keep p ≡ false → Dropped F keep reach live p → Gone live (boundary keep) (program_of F W) p σ
       unfolding program_of node_by goto branches
       gone_place p σ h e (store k l+ dead) = record {
         jumps = false;

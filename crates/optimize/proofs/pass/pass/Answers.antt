@@ -2,7 +2,7 @@ use mathlib.Core.Path.{◌∙◌}
 use native.Mathlib.Omega.{arith}
 use lib.ListN.{length}
 use Rattle.words.specs.Bytes.{Bytes}
-use Rattle.run.specs.Given.{pass_preserves}
+use Rattle.run.proofs.Given.{pass_preserves}
 use Rattle.optimize.specs.laws.Lines.{pass_linable, pass_moves}
 use Rattle.optimize.proofs.pass.pass.Goals as goal
 use Rattle.optimize.proofs.pass.pass.Tie as tie
