@@ -28,15 +28,15 @@ use Rattle.answer.specs.Pass.{Outcome, unchanged, refused, rewritten}
 use Rattle.run.specs.System.{System, after}
 use Rattle.run.specs.Machine.{Words, Event, Way, by_return, by_panic, by_reply, by_code, World, Program, State, at, step, step_stays, way_of, log_of}
 use Rattle.run.specs.Program.{Function, program_of}
-use Rattle.run.specs.Given.{cells_long, answer_optimized, worked_well}
+use Rattle.run.proofs.Given.{cells_long, answer_optimized, worked_well}
 use Rattle.run.proofs.Given.{answer_returnable, clean_kept}
 use Rattle.run.specs.Returned.{given_function, result_function}
 use Rattle.run.specs.Visits.{Noted, visiting, noted_at, StandsFor, same_opcode, load_int, copy, jump, SamePlaces}
-use Rattle.run.specs.laws.Checked.{target_inside}
+use Rattle.run.proofs.laws.Checked.{target_inside}
 use Rattle.run.proofs.laws.Passed.{optimized_kept}
 use Rattle.run.specs.laws.Runnable.{Runnable}
 use Rattle.run.specs.laws.Simulation.{after_stays}
-use Rattle.run.specs.laws.Visited.{Visited, now, later}
+use Rattle.run.proofs.laws.Visited.{Visited, now, later}
 use Rattle.run.proofs.laws.Visited.{visited_hold}
 use Rattle.desk.specs.declared.Stop.{Stop}
 use Rattle.desk.specs.declared.Stop.TheVariants.{Returned, Panicked, Ended, Other, Limit, Refused}

@@ -21,7 +21,7 @@ use Rattle.flow.specs.laws.Checking.{lowest_all}
 use Rattle.answer.specs.Pass.{rewritten}
 use Rattle.answer.specs.Answer.{Lent, cells_of, sections_of, count_check, room_for, pass_answer, pass_lines}
 use Rattle.answer.specs.Clean.{cells_after, clean_answer, clean_lines}
-use Rattle.run.specs.Given.{answer_worked}
+use Rattle.run.proofs.Given.{answer_worked}
 use Rattle.run.proofs.Given.{answer_returnable, clean_kept}
 use Rattle.run.specs.Program.{Function}
 use Rattle.run.specs.Returned.{given_function, result_function}

@@ -5,6 +5,4 @@ pub mod Returned
 pub mod Visits
 pub mod Reader
 pub mod Contract
-pub mod Given
-pub mod Stores
 pub mod laws

@@ -18,7 +18,7 @@ use Rattle.unit.specs.declared.Line.{Line}
 use Rattle.effects.specs.Shape.{Cell, cell_at, no_cell}
 use Rattle.answer.specs.Answer.{cells_of, sections_of}
 use Rattle.answer.specs.Clean.{retained_cell, cells_after}
-use Rattle.run.specs.Given.{cell_at_lem, cells_long}
+use Rattle.run.proofs.Given.{cell_at_lem, cells_long}
 use Rattle.run.specs.Returned.{given_function, result_function}
 use Rattle.run.specs.laws.Reading.{AllFit, no_retained, retained_at}
 use Rattle.again.specs.Again.{counts_with, bytes_of, cell_code, cell_metadata, unit_of}

@@ -18,15 +18,15 @@ use Rattle.pc_map.specs.Relocate.{relocate, retain_from}
 use Rattle.pc_map.specs.laws.Relocated.{moved_end, moved_metadata}
 use Rattle.answer.specs.Pass.{Outcome, unchanged, refused, rewritten, is_worked_on, optimized, kept_places, pass}
 use Rattle.answer.specs.Clean.{cells_after, placed_by, after_pass, clean_from}
-use Rattle.run.specs.Given.{Returnable, placed_cells}
+use Rattle.run.proofs.Given.{Returnable, placed_cells}
 use Rattle.run.proofs.Given.{placed_returnable}
 use Rattle.run.specs.Program.{Function}
 use Rattle.run.specs.Returned.{result_function}
-use Rattle.run.specs.laws.Checked.{Well}
+use Rattle.run.proofs.laws.Checked.{Well}
 use Rattle.run.proofs.laws.Checked.{numberable}
-use Rattle.run.specs.laws.Numbered.{Numberable}
+use Rattle.run.proofs.laws.Numbered.{Numberable}
 use Rattle.run.proofs.laws.Numbered.{numbered_function, numbered_at, numbered_long}
-use Rattle.run.specs.laws.Passed.{pass_worked}
+use Rattle.run.proofs.laws.Passed.{pass_worked}
 use Rattle.run.proofs.laws.Passed.{some_code, few, optimized_kept}
 
 -- document 02, L9: no cell has "a SelectExecLayout of more than 24"

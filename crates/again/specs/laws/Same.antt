@@ -23,7 +23,7 @@ use Rattle.unit.specs.Size.{header_size, instruction_size, metadata_size, line_s
 use Rattle.unit.specs.laws.UnitLaws.{WellFormed, metadata_words}
 use Rattle.unit.proofs.laws.UnitLaws.{unit_laid}
 use Rattle.answer.specs.Answer.{cells_of}
-use Rattle.run.specs.Given.{cells_long, metadata_fields}
+use Rattle.run.proofs.Given.{cells_long, metadata_fields}
 use Rattle.again.specs.Again.{counts_with, offsets_of, header_with, header_words, bytes_of, header_bytes, cell_code, cell_metadata, unit_of}
 
 -- ---- numbers

@@ -5,7 +5,7 @@ use lib.ListN.{length}
 use Rattle.unit.specs.Layout.{header_of}
 use Rattle.answer.specs.Answer.{Lent, lent_of, room_for, admission}
 use Rattle.answer.specs.Clean.{spare_for}
-use Rattle.run.specs.Given.{admitted_worked}
+use Rattle.run.proofs.Given.{admitted_worked}
 use Rattle.clean.specs.laws.Cleaning.{answers_cleaned, stop_answers}
 use Rattle.clean.specs.laws.First.{unaltered_answers, room_shortest, clean_refused, clean_unchanged, clean_admitted}
 use Rattle.clean.proofs.answer.Goals as goal

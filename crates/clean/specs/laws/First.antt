@@ -20,14 +20,14 @@ use Rattle.answer.specs.declared.Admission.TheVariants as variant
 use Rattle.answer.specs.Answer.{Lent, lent_of, cells_of, sections_of, room_for, admission}
 use Rattle.answer.specs.Clean.{Cleaned as Cleaning, clean_from, cleaned_first, spare_for, clean_answer}
 use Rattle.answer.specs.Pass.{Outcome, unchanged, optimized, output_after}
-use Rattle.run.specs.Given.{Worked, worked_well, cell_at_lem, cells_long, metadata_fields}
+use Rattle.run.proofs.Given.{Worked, worked_well, cell_at_lem, cells_long, metadata_fields}
 use Rattle.run.specs.Returned.{given_function}
 use Rattle.optimize.specs.declared.Answer.{Answer}
 use Rattle.optimize.specs.declared.Answer.TheVariants.{Unchanged, Refused, Rewritten}
 use Rattle.optimize.specs.PassAnswer.{Answers, answer_of}
 use Rattle.optimize.specs.laws.Whole.{given_unit, room_out, room_work, answer_refused, answer_unchanged, answer_admitted}
 use Rattle.run.specs.laws.Reading.{AllFit, retained_in}
-use Rattle.run.specs.laws.Fitting.{AllSound}
+use Rattle.run.proofs.laws.Fitting.{AllSound}
 use Rattle.run.proofs.laws.Fitting.{Again, optimized_again, again_fits}
 use Rattle.clean.specs.laws.Ready.{Ready, cases_in, written_back, written_ready}
 use Rattle.optimize.specs.laws.Outcomes.{To, outcome_unchanged, outcome_refused, outcome_rewritten}

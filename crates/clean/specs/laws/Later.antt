@@ -20,7 +20,7 @@ use Rattle.optimize.specs.laws.Given.{answers_unchanged, answers_same}
 use Rattle.optimize.specs.laws.Outcomes.{To, outcome_unchanged, outcome_refused, outcome_rewritten}
 use Rattle.optimize.specs.PassAnswer.{answer_of, Answers}
 use Rattle.run.specs.laws.Reading.{places_in, retained_in, retained_at, place_back}
-use Rattle.run.specs.laws.Fitting.{placed_long}
+use Rattle.run.proofs.laws.Fitting.{placed_long}
 use Rattle.run.proofs.laws.Fitting.{Again}
 use Rattle.clean.specs.laws.Placing.{composed, composed_places}
 use Rattle.clean.specs.laws.Ready.{Ready, placed_outcome, later_outcome, before_long, ready_places, ready_again, ready_old, pass_small, pass_worked, written_places, written_long, places_composed, cases_in}

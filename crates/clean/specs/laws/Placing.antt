@@ -15,7 +15,7 @@ use Rattle.answer.specs.Clean.{placed_by}
 use Rattle.pc_map.specs.laws.Retaining.{place_section}
 use Rattle.unit.specs.Size.{place_size}
 use Rattle.run.specs.laws.Reading.{retained_at, no_retained, place_back}
-use Rattle.run.specs.laws.Fitting.{placed_at, placed_long}
+use Rattle.run.proofs.laws.Fitting.{placed_at, placed_long}
 
 -- ---- a buffer's front copied
 

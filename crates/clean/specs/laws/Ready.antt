@@ -25,13 +25,13 @@ use Rattle.effects.specs.Shape.{Sections, cell_at, no_cell}
 use Rattle.answer.specs.Answer.{sections_of}
 use Rattle.answer.specs.Clean.{retained_cell, cells_after, placed_by}
 use Rattle.answer.specs.Pass.{Outcome, unchanged, refused, rewritten, is_worked_on, optimized, pass}
-use Rattle.run.specs.laws.Checked.{Well}
-use Rattle.run.specs.Given.{instruction_fields, constants_below, metadata_fields}
+use Rattle.run.proofs.laws.Checked.{Well}
+use Rattle.run.proofs.Given.{instruction_fields, constants_below, metadata_fields}
 use Rattle.run.specs.Program.{Function}
 use Rattle.run.specs.Returned.{result_function}
 use Rattle.optimize.specs.laws.Given.{Given, WorkRoom, Workable, cells_in, cells_in_lem, outcome_in}
 use Rattle.run.specs.laws.Reading.{AllFit, code_in, metadata_in, places_in, retained_in, retained_at, no_retained, metadata_in_lem, places_in_lem, metadata_back, retained_back}
-use Rattle.run.specs.laws.Fitting.{AllSound, placed_long}
+use Rattle.run.proofs.laws.Fitting.{AllSound, placed_long}
 use Rattle.run.proofs.laws.Fitting.{Again, optimized_again, placed_fits}
 use Rattle.clean.specs.laws.Placing.{composed}
 

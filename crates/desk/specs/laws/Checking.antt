@@ -25,7 +25,7 @@ use Rattle.effects.specs.Shape.{Cell, cell_at, tables_of}
 use Rattle.effects.specs.laws.Cells.{cell_of}
 use Rattle.flow.specs.Branch.{branch_inside, branch_check_in}
 use Rattle.answer.specs.Answer.{cells_of, sections_of, count_check}
-use Rattle.run.specs.Given.{instruction_fields, cell_at_lem, cells_long}
+use Rattle.run.proofs.Given.{instruction_fields, cell_at_lem, cells_long}
 use Rattle.desk.specs.Answer.{and_then, layout_check, frame_check, desk_check}
 
 -- ---- the cells of a unit

@@ -14,10 +14,10 @@ use Rattle.effects.specs.declared.Check.TheVariants.{Passed, Refused}
 use Rattle.effects.specs.Shape.{Sections, Cell}
 use Rattle.effects.specs.laws.Sound.{passed_at}
 use Rattle.answer.specs.Answer.{cells_of, sections_of, count_check}
-use Rattle.run.specs.Given.{cells_long}
+use Rattle.run.proofs.Given.{cells_long}
 use Rattle.run.specs.Program.{Function}
 use Rattle.run.specs.Returned.{given_function}
-use Rattle.run.specs.laws.Checked.{target_inside}
+use Rattle.run.proofs.laws.Checked.{target_inside}
 use Rattle.run.specs.laws.Runnable.{Runnable}
 use Rattle.desk.specs.Answer.{and_then, layout_check, frame_check, desk_check, stopped_by, desk_answer, stepped_by, step_answer}
 use Rattle.desk.specs.Desk.{Due, goes, stops, not_executed, due_at}

@@ -14,7 +14,7 @@ use Rattle.unit.specs.declared.Constant.{Constant}
 use Rattle.unit.specs.declared.Constant.TheVariants.{Nil, Bool as BoolConstant, Int, Float, String, Missing}
 use Rattle.effects.specs.Shape.{Sections, Cell, cell_at}
 use Rattle.values.specs.Fold.{folding_unary, folding_binary}
-use Rattle.run.specs.laws.RelocatedRun.{pick}
+use Rattle.run.proofs.laws.RelocatedRun.{pick}
 use Rattle.desk.specs.declared.Stop.{Stop}
 use Rattle.desk.specs.declared.Stop.TheVariants.{Returned, Panicked, Ended, Other, Limit, Refused}
 use Rattle.desk.specs.Charge.{price_at, priced, spent_from}

@@ -21,7 +21,7 @@ use Rattle.run.specs.System.{System, after}
 use Rattle.run.specs.Machine.{Words, Event, Way, by_return, by_panic, World, Program, State, at, over, step, way_of, finish}
 use Rattle.run.specs.Program.{Function, program_of, event, slots_of, slots_from}
 use Rattle.run.specs.Visits.{Noted, noted, visit, visiting}
-use Rattle.run.specs.laws.RelocatedRun.{pick}
+use Rattle.run.proofs.laws.RelocatedRun.{pick}
 use Rattle.run.specs.laws.Runnable.{Runnable}
 use Rattle.run.proofs.laws.Step.{step_do}
 use Rattle.desk.specs.declared.Stop.{Stop}

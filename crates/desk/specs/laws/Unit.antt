@@ -18,7 +18,7 @@ use Rattle.unit.specs.Entry.{constant_at}
 use Rattle.effects.specs.Check.{operand_refusal}
 use Rattle.effects.specs.Shape.{Cell, cell_at}
 use Rattle.answer.specs.Answer.{cells_of, sections_of}
-use Rattle.run.specs.Given.{cell_at_lem, cells_long}
+use Rattle.run.proofs.Given.{cell_at_lem, cells_long}
 use Rattle.run.specs.Returned.{given_function}
 use Rattle.run.specs.laws.Runnable.{Runnable}
 use Rattle.run.specs.laws.Slots.{named_of}

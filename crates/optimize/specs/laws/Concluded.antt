@@ -20,7 +20,7 @@ use Rattle.pc_map.specs.laws.Boundaries.{Mapped, mapped_at}
 use Rattle.pc_map.specs.Relocate.{relocation_check, retain_from}
 use Rattle.pc_map.specs.laws.Retaining.{retain_all}
 use Rattle.answer.specs.Pass.{checked, same_code, all_kept, removal}
-use Rattle.run.specs.Given.{instruction_fields}
+use Rattle.run.proofs.Given.{instruction_fields}
 use Rattle.optimize.specs.declared.Answer.TheVariants.{Unchanged, Rewritten}
 use Rattle.optimize.specs.declared.Answer.TheVariants as answer
 use Rattle.optimize.specs.laws.Given.{words_in, words_long, same_words, cells_in}

@@ -21,7 +21,7 @@ use Rattle.flow.specs.Loop.{reached_places, loop_check}
 use Rattle.values.specs.Number.{number_code}
 use Rattle.answer.specs.Pass.{Outcome, unchanged, refused, output_after, checked, removal, kept_places, after_loops, after_branches, after_operands, optimized}
 use Rattle.answer.specs.Answer.{sections_of}
-use Rattle.run.specs.Given.{instruction_fields}
+use Rattle.run.proofs.Given.{instruction_fields}
 use Rattle.optimize.specs.declared.Answer.{Answer}
 use Rattle.optimize.specs.declared.Answer.TheVariants.{Unchanged, Refused}
 use Rattle.optimize.specs.PassAnswer.{answer_of, Answers}

@@ -19,11 +19,11 @@ use Rattle.flow.specs.Branch.{branches, target, branch_inside}
 use Rattle.flow.specs.laws.BranchLaws.{inside_none, inside_yes}
 use Rattle.flow.specs.laws.Control.{is_control}
 use Rattle.run.specs.Program.{Function}
-use Rattle.run.specs.laws.Numbered.{Numberable}
+use Rattle.run.proofs.laws.Numbered.{Numberable}
 use Rattle.run.proofs.laws.Numbered.{numbered_function, numbered_at, numbered_long}
-use Rattle.run.specs.laws.Checked.{Well}
+use Rattle.run.proofs.laws.Checked.{Well}
 use Rattle.run.proofs.laws.Checked.{numberable, removing, numbered_control, numbered_fields}
-use Rattle.run.specs.Given.{instruction_fields, constants_below}
+use Rattle.run.proofs.Given.{instruction_fields, constants_below}
 use Rattle.optimize.specs.laws.Given.{cells_in, cells_in_lem, words_long, words_in, Given, Checked, numbered_code, words_of}
 
 word_at : (l : List Cell) (p : ℕ) → p < length l → get_or (words_of l) p 0 ≡ to_word (cell_at l p).instruction

@@ -18,7 +18,7 @@ use Rattle.flow.specs.laws.Marks.{Marked}
 use Rattle.liveness.specs.Dead.{dead_stores}
 use Rattle.liveness.specs.laws.Droppable.{Droppable}
 use Rattle.liveness.specs.laws.Sweep.{dead_long}
-use Rattle.run.specs.laws.Optimized.{useful_long}
+use Rattle.run.proofs.laws.Optimized.{useful_long}
 use Rattle.answer.specs.Pass.{useful_places}
 use Rattle.removal.specs.laws.KeptWork.{Useful, Stored, Retainable}
 

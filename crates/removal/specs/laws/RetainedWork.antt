@@ -22,7 +22,7 @@ use Rattle.liveness.specs.Dead.{dead_stores}
 use Rattle.pc_map.specs.Boundary.{boundary}
 use Rattle.liveness.specs.laws.Sweep.{dead_flags, dead_long}
 use Rattle.run.specs.laws.Jumps.{rounds_flags, rounds_long}
-use Rattle.run.specs.laws.Optimized.{useful_flags, useful_long}
+use Rattle.run.proofs.laws.Optimized.{useful_flags, useful_long}
 use Rattle.answer.specs.Jump.{jump_rounds}
 use Rattle.answer.specs.Pass.{kept_places, useful_places}
 use Rattle.removal.specs.laws.Jumping.{Rounds, ends_in, map_of}

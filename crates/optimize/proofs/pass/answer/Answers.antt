@@ -3,7 +3,7 @@ use mathlib.Core.Bool.{Bool}
 use lib.ListN.{length}
 use Rattle.unit.specs.Layout.{header_of}
 use Rattle.answer.specs.Answer.{lent_of, room_for, admission, pass_answer}
-use Rattle.run.specs.Given.{admitted_worked}
+use Rattle.run.proofs.Given.{admitted_worked}
 use Rattle.optimize.specs.laws.Given.{answers_unchanged, answers_refused, answers_same}
 use Rattle.optimize.specs.laws.Whole.{answer_refused, answer_unchanged, answer_admitted}
 use Rattle.optimize.proofs.pass.answer.Goals as goal

@@ -37,13 +37,13 @@ use Rattle.answer.specs.Pass.{useful_places}
 use Rattle.run.specs.Program.{Function}
 use Rattle.run.specs.Reader.{reads_slot, writes_slot, Reader, read, inner, edge}
 use Rattle.run.specs.laws.Frame.{In, here, there}
-use Rattle.run.specs.laws.Optimized.{Removing, useful_long}
+use Rattle.run.proofs.laws.Optimized.{Removing, useful_long}
 use Rattle.run.specs.laws.Solved.{block_later, row_at}
 use Rattle.run.specs.laws.RowBits.{or_left, or_right, joined_bit}
 use Rattle.run.specs.laws.Alive.{last_leader, flow, flow_reads, before as liveAt, after as liveOut, dead, stays, reads, written, whole, Analysed, before_flow, whole_flow, after_last, after_inner, at_end}
 
 -- a truth value of two
-either : (a b : Bool) → (a || b) ≡ true → (a ≡ true) ⊎ (b ≡ true)
+pub either : (a b : Bool) → (a || b) ≡ true → (a ≡ true) ⊎ (b ≡ true)
 either true b e = inl refl
 either false b e = inr e
 

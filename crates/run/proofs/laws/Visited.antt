@@ -21,7 +21,7 @@ use Rattle.run.specs.Machine.{Words, Event, World, Program, State, at, over, ste
 use Rattle.run.specs.Program.{Function, program_of}
 use Rattle.run.specs.Returned.{result_function}
 use Rattle.run.specs.Visits.{Noted, noted, visit, visiting, begin, StandsFor, SamePlaces}
-use Rattle.run.specs.laws.Visits.{same_noted, old_places_lem}
+use Rattle.run.proofs.laws.Visits.{same_noted, old_places_lem}
 
 -- the run from a state visits place p: it steps from there, now or later
 pub data Visited (W : World) (P : Program) : State → ℕ → Type 0 where

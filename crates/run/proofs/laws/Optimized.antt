@@ -40,8 +40,9 @@ use Rattle.run.specs.laws.Gives.{given_by_class}
 use Rattle.words.specs.laws.Truth.{left_true}
 use Rattle.run.specs.laws.Invariant.{Invariant}
 use Rattle.run.specs.laws.Runnable.{Runnable}
-use Rattle.run.specs.laws.Step.{Succ, next, branch, closed_invariant}
-use Rattle.run.specs.laws.RelocatedRun.{relocated_op}
+use Rattle.run.specs.laws.Step.{Succ, next, branch}
+use Rattle.run.proofs.laws.Step.{closed_invariant}
+use Rattle.run.proofs.laws.RelocatedRun.{relocated_op}
 use Rattle.run.specs.laws.Jumps.{Skips, rounds_long, rounds_flags, rounds_why}
 use Rattle.run.specs.laws.Removed.{passes, Dropped, store, skip, Removable}
 

@@ -24,15 +24,15 @@ use Rattle.pc_map.specs.Relocate.{relocation_check, retain_from}
 use Rattle.answer.specs.Pass.{Outcome, unchanged, rewritten, checked, same_code, all_kept, kept_places, removal, after_loops, after_branches, after_operands, optimized, is_worked_on, pass}
 use Rattle.answer.specs.Clean.{retained_cell}
 use Rattle.run.specs.Visits.{StandsFor, SamePlaces}
-use Rattle.run.specs.laws.Opcodes.{number_op, kept_plain, stands_from}
-use Rattle.run.specs.laws.Visits.{visits_trans}
+use Rattle.run.proofs.laws.Opcodes.{number_op, kept_plain, stands_from}
+use Rattle.run.proofs.laws.Visits.{visits_trans}
 use Rattle.run.specs.Program.{Function}
 use Rattle.run.specs.Returned.{result_function}
 use Rattle.words.specs.laws.Truth.{left_true, right_true}
-use Rattle.run.specs.laws.Numbered.{Numberable, numbered_function, numbered_long, numbered_at, table, numbering}
-use Rattle.run.specs.laws.Kept.{kept_visits, kept_runnable}
+use Rattle.run.proofs.laws.Numbered.{Numberable, numbered_function, numbered_long, numbered_at, table, numbering}
+use Rattle.run.proofs.laws.Kept.{kept_visits, kept_runnable}
 use Rattle.run.specs.laws.Runnable.{Runnable}
-use Rattle.run.specs.laws.Checked.{Well, numberable, removing, numbered_fields, retained_fields}
+use Rattle.run.proofs.laws.Checked.{Well, numberable, removing, numbered_fields, retained_fields}
 
 -- What a pass says that it rewrote runs as it did, by the same places, may be given to the next pass, and can be run.
 pub record Good (F : Function) (kept : List Retained) : Type 0 where

@@ -26,13 +26,13 @@ use Rattle.lines.specs.Lines.{places_of}
 use Rattle.lines.specs.laws.Below.{Rising}
 use Rattle.answer.specs.Clean.{retained_cell, cells_after, placed_by}
 use Rattle.answer.specs.Pass.{rewritten, is_worked_on, optimized, kept_places}
-use Rattle.run.specs.laws.Checked.{Well, numberable}
+use Rattle.run.proofs.laws.Checked.{Well, numberable}
 use Rattle.run.specs.laws.Jumps.{rounds_flags}
-use Rattle.run.specs.laws.Numbered.{numbered_function, Numberable, numbered_at, numbered_long}
-use Rattle.run.specs.laws.Optimized.{useful_flags}
-use Rattle.run.specs.laws.Passed.{some_code, few, optimized_kept, optimized_runs}
+use Rattle.run.proofs.laws.Numbered.{numbered_function, Numberable, numbered_at, numbered_long}
+use Rattle.run.proofs.laws.Optimized.{useful_flags}
+use Rattle.run.proofs.laws.Passed.{some_code, few, optimized_kept, optimized_runs}
 use Rattle.run.specs.Program.{Function}
-use Rattle.run.specs.laws.RelocatedRun.{pick}
+use Rattle.run.proofs.laws.RelocatedRun.{pick}
 use Rattle.run.specs.Returned.{result_function}
 use Rattle.run.specs.laws.Reading.{Sound, AllFit, retained_at, no_retained}
 

@@ -31,13 +31,14 @@ use Rattle.effects.specs.laws.Single.{is_single}
 use Rattle.run.specs.Machine.{Words, Event, World, put}
 use Rattle.run.specs.Program.{Function}
 use Rattle.run.specs.laws.Small.{sign_small, fold_small}
-use Rattle.run.specs.laws.Valuation.{Valuation, word_of, word_of_expression, Below, integer, float, initially, before, BelowBoth, Static, static_empty, static_suc, static_store, static_learn, Valid, valid_store, valid_learn, define, word_new}
-use Rattle.run.specs.laws.Justified.{unary_expression, binary_expression, Stores, loads, constant, copies, folds_one, folds_two, equals_one, equals_two, Justified, stays, operand, operands, tested, returned, loaded, copied, taken_if, taken_if_not, passed_if, passed_if_not, one_slot, one_slot_lem, do_at, Sets, Meant, gave, do_single, stores_word, word_one, word_two, named, single_slot}
+use Rattle.run.proofs.laws.Valuation.{Valuation, word_of, word_of_expression, Below, integer, float, initially, before, BelowBoth, Static, static_empty, static_suc, static_store, static_learn, Valid, valid_store, valid_learn, define, word_new}
+use Rattle.run.specs.laws.Justified.{unary_expression, binary_expression, Stores, loads, constant, copies, folds_one, folds_two, equals_one, equals_two, Justified, stays, operand, operands, tested, returned, loaded, copied, taken_if, taken_if_not, passed_if, passed_if_not}
+use Rattle.run.proofs.laws.Justified.{one_slot, one_slot_lem, do_at, Sets, Meant, gave, do_single, stores_word, word_one, word_two, named, single_slot}
 
 -- ---- the slot that stands for another
 
 -- it holds the same value
-stands : (types : List ℕ) (t : Values) (s : ℕ) → value_of t (representative types t s) ≡ value_of t s
+pub stands : (types : List ℕ) (t : Values) (s : ℕ) → value_of t (representative types t s) ≡ value_of t s
 unfolding representative
 stands types t s = go (lowest_slot types t (value_of t s) (get_or types s 0)) refl
   where

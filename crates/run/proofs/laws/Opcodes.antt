@@ -32,9 +32,9 @@ use Rattle.lines.specs.Lines.{places_of}
 use Rattle.answer.specs.Clean.{cells_after}
 use Rattle.run.specs.Visits.{is_operator, is_conditional, StandsFor, same_opcode, load_int, copy, jump}
 use Rattle.run.specs.laws.Jumps.{rounds_fewer}
-use Rattle.run.specs.laws.RelocatedRun.{pick, relocated_op}
+use Rattle.run.proofs.laws.RelocatedRun.{pick, relocated_op}
 use Rattle.run.specs.laws.Alive.{stays_at}
-use Rattle.run.specs.laws.Optimized.{useful_at}
+use Rattle.run.proofs.laws.Optimized.{useful_at}
 
 -- one after another
 pub stands_trans : {i j k : Instruction} → StandsFor i j → StandsFor j k → StandsFor i k

@@ -21,7 +21,7 @@ use Rattle.lines.specs.laws.Moved.{moved_twice, moved_same}
 use Rattle.pc_map.specs.Boundary.{is_kept, boundary}
 use Rattle.pc_map.specs.Relocate.{relocate, retain_from}
 use Rattle.answer.specs.Clean.{placed_by}
-use Rattle.run.specs.laws.Fitting.{Again, retained_from_lem}
+use Rattle.run.proofs.laws.Fitting.{Again, retained_from_lem}
 use Rattle.run.specs.laws.Reading.{no_retained, retained_at}
 
 pub places_long : (kept : List Retained) → length (places_of kept) ≡ length kept

@@ -42,14 +42,16 @@ use Rattle.run.specs.Returned.{result_function}
 use Rattle.run.specs.laws.Gives.{given_sure, jump_gives}
 use Rattle.words.specs.laws.Truth.{left_true, right_true}
 use Rattle.run.specs.laws.Step.{Succ, next, branch}
-use Rattle.run.specs.laws.Frame.{In, slots_any, slots_within, any_left}
+use Rattle.run.specs.laws.Frame.{In}
+use Rattle.run.proofs.laws.Frame.{slots_any, slots_within, any_left}
 use Rattle.run.specs.laws.Jumps.{rounds_fewer}
-use Rattle.run.specs.laws.Removed.{passes, passing_falls, Dropped, store, Removable, removed, removed_runnable}
+use Rattle.run.specs.laws.Removed.{passes, Dropped, store, Removable}
+use Rattle.run.proofs.laws.Removed.{passing_falls, removed, removed_runnable}
 use Rattle.run.specs.laws.Runnable.{Runnable}
 use Rattle.run.specs.laws.Solved.{solved, solve_long}
 use Rattle.run.specs.laws.RowBits.{solve_wide}
 use Rattle.run.specs.laws.Alive.{flow_gone, flow_kept, flow_reads, before, after, dead, stays, Analysed, before_flow, out, stays_at}
-use Rattle.run.specs.laws.Optimized.{Removing, not_useful, plain_class, hint_gives, reach_invariant, inner, skipped, removable, plain_removable}
+use Rattle.run.proofs.laws.Optimized.{Removing, not_useful, plain_class, hint_gives, reach_invariant, inner, skipped, removable, plain_removable}
 
 -- ---- a dead store's slots are not live
 

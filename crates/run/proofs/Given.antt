@@ -39,19 +39,19 @@ use Rattle.answer.specs.Answer.{Lent, cells_of, sections_of, room_for, is_skippe
 use Rattle.answer.specs.Clean.{retained_cell, cells_after, placed_by, after_pass, clean_from, cleaned_first, spare_for, clean_answer, lines_past, lines_from, lines_first, clean_lines}
 use Rattle.run.specs.laws.Machine.{same_runs_refl}
 use Rattle.run.specs.Visits.{noted_at, StandsFor, PreservesPlaces}
-use Rattle.run.specs.laws.Visits.{visits_runs, visits_trans, visits_noted, noted_placed}
-use Rattle.run.specs.laws.Opcodes.{stands_trans}
+use Rattle.run.proofs.laws.Visits.{visits_runs, visits_trans, visits_noted, noted_placed}
+use Rattle.run.proofs.laws.Opcodes.{stands_trans}
 use Rattle.run.specs.Program.{Function, program_of}
 use Rattle.run.specs.Returned.{given_function, result_function, output_function, PreservesRuns}
-use Rattle.run.specs.laws.Valuation.{Below, integer, float}
-use Rattle.run.specs.laws.RelocatedRun.{pick}
-use Rattle.run.specs.laws.Checked.{Well}
-use Rattle.run.specs.laws.Passed.{Good, worked_size, optimized_runs, pass_worked, pass_runs}
+use Rattle.run.proofs.laws.Valuation.{Below, integer, float}
+use Rattle.run.proofs.laws.RelocatedRun.{pick}
+use Rattle.run.proofs.laws.Checked.{Well}
+use Rattle.run.proofs.laws.Passed.{Good, worked_size, optimized_runs, pass_worked, pass_runs}
 use Rattle.run.specs.laws.Runnable.{Runnable}
 use Rattle.run.specs.laws.Reading.{AllFit, no_retained, result_back}
 use Rattle.lines.specs.laws.Below.{Rising}
-use Rattle.run.specs.laws.MovedLines.{inside, places_long, placed_places, placed_at, placed_rising, lines_placed}
-use Rattle.run.specs.laws.Fitting.{AllSound, Again, optimized_again, again_fits, placed_long, placed_fits}
+use Rattle.run.proofs.laws.MovedLines.{inside, places_long, placed_places, placed_at, placed_rising, lines_placed}
+use Rattle.run.proofs.laws.Fitting.{AllSound, Again, optimized_again, again_fits, placed_long, placed_fits}
 
 -- ---- the function of a unit of bytes is well
 
@@ -70,7 +70,7 @@ unfolding header_of
 lines_fit u b = le_fits 4 u 64 b
 
 -- a constant's word is one of 64 bits
-unfoldable Small : Constant → Type 0
+unfoldable pub Small : Constant → Type 0
 Small Nil = Unit {0}
 Small (BoolConstant v) = v < 2 ^ 64
 Small (Int v) = v < 2 ^ 64

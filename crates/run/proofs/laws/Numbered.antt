@@ -22,12 +22,15 @@ use Rattle.values.specs.Number.{Numbered, constant_atom, number, number_from, nu
 use Rattle.run.specs.Machine.{Words, Event, World, finish, at, put, step}
 use Rattle.run.specs.Visits.{SameVisits}
 use Rattle.run.specs.laws.Invariant.{Holds, held, Invariant}
-use Rattle.run.specs.laws.LockStep.{Lock, lock_step}
+use Rattle.run.proofs.laws.LockStep.{Lock, lock_step}
 use Rattle.run.specs.Program.{Function, program_of, node_by, class_in, has_meaning}
-use Rattle.run.specs.laws.Valuation.{Valuation, Below, Static, static_empty, Valid, valid_empty}
-use Rattle.run.specs.laws.Justified.{Justified, rewrite, one_slot, do_at, Meant, meant, justified_meant, justified_same}
-use Rattle.run.specs.laws.Numbering.{After, blank, leads, ends, sets, Sound, number_sound}
-use Rattle.run.specs.laws.Step.{Succ, next, branch, holds_succ, step_do}
+use Rattle.run.proofs.laws.Valuation.{Valuation, Below, Static, static_empty, Valid, valid_empty}
+use Rattle.run.specs.laws.Justified.{Justified}
+use Rattle.run.proofs.laws.Justified.{rewrite, one_slot, do_at, Meant, meant, justified_meant, justified_same}
+use Rattle.run.proofs.laws.Numbering.{blank, leads, ends, sets}
+use Rattle.run.proofs.laws.Numbering.{After, Sound, number_sound}
+use Rattle.run.specs.laws.Step.{Succ, next, branch}
+use Rattle.run.proofs.laws.Step.{holds_succ, step_do}
 
 -- ---- the table before each place
 

@@ -40,11 +40,11 @@ use Rattle.pc_map.specs.Boundary.{is_kept}
 use Rattle.pc_map.specs.Relocate.{moved_jump, moved_for_loop, moved_hint, relocate, relocate_by, retain_from}
 use Rattle.answer.specs.Clean.{cells_after}
 use Rattle.run.specs.Program.{Function}
-use Rattle.run.specs.laws.RelocatedRun.{pick}
-use Rattle.run.specs.laws.Valuation.{Below}
+use Rattle.run.proofs.laws.RelocatedRun.{pick}
+use Rattle.run.proofs.laws.Valuation.{Below}
 use Rattle.run.specs.laws.Justified.{Justified, stays, operand, operands, tested, returned, loaded, copied, taken_if, taken_if_not, passed_if, passed_if_not}
-use Rattle.run.specs.laws.Numbered.{Numberable, numbered_function, numbered_at, numbered_long, numbered_justified, numbered_operands}
-use Rattle.run.specs.laws.Optimized.{Removing}
+use Rattle.run.proofs.laws.Numbered.{Numberable, numbered_function, numbered_at, numbered_long, numbered_justified, numbered_operands}
+use Rattle.run.proofs.laws.Optimized.{Removing}
 
 -- ---- a block starts at each branch's target, and after each branch
 

@@ -40,16 +40,16 @@ use Rattle.run.specs.Program.{Function}
 use Rattle.run.specs.Returned.{given_function}
 use Rattle.run.specs.Reader.{writes_slot, HasReader, within, beyond, ScalarStore, numbered, LiveFound, StoresRead}
 use Rattle.run.specs.laws.Jumps.{rounds_long, rounds_fewer, rounds_keep}
-use Rattle.run.specs.laws.Optimized.{Removing, useful_long}
+use Rattle.run.proofs.laws.Optimized.{Removing, useful_long}
 use Rattle.run.specs.laws.Alive.{before, after, dead, stays, Analysed, after_last, after_inner}
-use Rattle.run.specs.laws.Kept.{dead_unread, analysed, keep_at_lem}
-use Rattle.run.specs.laws.Numbered.{numbered_function, numbered_long}
-use Rattle.run.specs.laws.Checked.{Well, numberable, removing}
-use Rattle.run.specs.laws.Passed.{some_code, few, optimized_kept}
-use Rattle.run.specs.laws.Fitting.{kept_flags}
-use Rattle.run.specs.laws.Visits.{place_kept}
-use Rattle.run.specs.Given.{answer_optimized, worked_well}
-use Rattle.run.specs.laws.Readers.{Inside, solved_inside, none_inside, joined_in, edge_start, row_live, reader_whole, reader_before, before_reader, live_slot, slot_below}
+use Rattle.run.proofs.laws.Kept.{dead_unread, analysed, keep_at_lem}
+use Rattle.run.proofs.laws.Numbered.{numbered_function, numbered_long}
+use Rattle.run.proofs.laws.Checked.{Well, numberable, removing}
+use Rattle.run.proofs.laws.Passed.{some_code, few, optimized_kept}
+use Rattle.run.proofs.laws.Fitting.{kept_flags}
+use Rattle.run.proofs.laws.Visits.{place_kept}
+use Rattle.run.proofs.Given.{answer_optimized, worked_well}
+use Rattle.run.proofs.laws.Readers.{Inside, solved_inside, none_inside, joined_in, edge_start, row_live, reader_whole, reader_before, before_reader, live_slot, slot_below}
 
 both_true : (a b : Bool) → a ≡ true → b ≡ true → (a && b) ≡ true
 both_true true b e f = f
@@ -168,7 +168,7 @@ module _ (G : Function) (leaders : List ℕ) (N : Removing G leaders) where
       reader_remains r = rounds_keep (anchors marks code) code 16 kept p h no_jump (reader_store r)
 
 -- a flag for each place
-kept_long : (S : Sections) (leads : List ℕ) (cells : List Cell) → length (kept_places S leads (reached_places cells) cells) ≡ length cells
+pub kept_long : (S : Sections) (leads : List ℕ) (cells : List Cell) → length (kept_places S leads (reached_places cells) cells) ≡ length cells
 unfolding kept_places dead_stores without_dead
 kept_long S leads cells = rounds_long (anchors (reached_places cells) cells) cells 16 _ (go (live_rows S leads (useful_places (reached_places cells) cells) cells))
   where
