@@ -10,6 +10,8 @@ use Rattle.words.specs.Bytes.{Bytes}
 use Rattle.words.specs.Lists.{sum}
 use Rattle.words.specs.laws.Lists.{sum_append}
 use Rattle.instruction.specs.declared.Instruction.{Instruction}
+use Rattle.instruction.specs.Class.{class_of}
+use Rattle.instruction.specs.Opcode as op
 use Rattle.unit.specs.Result.{Retained}
 use Rattle.unit.specs.declared.Line.{Line}
 use Rattle.effects.specs.declared.Check.{Check}
@@ -20,7 +22,7 @@ use Rattle.answer.specs.Answer.{Lent, cells_of, sections_of, pass_answer, pass_l
 use Rattle.answer.specs.Clean.{cells_after, clean_answer, clean_lines}
 use Rattle.answer.specs.Pass.{rewritten}
 use Rattle.run.specs.Returned.{given_function}
-use Rattle.run.specs.Visits.{noted_at, StandsFor, same_opcode, load_int, copy, jump}
+use Rattle.run.specs.Visits.{is_operator, is_conditional, noted_at, StandsFor, same_opcode, load_int, copy, jump}
 use Rattle.again.specs.Again.{unit_of}
 use Rattle.again.specs.Units.{UnitAgain, pass_unit, clean_unit}
 use Rattle.desk.specs.Answer.{and_then, frame_check, desk_check, stopped_by, desk_answer}
@@ -41,11 +43,19 @@ pub record ChargedNoMore (u again : List ℕ) : Type 0 where
 
 -- ---- what stands for an instruction costs no more
 
-stands_cheaper : (tariff : List ℕ) → Premises tariff → (i j : Instruction) → StandsFor i j → slice_index tariff j.op ≤ slice_index tariff i.op
-stands_cheaper tariff premises i j (same_opcode e c) = rw e (le_refl _)
-stands_cheaper tariff premises i j (load_int h e) = rw e (premises.load i.op h)
-stands_cheaper tariff premises i j (copy h e) = rw e (premises.copy i.op h)
-stands_cheaper tariff premises i j (jump h e) = rw e (premises.jump i.op h)
+abbrev Cheaper : List ℕ → Type 0
+Cheaper tariff = (i j : Instruction) → StandsFor i j → slice_index tariff j.op ≤ slice_index tariff i.op
+
+-- a price is no higher than that of each opcode that a test tells
+abbrev AtMost : List ℕ → ℕ → (ℕ → Bool) → Type 0
+AtMost tariff price test = (o : ℕ) → test o ≡ true → price ≤ slice_index tariff o
+
+stands_cheaper : (tariff : List ℕ) → AtMost tariff (slice_index tariff op.LoadInt) (λ o. is_operator (class_of o)) → AtMost tariff (slice_index tariff op.Copy) (λ o. is_operator (class_of o))
+    → AtMost tariff (slice_index tariff op.Jump) (λ o. is_conditional (class_of o)) → Cheaper tariff
+stands_cheaper tariff loads copies jumps i j (same_opcode e c) = rw e (le_refl _)
+stands_cheaper tariff loads copies jumps i j (load_int h e) = rw e (loads i.op h)
+stands_cheaper tariff loads copies jumps i j (copy h e) = rw e (copies i.op h)
+stands_cheaper tariff loads copies jumps i j (jump h e) = rw e (jumps i.op h)
 
 -- what is noted of a place is what is noted of one that came from it, or nothing
 noted_less : (xs : List ℕ) (note : ℕ → List ℕ) (p v : ℕ) → ((q : ℕ) → q < length xs → slice_index xs q ≡ p → sum (note q) ≤ v) → sum (noted_at xs note p) ≤ v
@@ -74,7 +84,7 @@ module _ (S : Sections) (cells : List Cell) (g h : ℕ → List ℕ) (less : (p 
 
 -- ---- the claim, of functions: the sums of the prices, before they are rounded
 
-module _ (u : List ℕ) (kept : List Retained) (R : Rewriting u kept) (tariff : List ℕ) (premises : Premises tariff) where
+module _ (u : List ℕ) (kept : List Retained) (R : Rewriting u kept) (tariff : List ℕ) (stands : Cheaper tariff) where
   abbrev note : ℕ → List ℕ
   note = priced tariff (cells_after kept)
 
@@ -88,7 +98,7 @@ module _ (u : List ℕ) (kept : List Retained) (R : Rewriting u kept) (tariff : 
       noted_less (places_of kept) note p (sum (priced tariff (cells_of u) p))
       (λ q h e.
       let i : q < length kept = rw (length-map kept (λ (r : Retained). r.place)) at h in
-      let c = stands_cheaper tariff premises _ _ (R.places.stands q i) in
+      let c = stands _ _ (R.places.stands q i) in
       one_less _ _ (rw (← e) c))
 
   spent_less : (k : ℕ) (f : List ℕ) → length f ≡ (sections_of u).locals → IsEnd (run_from (sections_of u) (cells_of u) k 0 f).stop
@@ -114,7 +124,8 @@ charge_runs u f k tariff e = rw (eq-eqb (length tariff) prices e) (go (desk_chec
 
 -- ---- the claim, of units
 
-module _ (u : List ℕ) (kept : List Retained) (lines : List Line) (A : UnitAgain u kept lines) (R : Rewriting u kept) (E : EndsLikewise u (unit_of u (cells_after kept) lines)) where
+module _ (u : List ℕ) (kept : List Retained) (lines : List Line) (A : UnitAgain u kept lines) (R : Rewriting u kept) (E : EndsLikewise u (unit_of u (cells_after kept) lines))
+    (cheap : (tariff : List ℕ) → Premises tariff → Cheaper tariff) where
   abbrev v : List ℕ
   v = unit_of u (cells_after kept) lines
 
@@ -145,18 +156,21 @@ module _ (u : List ℕ) (kept : List Retained) (lines : List Line) (A : UnitAgai
       below : (f : List ℕ) (k : ℕ) (tariff : List ℕ) → Premises tariff → (c : Check) → check f tariff ≡ c → IsEnd (charge_answer u f k tariff).stop → charge_cents v f k tariff ≤ charge_cents u f k tariff
       below f k tariff premises Passed e t =
           let long = (passed_run u (length f) (charge_passed u (length f) (length tariff) e).0).frame in
-          rw (e, passed f tariff e, again_sections u kept lines A, again_cells u kept lines A) (cents_less _ _ (spent_less u kept R tariff premises k f long (rw e at t)))
+          rw (e, passed f tariff e, again_sections u kept lines A, again_cells u kept lines A) (cents_less _ _ (spent_less u kept R tariff (cheap tariff premises) k f long (rw e at t)))
       below f k tariff premises (Refused n p) e t = absurd (rw e at t)
 
 -- one pass
 pub pass_charged : (u : List ℕ) (l : Lent) (kept : List Retained) → Bytes u → pass_answer u l ≡ rewritten kept → ChargedNoMore u (unit_of u (cells_after kept) (pass_lines u l))
-pass_charged u l kept b e = no_more u kept (pass_lines u l) (pass_unit u l kept b e) (pass_rewriting u l kept b e) (pass_desk u l kept b e)
+pass_charged u l kept b e =
+    no_more u kept (pass_lines u l) (pass_unit u l kept b e) (pass_rewriting u l kept b e) (pass_desk u l kept b e)
+    (λ tariff premises. stands_cheaper tariff premises.load premises.copy premises.jump)
 
 -- and the cleaning
 pub clean_charged : (u : List ℕ) (l : Lent) (first second : ℕ) (kept : List Retained) → Bytes u → (clean_answer u l first second).outcome ≡ rewritten kept
     → ChargedNoMore u (unit_of u (cells_after kept) (clean_lines u l first second))
 clean_charged u l first second kept b e =
     no_more u kept (clean_lines u l first second) (clean_unit u l first second kept b e) (clean_rewriting u l first second kept b e) (clean_desk u l first second kept b e)
+    (λ tariff premises. stands_cheaper tariff premises.load premises.copy premises.jump)
 
 -- ---- the highest charge
 
