@@ -24,7 +24,8 @@ use Rattle.lines.specs.Lines.{moved_lines, places_of}
 use Rattle.answer.specs.Pass.{refused, rewritten, lines_after}
 use Rattle.answer.specs.Answer.{Lent, room_for, laid_out, admission, after_admission, answer_with, pass_answer, pass_lines}
 use Rattle.answer.specs.Clean.{cells_after, cleaned_first, spare_for, clean_answer, clean_lines}
-use Rattle.run.proofs.Given.{lines_fit, Returnable, Worked, cells_long, answer_worked}
+use Rattle.run.proofs.Given.{lines_fit, Returnable, cells_long, answer_worked}
+use Rattle.run.specs.Given.{Worked}
 use Rattle.run.proofs.Given.{answer_returnable, clean_kept, clean_lines_lem}
 use Rattle.run.specs.Returned.{given_function}
 use Rattle.run.specs.laws.Reading.{middle, result_back}

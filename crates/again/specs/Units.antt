@@ -23,7 +23,8 @@ use Rattle.lines.specs.laws.Rising.{unit_lines}
 use Rattle.answer.specs.Pass.{Outcome, unchanged, refused, rewritten, lines_after}
 use Rattle.answer.specs.Answer.{Lent, cells_of, sections_of, room_for, laid_out, admission, after_admission, answer_with, pass_answer, pass_lines}
 use Rattle.answer.specs.Clean.{retained_cell, cells_after, cleaned_first, spare_for, clean_answer, clean_lines}
-use Rattle.run.proofs.Given.{lines_fit, Returnable, Worked, cell_at_lem, cells_long, worked_well, answer_optimized, answer_worked}
+use Rattle.run.proofs.Given.{lines_fit, Returnable, cell_at_lem, cells_long, worked_well, answer_optimized, answer_worked}
+use Rattle.run.specs.Given.{Worked}
 use Rattle.run.proofs.Given.{answer_returnable, clean_kept, clean_lines_lem}
 use Rattle.run.specs.Returned.{given_function, result_function}
 use Rattle.run.proofs.laws.MovedLines.{places_long}

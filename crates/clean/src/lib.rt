@@ -9,7 +9,7 @@ ghost use Rattle.unit.specs.Size.{result_size, max_instructions};
 ghost use Rattle.answer.specs.Pass.{optimized};
 ghost use Rattle.answer.specs.Answer.{lent_of, cells_of, sections_of, room_for};
 ghost use Rattle.answer.specs.Clean.{clean_from, cleaned_first, spare_for, clean_answer};
-ghost use Rattle.run.proofs.Given.{Worked};
+ghost use Rattle.run.specs.Given.{Worked};
 ghost use Rattle.run.specs.Contract.{CleanContract, buffers, spares};
 ghost use Rattle.run.specs.laws.Reading.{retained_in};
 ghost use Rattle.clean.specs.laws.Ready.{Ready};

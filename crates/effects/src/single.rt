@@ -4,7 +4,7 @@ ghost use Rattle.instruction.specs.Class.{number_of};
 ghost use Rattle.instruction.specs.Instruction.{of_word};
 ghost use Rattle.instruction.specs.declared.Class.{Class};
 ghost use Rattle.effects.specs.laws.Single.{is_single, reads_first, reads_second};
-ghost use Rattle.effects.proofs.laws.Single.{single_within};
+ghost use Rattle.effects.specs.laws.Single.{single_within};
 
 use crate::form;
 use instruction::number;

@@ -4,7 +4,7 @@ ghost use Rattle.unit.specs.Layout.{header_of, lines_of};
 ghost use Rattle.unit.specs.Entry.{lines_in};
 ghost use Rattle.answer.specs.Pass.{Outcome, optimized, output_after, lines_after};
 ghost use Rattle.answer.specs.Answer.{lent_of, cells_of, sections_of, room_for, pass_answer};
-ghost use Rattle.run.proofs.Given.{Worked};
+ghost use Rattle.run.specs.Given.{Worked};
 ghost use Rattle.run.specs.Contract.{PassContract, buffers};
 ghost use Rattle.optimize.specs.laws.Lines.{Linable, Moves};
 ghost use Rattle.optimize.specs.PassAnswer.{Answers, answer_of};

@@ -52,6 +52,7 @@ use Rattle.run.specs.laws.Reading.{AllFit, no_retained, result_back}
 use Rattle.lines.specs.laws.Below.{Rising}
 use Rattle.run.proofs.laws.MovedLines.{inside, places_long, placed_places, placed_at, placed_rising, lines_placed}
 use Rattle.run.proofs.laws.Fitting.{AllSound, Again, optimized_again, again_fits, placed_long, placed_fits}
+use Rattle.run.specs.Given.{Worked}
 
 -- ---- the function of a unit of bytes is well
 
@@ -163,16 +164,6 @@ module _ (F : Function) (cases : ℕ) where
       record { good = optimized_runs F w on kept e; few = omega arith; shorter = again.few; fits = again_fits cases (length F.cells) kept small again; rising = again.rising }
 
 -- ---- one pass
-
--- What an admitted unit went through, whatever room it was lent.
-pub record Worked (u : List ℕ) (room : Bool) : Type 0 where
-  pub laid : is_unit u ≡ true
-  pub rise : lines_rise u ≡ true
-  pub worked : is_worked_on (length (cells_of u)) ≡ true
-  pub few : (header_of u).counts.instructions ≤ max_instructions
-  pub lent : room ≡ true
-  pub described : (header_of u).counts.metadata ≡ (header_of u).counts.instructions
-  pub typed : (header_of u).counts.types ≡ (header_of u).counts.locals
 
 -- the rows that let it pass, one by one
 not_admitted : (k p : ℕ) → variant.Refused k p ≡ Admitted → ⊥

@@ -6,3 +6,4 @@ pub mod Visits
 pub mod Reader
 pub mod Contract
 pub mod laws
+pub mod Given

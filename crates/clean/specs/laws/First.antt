@@ -20,7 +20,8 @@ use Rattle.answer.specs.declared.Admission.TheVariants as variant
 use Rattle.answer.specs.Answer.{Lent, lent_of, cells_of, sections_of, room_for, admission}
 use Rattle.answer.specs.Clean.{Cleaned as Cleaning, clean_from, cleaned_first, spare_for, clean_answer}
 use Rattle.answer.specs.Pass.{Outcome, unchanged, optimized, output_after}
-use Rattle.run.proofs.Given.{Worked, worked_well, cell_at_lem, cells_long, metadata_fields}
+use Rattle.run.proofs.Given.{worked_well, cell_at_lem, cells_long, metadata_fields}
+use Rattle.run.specs.Given.{Worked}
 use Rattle.run.specs.Returned.{given_function}
 use Rattle.optimize.specs.declared.Answer.{Answer}
 use Rattle.optimize.specs.declared.Answer.TheVariants.{Unchanged, Refused, Rewritten}

@@ -22,6 +22,7 @@ use Rattle.effects.specs.laws.Operands.{slots, range_holds, holds_one, not_refus
 use Rattle.effects.specs.laws.ByClass.{is_outside, reads_by_class, writes_by_class, inside_valid}
 use Rattle.effects.proofs.laws.ByClass.{reads_by_class_lem, writes_by_class_lem, demands_by_class}
 use Rattle.effects.specs.laws.Single.{is_single, reads_first, reads_second}
+use Rattle.effects.specs.laws.Single.{single_within}
 
 -- what holds of each of these classes, holds of one of them
 pub by_single : (P : Class → Type 0) → P LoadInt → P LoadConst → P Copy → P Unary → P Binary → (k : Class) → is_single k ≡ true → P k
@@ -31,10 +32,6 @@ by_single P i n c u b = by_number P (1 ∷ 2 ∷ 3 ∷ 5 ∷ 6 ∷ []) (i, (n, (
 pub single_inside : (k : Class) → is_single k ≡ true → is_outside k ≡ false
 unfolding is_outside
 single_inside = by_single (λ k. is_outside k ≡ false) refl refl refl refl refl
-
--- no slot that it names is at or past s
-abbrev pub single_within : ℕ → Class → Instruction → Bool
-single_within s k i = (not (reads_first k) || ltb i.b s) && (not (reads_second k) || ltb i.c s) && ltb i.a s
 
 module _ (T : Tables) (x : Cell) (e : is_single (class x.instruction) ≡ true) (f : Fields x.instruction) where
   abbrev i : Instruction

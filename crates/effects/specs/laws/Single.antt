@@ -32,3 +32,7 @@ reads_first k = is_in (number_of k) (3 ∷ 5 ∷ 6 ∷ [])
 -- Binary
 abbrev pub reads_second : Class → Bool
 reads_second k = is_in (number_of k) (6 ∷ [])
+
+-- no slot that it names is at or past s
+abbrev pub single_within : ℕ → Class → Instruction → Bool
+single_within s k i = (not (reads_first k) || ltb i.b s) && (not (reads_second k) || ltb i.c s) && ltb i.a s

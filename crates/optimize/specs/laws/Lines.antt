@@ -24,7 +24,8 @@ use Rattle.lines.specs.laws.Rising.{unit_lines}
 use Rattle.answer.specs.Pass.{Outcome, unchanged, refused, rewritten, output_after, lines_after}
 use Rattle.answer.specs.Answer.{Lent, lent_of, room_for, pass_answer}
 use Rattle.answer.specs.Clean.{spare_for, clean_answer}
-use Rattle.run.proofs.Given.{lines_fit, Worked, Returnable, cells_long, answer_worked}
+use Rattle.run.proofs.Given.{lines_fit, Returnable, cells_long, answer_worked}
+use Rattle.run.specs.Given.{Worked}
 use Rattle.run.proofs.Given.{answer_returnable, clean_kept}
 use Rattle.run.specs.Returned.{given_function}
 use Rattle.run.proofs.laws.MovedLines.{places_long, place_of}

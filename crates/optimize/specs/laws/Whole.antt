@@ -16,7 +16,8 @@ use Rattle.answer.specs.declared.Admission.TheVariants.{Admitted, Unchanged}
 use Rattle.answer.specs.declared.Admission.TheVariants as variant
 use Rattle.answer.specs.Pass.{unchanged, refused, optimized}
 use Rattle.answer.specs.Answer.{lent_of, cells_of, sections_of, room_for, admission, after_admission, answer_with}
-use Rattle.run.proofs.Given.{Worked, cells_long}
+use Rattle.run.proofs.Given.{cells_long}
+use Rattle.run.specs.Given.{Worked}
 use Rattle.run.proofs.laws.Passed.{worked_size}
 use Rattle.optimize.specs.laws.Given.{Given, WorkRoom, Workable, cells_in, cells_in_lem, outcome_in}
 
