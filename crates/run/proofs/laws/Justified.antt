@@ -3,13 +3,12 @@
 -- Assumes nothing.
 use Rattle.std.proofs.Math.Path.{◌≡◌, refl, sym, ap}
 use Rattle.std.proofs.Common.{ap₂, ◌∙◌, inl, inr, arith}
-use Rattle.std.specs.Prelude.{◌⊎◌, Bool, cond, not, ◌&&◌, ℕ, suc, ◌+◌, ◌*◌, ◌-◌, ◌/◌, ◌%◌, ◌^◌, ◌<◌, ◌≤◌, eqb, leb, ltb}
+use Rattle.std.specs.Prelude.{Bool, cond, not, ◌&&◌, ℕ, suc, ◌+◌, ◌*◌, ◌-◌, ◌/◌, ◌%◌, ◌^◌, ◌<◌, ◌≤◌, eqb, leb, ltb}
 use Rattle.std.proofs.Math.Bool.{true, false, or-false}
 use Rattle.std.proofs.lemmas.Bool.{false≢true}
 use mathlib.Core.List.{List, [], ◌∷◌, map}
 use Rattle.std.proofs.Math.Option.{some}
 use borrow.Author.Tests.{eqb-true, eqb-false, eq-eqb, le-leb, lt-ltb, ltb-true, leb-true}
-use Rattle.words.specs.Lists.{is_in}
 use Rattle.words.specs.Word.{sign_extend}
 use Rattle.words.specs.laws.Word.{sign_plus, sign_minus}
 use Rattle.instruction.specs.Opcode as op
@@ -29,9 +28,9 @@ use Rattle.effects.proofs.laws.ByClass.{reads_by_class_lem}
 use Rattle.flow.specs.Branch.{target_by}
 use Rattle.values.specs.declared.Atom.{Atom}
 use Rattle.values.specs.declared.Atom.TheVariants.{Integer, Float}
-use Rattle.values.specs.Fold.{fold_word, folding_unary, folding_binary, fits_imm32}
-use Rattle.values.specs.Values.{Values, Expression, value_of, expression_in}
-use Rattle.values.specs.Number.{set_a, set_b, set_bc, constant_atom}
+use Rattle.values.specs.Fold.{fits_imm32}
+use Rattle.values.specs.Values.{Values, value_of}
+use Rattle.values.specs.Number.{set_a, constant_atom}
 use Rattle.values.specs.laws.Named.{Named}
 use Rattle.effects.specs.laws.Single.{is_single}
 use Rattle.run.specs.Machine.{Words, Event, World, State, at, put, goto, perform, stop, by_return}

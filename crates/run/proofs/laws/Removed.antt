@@ -1,7 +1,7 @@
 -- Removal over lists of cells: conditions on kept places and live slots, apart from how a pass finds them, under which the kept
 -- cells, relocated, run as all of them do.
 -- Assumes nothing.
-use Rattle.std.specs.Prelude.{◌≡◌, ◌⊎◌, Bool, List, [], ℕ, suc, ◌≤◌, ◌<◌}
+use Rattle.std.specs.Prelude.{◌≡◌, ◌⊎◌, Bool, List, [], ℕ, ◌<◌}
 use Rattle.std.proofs.Math.Path.{refl, sym}
 use Rattle.std.proofs.Common.{ap, ◌∙◌, arith}
 use Rattle.std.proofs.Math.Logic.{inl, inr}
@@ -14,9 +14,7 @@ use Rattle.instruction.specs.declared.Class.TheVariants.{Hint, LoadInt, LoadCons
 use Rattle.instruction.specs.Class.{class_of}
 use Rattle.instruction.specs.Instruction.{class}
 use Rattle.effects.specs.Shape.{Tables, Cell, cell_at}
-use Rattle.effects.specs.Effects.{all_reads, range_has, any_of}
-use Rattle.flow.specs.Branch.{falls, branches, target_by, target}
-use Rattle.flow.specs.laws.Flags.{Flags}
+use Rattle.flow.specs.Branch.{falls, branches, target}
 use Rattle.pc_map.specs.Boundary.{is_kept, boundary}
 use Rattle.pc_map.specs.laws.Boundaries.{boundary_zero, boundary_kept, boundary_dropped, boundary_mono}
 use Rattle.pc_map.specs.Relocate.{relocate, retain_from}
@@ -27,12 +25,10 @@ use Rattle.run.specs.Visits.{noted_at, SameVisits}
 use Rattle.run.proofs.laws.Visits.{noted_kept, noted_dropped}
 use Rattle.lines.specs.Lines.{places_of}
 use Rattle.run.proofs.laws.Removal.{Kept, Gone, Removal, removal}
-use Rattle.run.specs.Program.{Function, class_in, node_by, act_by, given_ranges, perhaps_slots, slots_of, program_of}
+use Rattle.run.specs.Program.{Function, class_in, node_by, act_by, perhaps_slots, program_of}
 use Rattle.run.specs.Returned.{result_function}
 use Rattle.run.specs.laws.Gives.{jump_gives}
-use Rattle.run.specs.laws.Step.{Succ}
 use Rattle.run.proofs.laws.Step.{goes_succ}
-use Rattle.run.specs.laws.Frame.{In}
 use Rattle.run.proofs.laws.Frame.{frame}
 use Rattle.run.specs.laws.RetainedCells.{kept_at, kept_long, kept_inside, kept_of}
 use Rattle.run.specs.laws.Runnable.{Runnable, runnable_class}

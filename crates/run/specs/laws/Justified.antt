@@ -1,43 +1,23 @@
 -- Justified rewriting: which instruction may stand for another, by a table of values, and that it then does the same. It is stated
 -- apart from how a pass finds such instructions.
 -- Assumes nothing.
-use Rattle.std.proofs.Math.Path.{◌≡◌, refl, sym, ap}
-use Rattle.std.proofs.Common.{ap₂, ◌∙◌, inl, inr, arith}
-use Rattle.std.specs.Prelude.{◌⊎◌, Bool, cond, not, ◌&&◌, ℕ, suc, ◌+◌, ◌*◌, ◌-◌, ◌/◌, ◌%◌, ◌^◌, ◌<◌, ◌≤◌, eqb, leb, ltb}
-use Rattle.std.proofs.Math.Bool.{true, false, or-false}
-use Rattle.std.proofs.lemmas.Bool.{false≢true}
-use mathlib.Core.List.{List, [], ◌∷◌, map}
+use Rattle.std.proofs.Math.Path.{◌≡◌}
+use Rattle.std.specs.Prelude.{◌⊎◌, ℕ, ◌%◌, ◌^◌, ◌<◌, eqb}
+use Rattle.std.proofs.Math.Bool.{true, false}
 use Rattle.std.proofs.Math.Option.{some}
-use borrow.Author.Tests.{eqb-true, eqb-false, eq-eqb, le-leb, lt-ltb, ltb-true, leb-true}
 use Rattle.words.specs.Lists.{is_in}
-use Rattle.words.specs.Word.{sign_extend}
-use Rattle.words.specs.laws.Word.{sign_plus, sign_minus}
 use Rattle.instruction.specs.Opcode as op
 use Rattle.instruction.specs.declared.Instruction.{Instruction}
-use Rattle.instruction.specs.declared.Class.{Class}
-use Rattle.instruction.specs.declared.Class.TheVariants.{Hint, LoadInt, LoadConst, Copy, CopyN, Unary, Binary, Jump, JumpIf, JumpIfNot, ForLoop, Return, Panic, Outside, Invalid}
-use Rattle.instruction.specs.Class.{class_of, single, number_of}
+use Rattle.instruction.specs.declared.Class.TheVariants.{LoadInt, LoadConst, Copy, Unary, Binary, JumpIf, JumpIfNot, Return}
 use Rattle.instruction.specs.Instruction.{imm32, plain, with_imm32, class}
-use Rattle.unit.specs.declared.Constant.{Constant}
-use Rattle.unit.specs.declared.Constant.TheVariants.{Nil, Bool as BoolConstant, Int, Float as FloatConstant, String, Missing}
 use Rattle.unit.specs.Entry.{constant_at}
-use Rattle.effects.specs.Shape.{Tables, Sections, Cell}
-use Rattle.effects.specs.Effects.{all_reads, range_has, any_of}
-use Rattle.effects.specs.Check.{operand_refusal}
-use Rattle.effects.specs.laws.ByClass.{is_outside, reads_by_class, writes_by_class}
-use Rattle.effects.proofs.laws.ByClass.{reads_by_class_lem}
-use Rattle.flow.specs.Branch.{target_by}
+use Rattle.effects.specs.Shape.{Sections}
 use Rattle.values.specs.declared.Atom.{Atom}
-use Rattle.values.specs.declared.Atom.TheVariants.{Integer, Float}
+use Rattle.values.specs.declared.Atom.TheVariants.{Integer}
 use Rattle.values.specs.Fold.{fold_word, folding_unary, folding_binary, fits_imm32}
 use Rattle.values.specs.Values.{Values, Expression, value_of, expression_in}
 use Rattle.values.specs.Number.{set_a, set_b, set_bc, constant_atom}
-use Rattle.values.specs.laws.Named.{Named}
 use Rattle.effects.specs.laws.Single.{is_single}
-use Rattle.run.specs.Machine.{Words, Event, World, State, at, put, goto, perform, stop, by_return}
-use Rattle.run.specs.Program.{Function, has_meaning, class_in, node_by, act_by, given_ranges, perhaps_slots, event, constant_word, unary_word, binary_word, slots_of, slots_from}
-use Rattle.run.specs.laws.Gives.{given_by_class}
-use Rattle.run.specs.laws.Slots.{named_of, named_refusal, one_by_one}
 
 -- the expression of a unary and of a binary instruction, by the values of its operands
 abbrev pub unary_expression : Instruction → Atom → Expression

@@ -1,37 +1,22 @@
 -- Removal over lists of cells: conditions on kept places and live slots, apart from how a pass finds them, under which the kept
 -- cells, relocated, run as all of them do.
 -- Assumes nothing.
-use Rattle.std.specs.Prelude.{◌≡◌, ◌⊎◌, Bool, List, [], ℕ, suc, ◌≤◌, ◌<◌}
-use Rattle.std.proofs.Math.Path.{refl, sym}
-use Rattle.std.proofs.Common.{ap, ◌∙◌, arith}
-use Rattle.std.proofs.Math.Logic.{inl, inr}
+use Rattle.std.specs.Prelude.{◌≡◌, Bool, List, ℕ, suc, ◌≤◌, ◌<◌}
 use Rattle.std.proofs.Math.Bool.{true, false}
-use Rattle.std.proofs.lemmas.Bool.{false≢true}
 use Rattle.std.proofs.Math.ListN.{length}
-use Rattle.std.proofs.lemmas.List.{length-map}
 use Rattle.instruction.specs.declared.Class.{Class}
 use Rattle.instruction.specs.declared.Class.TheVariants.{Hint, LoadInt, LoadConst, Copy, CopyN, Unary, Binary, Jump, JumpIf, JumpIfNot, ForLoop, Return, Panic, Outside, Invalid}
-use Rattle.instruction.specs.Class.{class_of}
 use Rattle.instruction.specs.Instruction.{class}
 use Rattle.effects.specs.Shape.{Tables, Cell, cell_at}
 use Rattle.effects.specs.Effects.{all_reads, range_has, any_of}
-use Rattle.flow.specs.Branch.{falls, branches, target_by, target}
+use Rattle.flow.specs.Branch.{target_by, target}
 use Rattle.flow.specs.laws.Flags.{Flags}
 use Rattle.pc_map.specs.Boundary.{is_kept, boundary}
-use Rattle.pc_map.specs.laws.Boundaries.{boundary_zero, boundary_kept, boundary_dropped, boundary_mono}
-use Rattle.pc_map.specs.Relocate.{relocate, retain_from}
-use Rattle.answer.specs.Clean.{retained_cell}
-use Rattle.run.specs.Machine.{Words, World, silent, goto}
-use Rattle.run.specs.laws.Invariant.{Invariant}
-use Rattle.run.specs.Visits.{noted_at, SameVisits}
-use Rattle.lines.specs.Lines.{places_of}
-use Rattle.run.specs.Program.{Function, class_in, node_by, act_by, given_ranges, perhaps_slots, slots_of, program_of}
-use Rattle.run.specs.Returned.{result_function}
-use Rattle.run.specs.laws.Gives.{jump_gives}
+use Rattle.pc_map.specs.Relocate.{relocate}
+use Rattle.run.specs.Program.{Function, given_ranges, slots_of}
 use Rattle.run.specs.laws.Step.{Succ}
 use Rattle.run.specs.laws.Frame.{In}
-use Rattle.run.specs.laws.RetainedCells.{kept_at, kept_long, kept_inside, kept_of}
-use Rattle.run.specs.laws.Runnable.{Runnable, runnable_class}
+use Rattle.run.specs.laws.Runnable.{Runnable}
 
 -- a silent class that does not branch
 unfoldable pub passes : Class → Bool
