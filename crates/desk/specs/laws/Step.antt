@@ -31,7 +31,7 @@ use Rattle.values.specs.Fold.{folding_unary, folding_binary}
 use Rattle.run.specs.Machine.{Words, Event, by_return, by_panic, World, at, over, put, goto, perform}
 use Rattle.run.specs.Program.{Function, node_by, act_by, event, constant_word, unary_word, binary_word, given_ranges}
 use Rattle.run.specs.laws.Gives.{given_by_class}
-use Rattle.run.specs.laws.Justified.{hint, jump, jump_if, jump_if_not}
+use Rattle.run.proofs.laws.Justified.{hint, jump, jump_if, jump_if_not}
 use Rattle.run.proofs.laws.Justified.{one_slot, one_slot_lem}
 use Rattle.run.proofs.laws.Justified.{do_at, Meant, meant, gave, jumps, do_single, do_quiet, Quiet, single_slot}
 use Rattle.desk.specs.declared.Stop.TheVariants.{Returned, Panicked, Ended, Other, Limit, Refused}
