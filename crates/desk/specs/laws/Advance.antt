@@ -51,9 +51,10 @@ module _ (S : Sections) (cells : List Cell) where
   unfoldable pub stop_at : ℕ → ℕ → List ℕ → Stop
   stop_at k p f = cond (nat_lt p (length cells)) (stop_by p k (due_at S cells p f)) Ended
 
+module _ (S : Sections) (cells : List Cell) where
   -- the run goes on as far as that, and stops so
   pub run_advances : (k p : ℕ) (f : List ℕ) → run_from S cells k p f
-      ≡ stopped_with (stop_at (advanced k p f).left (advanced k p f).place (advanced k p f).frame) (advanced k p f).frame
+      ≡ stopped_with (stop_at S cells (advanced S cells k p f).left (advanced S cells k p f).place (advanced S cells k p f).frame) (advanced S cells k p f).frame
   unfolding run_from advanced stop_at stop_by onward halted taken
   run_advances zero p f = go (nat_lt p (length cells)) (due_at S cells p f)
     where
@@ -65,25 +66,25 @@ module _ (S : Sections) (cells : List Cell) where
   run_advances (suc k) p f = go (run_advances k) (nat_lt p (length cells)) refl (due_at S cells p f) refl
     where
       ended : Advance → Stopped
-      ended a = stopped_with (stop_at a.left a.place a.frame) a.frame
+      ended a = stopped_with (stop_at S cells a.left a.place a.frame) a.frame
 
-      go : ((q : ℕ) (g : List ℕ) → run_from S cells k q g ≡ ended (advanced k q g)) → (t : Bool) → nat_lt p (length cells) ≡ t → (d : Due) → due_at S cells p f ≡ d
-          → cond t (taken p f (run_from S cells k) d) (stopped_with Ended f) ≡ ended (cond t (onward p (suc k) f (advanced k) d) (stands p (suc k) f))
+      go : ((q : ℕ) (g : List ℕ) → run_from S cells k q g ≡ ended (advanced S cells k q g)) → (t : Bool) → nat_lt p (length cells) ≡ t → (d : Due) → due_at S cells p f ≡ d
+          → cond t (taken p f (run_from S cells k) d) (stopped_with Ended f) ≡ ended (cond t (onward p (suc k) f (advanced S cells k) d) (stands p (suc k) f))
       go ih true e (goes q g) h = ih q g
       go ih true e (stops s) h = rw (e, h)
       go ih true e not_executed h = rw (e, h)
       go ih false e d h = rw e
 
   -- one step: either all of it was done, or none
-  pub step_advances : (p : ℕ) (f : List ℕ) → ((advanced 1 p f).left ≡ 0 → step_from S cells p f ≡ stepped_with (Goes (advanced 1 p f).place) (advanced 1 p f).frame)
-      × (0 < (advanced 1 p f).left → step_from S cells p f ≡ stepped_with (Stops (stop_at 1 (advanced 1 p f).place (advanced 1 p f).frame)) (advanced 1 p f).frame)
+  pub step_advances : (p : ℕ) (f : List ℕ) → ((advanced S cells 1 p f).left ≡ 0 → step_from S cells p f ≡ stepped_with (Goes (advanced S cells 1 p f).place) (advanced S cells 1 p f).frame)
+      × (0 < (advanced S cells 1 p f).left → step_from S cells p f ≡ stepped_with (Stops (stop_at S cells 1 (advanced S cells 1 p f).place (advanced S cells 1 p f).frame)) (advanced S cells 1 p f).frame)
   unfolding step_from advanced stop_at stop_by onward stepped
   step_advances p f = go (nat_lt p (length cells)) refl (due_at S cells p f) refl
     where
       go : (t : Bool) → nat_lt p (length cells) ≡ t → (d : Due) → due_at S cells p f ≡ d
-          → let a = cond t (onward p 1 f (advanced 0) d) (stands p 1 f) in
+          → let a = cond t (onward p 1 f (advanced S cells 0) d) (stands p 1 f) in
           (a.left ≡ 0 → cond t (stepped p f d) (stepped_with (Stops Ended) f) ≡ stepped_with (Goes a.place) a.frame)
-          × (0 < a.left → cond t (stepped p f d) (stepped_with (Stops Ended) f) ≡ stepped_with (Stops (stop_at 1 a.place a.frame)) a.frame)
+          × (0 < a.left → cond t (stepped p f d) (stepped_with (Stops Ended) f) ≡ stepped_with (Stops (stop_at S cells 1 a.place a.frame)) a.frame)
       go true e (goes q g) h = (λ l. refl, λ l. absurd (omega arith))
       go true e (stops s) h = (λ l. absurd (omega arith), λ l. rw (e, h))
       go true e not_executed h = (λ l. absurd (omega arith), λ l. rw (e, h))
@@ -91,7 +92,7 @@ module _ (S : Sections) (cells : List Cell) where
 
   -- ---- as code goes on
 
-  pub at_once : (k p : ℕ) (f : List ℕ) → length cells ≤ p → advanced k p f ≡ stands p k f
+  pub at_once : (k p : ℕ) (f : List ℕ) → length cells ≤ p → advanced S cells k p f ≡ stands p k f
   unfolding advanced
   at_once zero p f h = refl
   at_once (suc k) p f h = rw (le-ltb p (length cells) h)

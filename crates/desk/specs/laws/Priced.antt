@@ -47,11 +47,12 @@ module _ (S : Sections) (cells : List Cell) (tariff : List ℕ) where
       let rest = onward (stands p (suc k) v f) (λ q g. advanced k q (v + price_at tariff cells p) g) (due_at S cells p f) in
       cond (nat_lt p (length cells)) rest (stands p (suc k) v f)
 
+module _ (S : Sections) (cells : List Cell) (tariff : List ℕ) where
   abbrev ended : Advance → Stopped
   ended a = stopped_with (stop_at S cells a.left a.place a.frame) a.frame
 
   -- the run goes on as far as that, and stops so
-  pub run_advances : (k p v : ℕ) (f : List ℕ) → let a = advanced k p v f in run_from S cells k p f ≡ stopped_with (stop_at S cells a.left a.place a.frame) a.frame
+  pub run_advances : (k p v : ℕ) (f : List ℕ) → let a = advanced S cells tariff k p v f in run_from S cells k p f ≡ stopped_with (stop_at S cells a.left a.place a.frame) a.frame
   unfolding run_from advanced stop_at stop_by onward halted taken
   run_advances zero p v f = go (nat_lt p (length cells)) (due_at S cells p f)
     where
@@ -62,23 +63,23 @@ module _ (S : Sections) (cells : List Cell) (tariff : List ℕ) where
       go false d = refl
   run_advances (suc k) p v f = go (run_advances k) (nat_lt p (length cells)) refl (due_at S cells p f) refl
     where
-      go : ((q w : ℕ) (g : List ℕ) → run_from S cells k q g ≡ ended (advanced k q w g)) → (t : Bool) → nat_lt p (length cells) ≡ t → (d : Due) → due_at S cells p f ≡ d
+      go : ((q w : ℕ) (g : List ℕ) → run_from S cells k q g ≡ ended (advanced S cells tariff k q w g)) → (t : Bool) → nat_lt p (length cells) ≡ t → (d : Due) → due_at S cells p f ≡ d
           → cond t (taken p f (run_from S cells k) d) (stopped_with Ended f)
-          ≡ ended (cond t (onward (stands p (suc k) v f) (λ q g. advanced k q (v + price_at tariff cells p) g) d) (stands p (suc k) v f))
+          ≡ ended (cond t (onward (stands p (suc k) v f) (λ q g. advanced S cells tariff k q (v + price_at tariff cells p) g) d) (stands p (suc k) v f))
       go ih true e (goes q g) h = ih q (v + price_at tariff cells p) g
       go ih true e (stops s) h = rw (e, h)
       go ih true e not_executed h = rw (e, h)
       go ih false e d h = rw e
 
   -- one step: either all of it was done, or none
-  pub step_advances : (p v : ℕ) (f : List ℕ) → let a = advanced 1 p v f in
+  pub step_advances : (p v : ℕ) (f : List ℕ) → let a = advanced S cells tariff 1 p v f in
       (a.left ≡ 0 → step_from S cells p f ≡ stepped_with (Goes a.place) a.frame)
       × (0 < a.left → step_from S cells p f ≡ stepped_with (Stops (stop_at S cells 1 a.place a.frame)) a.frame)
   unfolding step_from advanced stop_at stop_by onward stepped
   step_advances p v f = go (nat_lt p (length cells)) refl (due_at S cells p f) refl
     where
       go : (t : Bool) → nat_lt p (length cells) ≡ t → (d : Due) → due_at S cells p f ≡ d
-          → let a = cond t (onward (stands p 1 v f) (λ q g. advanced 0 q (v + price_at tariff cells p) g) d) (stands p 1 v f) in
+          → let a = cond t (onward (stands p 1 v f) (λ q g. advanced S cells tariff 0 q (v + price_at tariff cells p) g) d) (stands p 1 v f) in
           (a.left ≡ 0 → cond t (stepped p f d) (stepped_with (Stops Ended) f) ≡ stepped_with (Goes a.place) a.frame)
           × (0 < a.left → cond t (stepped p f d) (stepped_with (Stops Ended) f) ≡ stepped_with (Stops (stop_at S cells 1 a.place a.frame)) a.frame)
       go true e (goes q g) h = (λ l. refl, λ l. absurd (omega arith))
@@ -89,7 +90,7 @@ module _ (S : Sections) (cells : List Cell) (tariff : List ℕ) where
   -- ---- the run that is not charged
 
   -- it goes as far, with the same frame
-  pub unpriced : (k p v : ℕ) (f : List ℕ) → let a = advanced k p v f in free.advanced S cells k p f ≡ free.stands a.place a.left a.frame
+  pub unpriced : (k p v : ℕ) (f : List ℕ) → let a = advanced S cells tariff k p v f in free.advanced S cells k p f ≡ free.stands a.place a.left a.frame
   unfolding advanced onward free.advanced free.onward
   unpriced zero p v f = refl
   unpriced (suc k) p v f = go (unpriced k) (nat_lt p (length cells)) (due_at S cells p f)
@@ -97,20 +98,20 @@ module _ (S : Sections) (cells : List Cell) (tariff : List ℕ) where
       bare : Advance → free.Advance
       bare a = free.stands a.place a.left a.frame
 
-      go : ((q w : ℕ) (g : List ℕ) → free.advanced S cells k q g ≡ bare (advanced k q w g)) → (t : Bool) (d : Due)
+      go : ((q w : ℕ) (g : List ℕ) → free.advanced S cells k q g ≡ bare (advanced S cells tariff k q w g)) → (t : Bool) (d : Due)
           → cond t (free.onward p (suc k) f (free.advanced S cells k) d) (free.stands p (suc k) f)
-          ≡ bare (cond t (onward (stands p (suc k) v f) (λ q g. advanced k q (v + price_at tariff cells p) g) d) (stands p (suc k) v f))
+          ≡ bare (cond t (onward (stands p (suc k) v f) (λ q g. advanced S cells tariff k q (v + price_at tariff cells p) g) d) (stands p (suc k) v f))
       go ih true (goes q g) = ih q (v + price_at tariff cells p) g
       go ih true (stops s) = refl
       go ih true not_executed = refl
       go ih false d = refl
 
-  pub placed_unpriced : (k p : ℕ) (f : List ℕ) {q l w : ℕ} {g : List ℕ} → Placed (advanced k p 0 f) q l w g → free.Placed (free.advanced S cells k p f) q l g
+  pub placed_unpriced : (k p : ℕ) (f : List ℕ) {q l w : ℕ} {g : List ℕ} → Placed (advanced S cells tariff k p 0 f) q l w g → free.Placed (free.advanced S cells k p f) q l g
   placed_unpriced k p f a = rw (unpriced k p 0 f) (record { place = a.place; left = a.left; frame = a.frame })
 
   -- ---- as code goes on
 
-  pub at_once : (k p v : ℕ) (f : List ℕ) → length cells ≤ p → advanced k p v f ≡ stands p k v f
+  pub at_once : (k p v : ℕ) (f : List ℕ) → length cells ≤ p → advanced S cells tariff k p v f ≡ stands p k v f
   unfolding advanced
   at_once zero p v f h = refl
   at_once (suc k) p v f h = rw (le-ltb p (length cells) h)
