@@ -1,11 +1,7 @@
 pub mod Copying
 pub mod Step
 pub mod Stands
-pub mod Checking
 pub mod Execution
 pub mod Advance
 pub mod Priced
 pub mod Spent
-pub mod Unit
-pub mod Passed
-pub mod Charging

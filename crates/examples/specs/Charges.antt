@@ -16,7 +16,7 @@ use Rattle.desk.specs.declared.Stop.{Stop}
 use Rattle.desk.specs.declared.Stop.TheVariants.{Returned, Panicked, Ended, Other, Limit, Refused}
 use Rattle.desk.specs.Charge.{prices, highest_price, price_at, to_cents, charge_check, charge_answer, charged_by, charge_cents, most_cents}
 use Rattle.desk.specs.Desk.{goes, due_at}
-use Rattle.desk.specs.laws.Spent.{spent_there}
+use Rattle.desk.proofs.laws.Spent.{spent_there}
 use Rattle.examples.specs.Computed.{answers, desk}
 use Rattle.examples.specs.Starred.{lent}
 use Rattle.examples.specs.Unit.{load_int, jump, jump_by, jump_if, three, return, bytes_of, metadata_of, numbers, unit}

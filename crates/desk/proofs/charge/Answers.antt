@@ -2,8 +2,8 @@ use Rattle.std.proofs.Common.{◌≡◌, ℕ, ◌+◌, ◌*◌, ◌≤◌, lengt
 use Rattle.effects.specs.declared.Check.TheVariants.{Passed}
 use Rattle.answer.specs.Answer.{cells_of, sections_of}
 use Rattle.desk.specs.Charge.{highest_price, charge_check}
-use Rattle.desk.specs.laws.Charging.{charge_passed, charge_refused, stop_inside, spent_bound, charged}
-use Rattle.desk.specs.laws.Passed.{passed_run}
+use Rattle.desk.proofs.laws.Charging.{charge_passed, charge_refused, stop_inside, spent_bound, charged}
+use Rattle.desk.proofs.laws.Passed.{passed_run}
 use Rattle.desk.proofs.charge.Goals as goal
 use Rattle.desk.proofs.charge.Tie as tie
 use Rattle.desk.proofs.charge.Lts

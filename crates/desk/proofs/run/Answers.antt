@@ -1,7 +1,7 @@
 use Rattle.std.proofs.Common.{◌≡◌, length, sym, ◌∙◌}
 use Rattle.effects.specs.declared.Check.TheVariants.{Passed}
 use Rattle.desk.specs.Answer.{desk_check}
-use Rattle.desk.specs.laws.Passed.{passed_run, refused_stop, ran}
+use Rattle.desk.proofs.laws.Passed.{passed_run, refused_stop, ran}
 use Rattle.desk.proofs.run.Goals as goal
 
 pub advance-reached-requires : goal.advance-reached-requires

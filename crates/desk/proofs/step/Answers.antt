@@ -1,7 +1,7 @@
 use Rattle.std.proofs.Common.{◌≡◌, length, sym, ◌∙◌, arith}
 use Rattle.effects.specs.declared.Check.TheVariants.{Passed}
 use Rattle.desk.specs.Answer.{desk_check}
-use Rattle.desk.specs.laws.Passed.{passed_run, refused_step, step_went, step_stopped, step_place}
+use Rattle.desk.proofs.laws.Passed.{passed_run, refused_step, step_went, step_stopped, step_place}
 use Rattle.desk.proofs.step.Goals as goal
 
 pub advance-reached-requires : goal.advance-reached-requires

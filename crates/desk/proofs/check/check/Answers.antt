@@ -4,7 +4,7 @@ use Rattle.unit.specs.Layout.{header_of, layout_of}
 use Rattle.unit.specs.laws.UnitLaws.{layout_unit}
 use Rattle.effects.specs.declared.Check.TheVariants.{Passed}
 use Rattle.answer.specs.Answer.{count_check}
-use Rattle.desk.specs.laws.Checking.{row_refused, row_passed, from_frame, from_branches, from_operands, layout_refused, layout_passed, row_counts, row_frame}
+use Rattle.desk.proofs.laws.Checking.{row_refused, row_passed, from_frame, from_branches, from_operands, layout_refused, layout_passed, row_counts, row_frame}
 use Rattle.desk.proofs.check.check.Goals as goal
 
 pub check_operands-requires : goal.check_operands-requires

@@ -3,7 +3,7 @@ use Rattle.effects.specs.Shape.{cell_at}
 use Rattle.flow.specs.Branch.{branch_check_in}
 use Rattle.answer.specs.Answer.{cells_of}
 use Rattle.effects.specs.laws.Unrefused.{clear_first, clear_none, clear_later, clear_here}
-use Rattle.desk.specs.laws.Checking.{places, places_few, read_cell, branch_test, branch_tested}
+use Rattle.desk.proofs.laws.Checking.{places, places_few, read_cell, branch_test, branch_tested}
 use Rattle.desk.proofs.check.check_branches.Goals as goal
 use Rattle.desk.proofs.check.check_branches.Tie as tie
 use Rattle.desk.proofs.check.check_branches.Lts

@@ -1,7 +1,7 @@
 use Rattle.std.proofs.Common.{suc, ◌-◌, length}
 use Rattle.answer.specs.Answer.{cells_of}
 use Rattle.effects.specs.laws.Unrefused.{Clear}
-use Rattle.desk.specs.laws.Checking.{branch_test}
+use Rattle.desk.proofs.laws.Checking.{branch_test}
 use Rattle.desk.proofs.check.check_branches.Given as goal
 
 -- no branch before p is refused

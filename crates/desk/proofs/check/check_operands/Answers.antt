@@ -3,7 +3,7 @@ use Rattle.effects.specs.Shape.{cell_at}
 use Rattle.effects.specs.Check.{operand_check}
 use Rattle.answer.specs.Answer.{cells_of}
 use Rattle.effects.specs.laws.Unrefused.{clear_first, clear_none, clear_later, clear_here}
-use Rattle.desk.specs.laws.Checking.{Found, places, places_few, operand_test, operand_met, operand_tested}
+use Rattle.desk.proofs.laws.Checking.{Found, places, places_few, operand_test, operand_met, operand_tested}
 use Rattle.desk.proofs.check.check_operands.Goals as goal
 use Rattle.desk.proofs.check.check_operands.Tie as tie
 use Rattle.desk.proofs.check.check_operands.Lts

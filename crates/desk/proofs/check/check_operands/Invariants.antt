@@ -1,7 +1,7 @@
 use Rattle.std.proofs.Common.{◌-◌}
 use Rattle.answer.specs.Answer.{cells_of}
 use Rattle.effects.specs.laws.Unrefused.{Clear}
-use Rattle.desk.specs.laws.Checking.{operand_test}
+use Rattle.desk.proofs.laws.Checking.{operand_test}
 use Rattle.desk.proofs.check.check_operands.Given as goal
 
 -- no operands before p are refused

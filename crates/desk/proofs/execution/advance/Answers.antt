@@ -1,4 +1,4 @@
-use Rattle.desk.specs.laws.Priced.{placed_unpriced}
+use Rattle.desk.proofs.laws.Priced.{placed_unpriced}
 use Rattle.desk.proofs.execution.advance.Goals as goal
 
 pub returns : goal.returns

@@ -2,7 +2,7 @@ use Rattle.std.proofs.Common.{◌≡◌, ℕ, ◌≤◌, List, length, sym, refl
 use Rattle.instruction.specs.Instruction.{instruction_at}
 use Rattle.desk.specs.Charge.{highest_price}
 use Rattle.desk.specs.laws.Priced.{Advance, Placed, stands}
-use Rattle.desk.specs.laws.Unit.{Turn, turn_inside, priced_turn_over, turn_executable, priced_turn_goes, priced_turn_stays}
+use Rattle.desk.proofs.laws.Unit.{Turn, turn_inside, priced_turn_over, turn_executable, priced_turn_goes, priced_turn_stays}
 use Rattle.desk.proofs.execution.advance_priced.Goals as goal
 use Rattle.desk.proofs.execution.advance_priced.Tie as tie
 use Rattle.desk.proofs.execution.advance_priced.Lts

@@ -3,7 +3,7 @@ use Rattle.instruction.specs.Class.{class_of, single}
 use Rattle.instruction.specs.Opcode as op
 use Rattle.instruction.specs.declared.Class.TheVariants.{LoadInt, LoadConst, Copy, CopyN, Unary, Binary, JumpIf, JumpIfNot}
 use Rattle.values.specs.laws.Named.{Named}
-use Rattle.desk.specs.laws.Execution.{executable_same, named_as, class_as, going, does_hint, does_load_int, does_load, does_copy, does_copy_n, does_jump, does_jump_if, does_jump_if_not, does_unary, does_binary, does_nothing}
+use Rattle.desk.proofs.laws.Execution.{executable_same, named_as, class_as, going, does_hint, does_load_int, does_load, does_copy, does_copy_n, does_jump, does_jump_if, does_jump_if_not, does_unary, does_binary, does_nothing}
 use Rattle.desk.proofs.execution.execute.Goals as goal
 
 pub store-requires : goal.store-requires

@@ -1,6 +1,6 @@
 use Rattle.std.proofs.Common.{sym, refl, ◌∙◌}
 use Rattle.desk.specs.Desk.{due_by}
-use Rattle.desk.specs.laws.Execution.{loads_executed, cond_executed}
+use Rattle.desk.proofs.laws.Execution.{loads_executed, cond_executed}
 use Rattle.desk.specs.laws.Stands.{is_executed}
 use Rattle.desk.proofs.execution.is_executed.Goals as goal
 

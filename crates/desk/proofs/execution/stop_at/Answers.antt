@@ -1,7 +1,7 @@
 use Rattle.std.proofs.Common.{◌<◌, length, sym, ◌∙◌, arith}
 use Rattle.answer.specs.Answer.{cells_of}
-use Rattle.desk.specs.laws.Checking.{places, places_few}
-use Rattle.desk.specs.laws.Unit.{place_inside, At, at_end, at_other, at_limit, at_return, at_panic, at_going}
+use Rattle.desk.proofs.laws.Checking.{places, places_few}
+use Rattle.desk.proofs.laws.Unit.{place_inside, At, at_end, at_other, at_limit, at_return, at_panic, at_going}
 use Rattle.desk.proofs.execution.stop_at.Goals as goal
 use Rattle.desk.proofs.execution.stop_at.Tie as tie
 use Rattle.desk.proofs.execution.stop_at.Lts

@@ -4,9 +4,9 @@ use Rattle.instruction.specs.Instruction.{instruction_at}
 use Rattle.unit.specs.Layout.{code_of}
 use Rattle.answer.specs.Answer.{cells_of}
 use Rattle.desk.specs.Charge.{price_at}
-use Rattle.desk.specs.laws.Checking.{read_cell}
+use Rattle.desk.proofs.laws.Checking.{read_cell}
 use Rattle.desk.specs.laws.Spent.{stop_price}
-use Rattle.desk.specs.laws.Unit.{place_inside}
+use Rattle.desk.proofs.laws.Unit.{place_inside}
 use Rattle.desk.proofs.execution.stop_price.Goals as goal
 
 -- the price that is found is that of the cell

@@ -13,10 +13,12 @@ use Rattle.desk.specs.Answer.{desk_check, stopped_by}
 use Rattle.desk.specs.Charge.{prices, highest_price, price_at, spent_from, to_cents, tariff_check, charge_check, charge_answer, charged_by, charge_cents, most_cents}
 use Rattle.desk.specs.Desk.{due_at}
 use Rattle.desk.specs.laws.Advance.{stop_by, stop_at}
-use Rattle.desk.specs.laws.Priced.{Placed, advanced, run_advances}
-use Rattle.desk.specs.laws.Checking.{if_passed}
-use Rattle.desk.specs.laws.Passed.{and_passed}
-use Rattle.desk.specs.laws.Spent.{stop_price, spent_advances, spent_most}
+use Rattle.desk.specs.laws.Priced.{Placed, advanced}
+use Rattle.desk.proofs.laws.Priced.{run_advances}
+use Rattle.desk.proofs.laws.Checking.{if_passed}
+use Rattle.desk.proofs.laws.Passed.{and_passed}
+use Rattle.desk.specs.laws.Spent.{stop_price}
+use Rattle.desk.proofs.laws.Spent.{spent_advances, spent_most}
 
 -- what passes: the run, and a tariff of 256 prices
 pub charge_passed : (u : List ℕ) (words count : ℕ) → charge_check u words count ≡ Passed → (desk_check u words ≡ Passed) × (count ≡ prices)

@@ -24,9 +24,10 @@ use Rattle.desk.specs.Desk.{Due, goes, stops, not_executed, due_at}
 use Rattle.desk.specs.declared.Next.TheVariants.{Goes, Stops}
 use Rattle.desk.specs.declared.Stop.{Stop}
 use Rattle.desk.specs.declared.Stop.TheVariants as stop
-use Rattle.desk.specs.laws.Advance.{Advance, Placed, onward, advanced, stop_at, run_advances, step_advances}
-use Rattle.desk.specs.laws.Checking.{places_few, not_passed, if_passed}
-use Rattle.desk.specs.laws.Stands.{mute, goes_there}
+use Rattle.desk.specs.laws.Advance.{Advance, Placed, onward, advanced, stop_at}
+use Rattle.desk.proofs.laws.Advance.{run_advances, step_advances}
+use Rattle.desk.proofs.laws.Checking.{places_few, not_passed, if_passed}
+use Rattle.desk.proofs.laws.Stands.{mute, goes_there}
 
 -- ---- the rows, one by one
 

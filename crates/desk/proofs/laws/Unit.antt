@@ -33,9 +33,11 @@ use Rattle.values.specs.Fold.{folding_unary, folding_binary}
 use Rattle.desk.specs.declared.Stop.{Stop}
 use Rattle.desk.specs.declared.Stop.TheVariants.{Returned, Panicked, Ended, Other, Limit}
 use Rattle.desk.specs.Desk.{Due, goes, stops, not_executed, loads, due_by, due_at}
-use Rattle.desk.specs.laws.Advance.{Advance, stands, advanced, at_once, goes_on_lem, stays_there, stop_by, stop_at}
+use Rattle.desk.specs.laws.Advance.{Advance, stands, advanced, stop_by, stop_at}
+use Rattle.desk.proofs.laws.Advance.{at_once, goes_on_lem, stays_there}
 use Rattle.desk.specs.laws.Priced as priced
-use Rattle.desk.specs.laws.Checking.{places, places_few, read_cell}
+use Rattle.desk.proofs.laws.Priced as priced_laws
+use Rattle.desk.proofs.laws.Checking.{places, places_few, read_cell}
 use Rattle.desk.specs.laws.Execution.{goes_to, frame_after, due_in, Executable}
 use Rattle.desk.specs.laws.Stands.{is_executed}
 
@@ -53,7 +55,7 @@ module _ (u : List ℕ) (laid : is_unit u ≡ true) where
 -- ---- how it stops, by the class
 
 -- what no step stops at
-unfoldable Going : Due → Type 0
+unfoldable pub Going : Due → Type 0
 Going (goes q g) = Unit {0}
 Going (stops s) = ⊥
 Going not_executed = Unit {0}
@@ -73,7 +75,7 @@ going_cond true q g = tt
 going_cond false q g = tt
 
 -- all classes but Return and Panic
-going : (constants : List ℕ) (k : Class) (p : ℕ) (i : Instruction) (f : List ℕ) → (number_of k ≢ 11) → (number_of k ≢ 12) → Going (due_by constants k p i f)
+pub going : (constants : List ℕ) (k : Class) (p : ℕ) (i : Instruction) (f : List ℕ) → (number_of k ≢ 11) → (number_of k ≢ 12) → Going (due_by constants k p i f)
 unfolding due_by Going number_of
 going constants Hint p i f r n = tt
 going constants LoadInt p i f r n = tt
@@ -228,7 +230,7 @@ module _ (u : List ℕ) (laid : is_unit u ≡ true) (code : List ℕ) (c : code 
       go : (left : ℕ) (b : Bool) → nat_lt p (length code / 8) ≡ b → (nat_lt 0 left && b) ≡ false → priced.advanced (sections_of u) (cells_of u) tariff left p v f ≡ priced.stands p left v f
       go zero b e t = refl
       go (suc k) true e t = absurd (true≢false (rw (lt-ltb 0 (suc k) (omega arith)) at t))
-      go (suc k) false e t = priced.at_once (sections_of u) (cells_of u) tariff (suc k) p v f (rw (← places u laid c) (ltb-false p (length code / 8) e))
+      go (suc k) false e t = priced_laws.at_once (sections_of u) (cells_of u) tariff (suc k) p v f (rw (← places u laid c) (ltb-false p (length code / 8) e))
 
 -- a turn: a step is left, and the instruction at p is one of the function's
 pub record Turn (u code constants : List ℕ) (left p : ℕ) (f : List ℕ) : Type 0 where
@@ -272,11 +274,11 @@ module _ {u code constants : List ℕ} {left p : ℕ} {f : List ℕ} (t : Turn u
           × (length g ≡ (sections_of u).locals)
       unfolding given_function
       priced_turn_goes e l =
-          let goes = priced.goes_on_lem (given_function u) t.runnable tariff (left - 1) p v f q g t.inside t.frame (rw due done.0) (rw due done.1) l in
+          let goes = priced_laws.goes_on_lem (given_function u) t.runnable tariff (left - 1) p v f q g t.inside t.frame (rw due done.0) (rw due done.1) l in
           rw (e, read_cell u p t.code_found t.inside) (rw again at goes)
 
       pub priced_turn_stays : 2 ^ 32 ≤ q → (priced.advanced (sections_of u) (cells_of u) tariff left p v f ≡ priced.stands p left v f) × (g ≡ f)
       unfolding given_function
       priced_turn_stays l =
-          let stays = priced.stays_there (given_function u) t.runnable tariff (left - 1) p v f q g (places_few u t.bytes) t.inside t.frame (rw due done.0) (rw due done.1) l in
+          let stays = priced_laws.stays_there (given_function u) t.runnable tariff (left - 1) p v f q g (places_few u t.bytes) t.inside t.frame (rw due done.0) (rw due done.1) l in
           rw again at stays

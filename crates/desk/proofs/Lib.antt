@@ -1,0 +1,4 @@
+pub mod NeverAbove
+pub mod Likewise
+pub mod Rewritten
+pub mod laws

@@ -1,0 +1,9 @@
+pub mod Advance
+pub mod Charging
+pub mod Checking
+pub mod Execution
+pub mod Passed
+pub mod Priced
+pub mod Spent
+pub mod Stands
+pub mod Unit
