@@ -42,7 +42,7 @@ use Rattle.desk.specs.declared.Stop.{Stop}
 use Rattle.desk.specs.declared.Stop.TheVariants.{Returned, Panicked, Ended, Other, Limit, Refused}
 use Rattle.desk.specs.Desk.{Stopped, stopped_with, Due, goes, stops, not_executed, loads, due_by, halted, taken, due_at, run_from, notes_from}
 use Rattle.desk.specs.laws.Step.{words_in}
-use Rattle.desk.specs.laws.Stands.{read_words, is_executed, IsEnd}
+use Rattle.desk.specs.laws.Stands.{is_executed, IsEnd}
 use Rattle.desk.proofs.laws.Stands.{mute, Stands, stops_there, goes_there, stand, Arrives, arrives}
 use Rattle.desk.specs.Likewise.{Likewise, RunsLikewise}
 

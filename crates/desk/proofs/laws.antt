@@ -7,3 +7,4 @@ pub mod Priced
 pub mod Spent
 pub mod Stands
 pub mod Unit
+pub mod Step

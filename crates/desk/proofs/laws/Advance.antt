@@ -7,8 +7,7 @@ use Rattle.effects.specs.Shape.{Sections, Cell}
 use Rattle.run.specs.Program.{Function}
 use Rattle.run.specs.laws.Runnable.{Runnable}
 use Rattle.desk.specs.declared.Next.TheVariants.{Goes, Stops}
-use Rattle.desk.specs.declared.Stop.{Stop}
-use Rattle.desk.specs.declared.Stop.TheVariants.{Ended, Other, Limit}
+use Rattle.desk.specs.declared.Stop.TheVariants.{Ended}
 use Rattle.desk.specs.Answer.{stepped_with, stepped, step_from}
 use Rattle.desk.specs.Desk.{Stopped, stopped_with, Due, goes, stops, not_executed, halted, taken, due_at, run_from}
 use Rattle.desk.specs.laws.Execution.{goes_to, frame_after}

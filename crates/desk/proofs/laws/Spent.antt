@@ -16,7 +16,7 @@ use Rattle.effects.specs.Shape.{Sections, Cell, cell_at}
 use Rattle.values.specs.Fold.{folding_unary, folding_binary}
 use Rattle.run.proofs.laws.RelocatedRun.{pick}
 use Rattle.desk.specs.declared.Stop.{Stop}
-use Rattle.desk.specs.declared.Stop.TheVariants.{Returned, Panicked, Ended, Other, Limit, Refused}
+use Rattle.desk.specs.declared.Stop.TheVariants.{Ended}
 use Rattle.desk.specs.Charge.{price_at, priced, spent_from}
 use Rattle.desk.specs.Desk.{Due, goes, stops, not_executed, loads, due_by, due_at, noted_by, notes_from}
 use Rattle.desk.specs.laws.Advance.{stop_by, stop_at}

@@ -19,7 +19,7 @@ use Rattle.flow.specs.Branch.{branches, target_by}
 use Rattle.values.specs.Fold.{folding_unary, folding_binary}
 use Rattle.run.specs.System.{System, after}
 use Rattle.run.specs.Machine.{Words, Event, Way, by_return, by_panic, World, Program, State, at, over, step, way_of, finish}
-use Rattle.run.specs.Program.{Function, program_of, event, slots_of, slots_from}
+use Rattle.run.specs.Program.{Function, program_of, event, slots_of}
 use Rattle.run.specs.Visits.{Noted, noted, visit, visiting}
 use Rattle.run.proofs.laws.RelocatedRun.{pick}
 use Rattle.run.specs.laws.Runnable.{Runnable}
@@ -28,7 +28,8 @@ use Rattle.desk.specs.declared.Stop.{Stop}
 use Rattle.desk.specs.declared.Stop.TheVariants.{Returned, Panicked, Ended, Other, Limit, Refused}
 use Rattle.desk.specs.Desk.{Stopped, stopped_with, Due, goes, stops, not_executed, loads, due_by, halted, taken, due_at, run_from}
 use Rattle.desk.specs.Desk as desk
-use Rattle.desk.specs.laws.Step.{words_in, Follows, follows}
+use Rattle.desk.specs.laws.Step.{words_in}
+use Rattle.desk.proofs.laws.Step.{Follows, follows}
 use Rattle.desk.specs.laws.Stands.{IsEnd, is_executed, read_words}
 
 -- a world that answers nothing: the desk asks it nothing

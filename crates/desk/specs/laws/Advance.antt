@@ -1,17 +1,10 @@
 -- How far a run goes, and how it stops there.
 -- Assumes nothing.
-use Rattle.std.specs.Prelude.{◌≡◌, ℕ, zero, suc, ◌^◌, ◌<◌, ◌≤◌, Bool, true, false, cond, List, [], length, nat_lt}
-use Rattle.std.proofs.Math.Path.{refl}
-use Rattle.std.proofs.Common.{arith, lt-ltb, le-ltb}
+use Rattle.std.specs.Prelude.{◌≡◌, ℕ, zero, suc, cond, List, length, nat_lt}
 use Rattle.effects.specs.Shape.{Sections, Cell}
-use Rattle.run.specs.Program.{Function}
-use Rattle.run.specs.laws.Runnable.{Runnable}
-use Rattle.desk.specs.declared.Next.TheVariants.{Goes, Stops}
 use Rattle.desk.specs.declared.Stop.{Stop}
 use Rattle.desk.specs.declared.Stop.TheVariants.{Ended, Other, Limit}
-use Rattle.desk.specs.Answer.{stepped_with, stepped, step_from}
-use Rattle.desk.specs.Desk.{Stopped, stopped_with, Due, goes, stops, not_executed, halted, taken, due_at, run_from}
-use Rattle.desk.specs.laws.Execution.{goes_to, frame_after}
+use Rattle.desk.specs.Desk.{Due, goes, stops, not_executed, due_at}
 
 -- a place, the steps that are left, and the frame then
 pub record Advance : Type 0 where

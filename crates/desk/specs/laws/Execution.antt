@@ -1,26 +1,13 @@
 -- What is due at an instruction, by the place that it goes to and the frame after it.
 -- Assumes nothing.
-use Rattle.std.specs.Prelude.{◌≡◌, ℕ, suc, ◌+◌, ◌%◌, ◌^◌, ◌<◌, ◌≤◌, Bool, true, false, cond, not, ◌||◌, List, [], ◌∷◌, ◌==◌, slice_index, slice_set}
-use Rattle.std.proofs.Math.Path.{refl}
-use Rattle.std.proofs.Common.{sym, ap, ◌∙◌, true≢false, arith, lt-ltb}
-use Rattle.std.proofs.Math.Decide.{dec_le}
-use borrow.Rule.Slice.PartMut.{mid_of, put_mid}
-use Rattle.words.specs.Lists.{is_in, every}
-use Rattle.words.specs.laws.Lists.{every_at}
+use Rattle.std.specs.Prelude.{◌≡◌, ℕ, ◌+◌, ◌^◌, ◌<◌, ◌≤◌, Bool, true, false, List}
 use Rattle.instruction.specs.declared.Instruction.{Instruction}
-use Rattle.instruction.specs.declared.Class.{Class}
-use Rattle.instruction.specs.declared.Class.TheVariants.{Hint, LoadInt, LoadConst, Copy, CopyN, Unary, Binary, Jump, JumpIf, JumpIfNot, ForLoop, Return, Panic, Outside, Invalid}
-use Rattle.instruction.specs.Class.{class_of, single}
-use Rattle.instruction.specs.Opcode as op
-use Rattle.instruction.specs.Instruction.{instruction_at, imm32, class}
+use Rattle.instruction.specs.declared.Class.TheVariants.{CopyN}
+use Rattle.instruction.specs.Instruction.{instruction_at, class}
 use Rattle.unit.specs.declared.Constant.{Constant}
 use Rattle.unit.specs.declared.Constant.TheVariants.{Nil, Bool as BoolConstant, Int, Float, String, Missing}
-use Rattle.unit.specs.Entry.{constant_at}
-use Rattle.flow.specs.Branch.{target_by}
-use Rattle.values.specs.Fold.{fold_word, folding_unary, folding_binary}
 use Rattle.values.specs.laws.Named.{Named}
-use Rattle.desk.specs.Desk.{Due, goes, stops, not_executed, loads, due_by}
-use Rattle.desk.specs.laws.Stands.{is_executed}
+use Rattle.desk.specs.Desk.{Due, goes, stops, not_executed, due_by}
 
 -- what is due at a place of a code section
 abbrev pub due_in : List ℕ → List ℕ → ℕ → List ℕ → Due
