@@ -20,7 +20,8 @@ use Rattle.again.specs.Again.{counts_with, offsets_of, header_with}
 use Rattle.again.specs.LaidOut.{is_result_of, laid_unit, room_answer, result_answer, unit_answer, laid_answer, output_by, output_laid}
 use Rattle.again.specs.declared.Laid.{Laid}
 use Rattle.again.specs.declared.Laid.TheVariants.{Unit, Refused, None}
-use Rattle.again.specs.laws.Found.{ResultOf, result_of, again_size, lines_at, Writable}
+use Rattle.again.specs.laws.Found.{ResultOf, lines_at, Writable}
+use Rattle.again.proofs.laws.Found.{result_of, again_size}
 
 abbrev pub LaysOut : List ℕ → List ℕ → List ℕ → Laid → List ℕ → Type 0
 LaysOut u b out r out' = (r ≡ laid_answer u b (length out)) × (out' ≡ output_laid u b out)

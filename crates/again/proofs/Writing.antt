@@ -21,8 +21,10 @@ use Rattle.unit.specs.declared.Header.{Header}
 use Rattle.again.specs.Again.{counts_with, offsets_of, header_with, header_words, header_bytes, bytes_of}
 use Rattle.again.specs.LaidOut.{laid_unit}
 use Rattle.again.specs.laws.Entries.{bytes_next, ahead_long}
-use Rattle.again.specs.laws.Found.{ResultOf, again_parts, Writable}
-use Rattle.again.specs.laws.Laid.{size_with, words_long, header_long}
+use Rattle.again.specs.laws.Found.{ResultOf, Writable}
+use Rattle.again.proofs.laws.Found.{again_parts}
+use Rattle.again.specs.laws.Laid.{size_with}
+use Rattle.again.proofs.laws.Laid.{words_long, header_long}
 
 -- ---- bytes copied
 

@@ -5,6 +5,4 @@ pub mod Result
 pub mod Bytes
 pub mod Narrow
 pub mod Lines
-pub mod Unit
-pub mod Same
 pub mod Found

@@ -24,7 +24,8 @@ use Rattle.answer.specs.Pass.{rewritten}
 use Rattle.run.specs.Returned.{given_function}
 use Rattle.run.specs.Visits.{is_operator, is_conditional, noted_at, StandsFor, same_opcode, load_int, copy, jump}
 use Rattle.again.specs.Again.{unit_of}
-use Rattle.again.specs.Units.{UnitAgain, pass_unit, clean_unit}
+use Rattle.again.specs.Units.{UnitAgain}
+use Rattle.again.proofs.Units.{pass_unit, clean_unit}
 use Rattle.desk.specs.Answer.{and_then, desk_check, stopped_by, desk_answer}
 use Rattle.desk.specs.Charge.{prices, highest_price, priced, spent_from, Premises, to_cents, tariff_check, charge_check, charge_answer, charged_by, charge_cents, most_cents}
 use Rattle.desk.specs.Desk.{Due, goes, stops, not_executed, due_at, run_from, noted_by, notes_from}

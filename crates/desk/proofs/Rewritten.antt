@@ -27,7 +27,8 @@ use Rattle.run.specs.Program.{Function}
 use Rattle.run.specs.Returned.{given_function, result_function}
 use Rattle.run.specs.laws.Runnable.{Runnable}
 use Rattle.again.specs.Again.{counts_with, header_with, unit_of}
-use Rattle.again.specs.Units.{UnitAgain, pass_unit, clean_unit}
+use Rattle.again.specs.Units.{UnitAgain}
+use Rattle.again.proofs.Units.{pass_unit, clean_unit}
 use Rattle.desk.specs.Answer.{and_then, layout_check, frame_check, desk_check, stopped_by, desk_answer}
 use Rattle.desk.specs.Desk.{run_from}
 use Rattle.desk.specs.Likewise.{Likewise, RunsLikewise}

@@ -28,13 +28,15 @@ use Rattle.effects.specs.Shape.{Cell, cell_at}
 use Rattle.lines.specs.laws.Moving.{RisingLines, line_in, no_line}
 use Rattle.again.specs.Again.{counts_with, offsets_of, header_with, bytes_of, unit_of}
 use Rattle.again.specs.laws.Entries.{around, ahead_long}
-use Rattle.again.specs.laws.Laid.{Small, size_with, line_long, lines_long, again_header, again_long, again_metadata, again_types, again_constants, again_cases, again_lines}
-use Rattle.again.specs.laws.Function.{AllFields, metadata_back, again_many, again_described}
+use Rattle.again.specs.laws.Laid.{size_with}
+use Rattle.again.proofs.laws.Laid.{Small, line_long, lines_long, again_header, again_long, again_metadata, again_types, again_constants, again_cases, again_lines}
+use Rattle.again.specs.laws.Function.{AllFields}
+use Rattle.again.proofs.laws.Function.{metadata_back, again_many, again_described}
 use Rattle.again.specs.laws.Narrow.{Narrow}
 
 -- ---- the header
 
-same : (n : ℕ) → eqb n n ≡ true
+pub same : (n : ℕ) → eqb n n ≡ true
 same n = eq-eqb n n refl
 
 follow : (c : Counts) → sections_follow (record { counts = c; offsets = offsets_of c }) ((offsets_of c).lines + line_size * c.lines) ≡ true
