@@ -13,7 +13,7 @@ use Rattle.unit.specs.Result.{Retained}
 use Rattle.unit.specs.Size.{line_size}
 use Rattle.unit.specs.laws.UnitLaws.{WellFormed, too_many_cases_lem}
 use Rattle.unit.proofs.laws.UnitLaws.{unit_laid}
-use Rattle.unit.specs.declared.Layout.TheVariants.{Unit, Refused}
+use Rattle.unit.specs.declared.Layout.TheVariants.{Refused}
 use Rattle.unit.specs.declared.Line.{Line}
 use Rattle.effects.specs.Shape.{cell_at}
 use Rattle.lines.specs.Lines.{below, moved_lines, places_of}
@@ -26,9 +26,9 @@ use Rattle.answer.specs.Clean.{retained_cell, cells_after, cleaned_first, spare_
 use Rattle.run.proofs.Given.{lines_fit, Returnable, cell_at_lem, cells_long, worked_well, answer_optimized, answer_worked}
 use Rattle.run.specs.Given.{Worked}
 use Rattle.run.proofs.Given.{answer_returnable, clean_kept, clean_lines_lem}
-use Rattle.run.specs.Returned.{given_function, result_function}
+use Rattle.run.specs.Returned.{given_function}
 use Rattle.run.proofs.laws.MovedLines.{places_long}
-use Rattle.again.specs.Again.{counts_with, offsets_of, header_with, unit_of}
+use Rattle.again.specs.Again.{counts_with, offsets_of}
 use Rattle.again.specs.laws.Bytes.{again_bytes}
 use Rattle.again.specs.laws.Function.{AllFields}
 use Rattle.again.proofs.laws.Function.{all_fit, retained_at_lem, again_function}

@@ -7,12 +7,11 @@ use Rattle.std.proofs.lemmas.List.{length-map}
 use Rattle.std.proofs.Math.ListN.{get_or-map}
 use Rattle.words.specs.laws.Le.{length_to_le}
 use Rattle.instruction.specs.Instruction.{instruction_at}
-use Rattle.instruction.specs.laws.Instruction.{Fields}
 use Rattle.instruction.specs.laws.ReadBack.{read_back}
 use Rattle.unit.specs.Entry.{metadata_at}
 use Rattle.unit.specs.Layout.{header_of, code_of, metadata_of}
 use Rattle.unit.specs.Result.{Retained}
-use Rattle.unit.specs.laws.UnitLaws.{WellFormed, MetadataFields, metadata_read_back, metadata_bytes_long}
+use Rattle.unit.specs.laws.UnitLaws.{WellFormed, metadata_read_back, metadata_bytes_long}
 use Rattle.unit.specs.declared.Header.{Header}
 use Rattle.unit.specs.declared.Line.{Line}
 use Rattle.effects.specs.Shape.{Cell, cell_at, no_cell}

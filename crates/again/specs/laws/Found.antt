@@ -1,29 +1,15 @@
 -- A result found at the front of a buffer: what is read of it has the bytes that stand there, and so has the unit again.
 -- Assumes nothing.
-use Rattle.std.specs.Prelude.{◌≡◌, refl, true, ℕ, zero, suc, ◌+◌, ◌-◌, ◌*◌, ◌/◌, ◌≤◌}
-use Rattle.std.proofs.Common.{sym, ◌∙◌, arith, eqb-true, eq-eqb, leb-true, le-leb}
-use Rattle.std.proofs.Math.Path.{ap}
-use mathlib.Core.List.{List, ◌∷◌, ◌++◌, map, append_assoc}
-use Rattle.std.proofs.Math.ListN.{length, length-map}
-use borrow.Rule.Slice.PartMut.{mid_of}
-use Rattle.words.specs.Bytes.{Bytes}
-use Rattle.words.specs.laws.Bytes.{bytes_mid}
+use Rattle.std.specs.Prelude.{◌≡◌, true, ℕ, ◌+◌, ◌*◌, ◌≤◌}
+use mathlib.Core.List.{List}
+use Rattle.std.proofs.Math.ListN.{length}
 use Rattle.words.specs.Le.{u32_at}
-use Rattle.words.specs.Lists.{tabulate, tabulate_from}
-use Rattle.words.specs.laws.Lists.{length_tabulate}
-use Rattle.words.specs.laws.Regions.{mid_long, mid_add}
-use Rattle.words.specs.laws.Truth.{both}
-use Rattle.unit.specs.Entry.{line_at, line_bytes}
-use Rattle.unit.specs.Layout.{header_of, is_unit, types_of, constants_of, functions_of, externs_of, cases_of}
-use Rattle.unit.specs.Result.{Retained, read_result, retained_from, result_metadata_at, result_places_at, result_lines_at}
-use Rattle.unit.specs.Size.{header_size, instruction_size, metadata_size, constant_size, function_size, extern_size, case_size, line_size, result_header_size, result_size}
-use Rattle.unit.specs.laws.UnitLaws.{WellFormed}
+use Rattle.unit.specs.Layout.{header_of, is_unit}
+use Rattle.unit.specs.Result.{result_metadata_at, result_places_at, result_lines_at}
+use Rattle.unit.specs.Size.{header_size, instruction_size, metadata_size, constant_size, function_size, extern_size, case_size, result_header_size, result_size}
 use Rattle.unit.specs.declared.Counts.{Counts}
 use Rattle.unit.specs.declared.Header.{Header}
-use Rattle.answer.specs.Clean.{retained_cell, cells_after}
-use Rattle.run.specs.laws.Reading.{code_in, metadata_in, retained_in}
-use Rattle.again.specs.Again.{header_with, header_bytes, bytes_of, cell_code, cell_metadata, unit_of}
-use Rattle.again.specs.LaidOut.{read_lines, has_offsets, is_result_of, laid_unit}
+use Rattle.again.specs.Again.{header_with}
 use Rattle.again.specs.laws.Laid.{size_with}
 
 -- ---- a result of a unit with counts c
