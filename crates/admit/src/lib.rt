@@ -9,8 +9,8 @@ ghost use Rattle.unit.specs.Size.{max_local_slots};
 ghost use Rattle.answer.specs.Answer.{lent_of, is_skipped, room_for, count_check, after_layout, admission};
 
 use answer::Admission;
-use effects::Check;
-use unit::{Counts, Layout, refusal, size};
+use unit::refusal::{Reason, Refusal};
+use unit::{Counts, size};
 
 // "n under 2, above 65,536, or defer"
 pub fn is_skipped(c: Counts) -> bool
@@ -39,44 +39,38 @@ pub fn has_room(c: Counts, out: usize, work32: usize, work64: usize) -> bool
 }
 
 // "refused 3, place 0: m is not n", "refused 4, place 0: number of types is not s"
-pub fn check_counts(c: Counts) -> Check
+pub fn check_counts(c: Counts) -> Result<(), Refusal>
     ensures answer { result ≡ count_check c }
 {
     if c.metadata != c.instructions {
-        return Check::Refused(refusal::METADATA_COUNT, 0);
+        return Err(Reason::MetadataCount.at(0));
     }
     if c.types != c.locals {
-        return Check::Refused(refusal::TYPE_COUNT, 0);
+        return Err(Reason::TypeCount.at(0));
     }
-    Check::Passed
+    Ok(())
 }
 
 // The rows of the counts: unchanged, and refusals 2, 3 and 4.
-pub fn admit_counts(c: Counts, room: bool) -> Admission
+pub fn admit_counts(c: Counts, room: bool) -> Result<Admission, Refusal>
     ensures answer { result ≡ after_layout room c }
 {
     if is_skipped(c) {
-        return Admission::Unchanged;
+        return Ok(Admission::Unchanged);
     }
     if !room {
-        return Admission::Refused(refusal::SHORT_BUFFER, 0);
+        return Err(Reason::ShortBuffer.at(0));
     }
-    match check_counts(c) {
-        Check::Refused(k, p) => Admission::Refused(k, p),
-        Check::Passed => Admission::Admitted,
-    }
+    check_counts(c)?;
+    Ok(Admission::Admitted)
 }
 
 // All rows: those of the bytes, 1, 11 and 13, then those of the counts.
-pub fn admit(unit: &[u8], out: usize, work32: usize, work64: usize) -> Admission
+pub fn admit(unit: &[u8], out: usize, work32: usize, work64: usize) -> Result<Admission, Refusal>
     ensures answer { result ≡ admission (room_for (header_of unit.now).counts (lent_of out work32 work64))
         unit.now }
 {
-    match parse::check(unit) {
-        Layout::Refused(k, p) => Admission::Refused(k, p),
-        Layout::Unit(h) => {
-            let c = h.counts;
-            admit_counts(c, has_room(c, out, work32, work64))
-        }
-    }
+    let h = parse::check(unit)?;
+    let c = h.counts;
+    admit_counts(c, has_room(c, out, work32, work64))
 }

@@ -1,5 +1,6 @@
 -- The answer and the buffer after it, by the tests that the code makes.
 -- Assumes nothing.
+use Rattle.std.specs.Prelude.{Option, Some, None, Ok, Err, Result}
 use mathlib.Core.Path.{◌≡◌, refl, sym, ap, ◌∙◌}
 use mathlib.Core.Bool.{true, false}
 use mathlib.Core.List.{List}
@@ -9,39 +10,38 @@ use lib.ListN.{length}
 use borrow.Author.Tests.{le-leb, lt-leb}
 use borrow.Rule.Slice.PartMut.{put_mid}
 use Rattle.words.specs.Le.{u32_at}
+use Rattle.unit.specs.Refusal.{Refused}
 use Rattle.unit.specs.Layout.{header_of, is_unit, layout_of}
 use Rattle.unit.specs.Refusal.{short_buffer}
 use Rattle.unit.specs.Size.{line_size}
 use Rattle.unit.specs.laws.UnitLaws.{WellFormed, layout_unit}
 use Rattle.unit.proofs.laws.UnitLaws.{unit_laid}
 use Rattle.unit.specs.declared.Header.{Header}
-use Rattle.unit.specs.declared.Layout.TheVariants.{Unit as UnitLayout, Refused as RefusedLayout}
 use Rattle.again.specs.Again.{counts_with, offsets_of, header_with}
 use Rattle.again.specs.LaidOut.{is_result_of, laid_unit, room_answer, result_answer, unit_answer, laid_answer, output_by, output_laid}
-use Rattle.again.specs.declared.Laid.{Laid}
-use Rattle.again.specs.declared.Laid.TheVariants.{Unit, Refused, None}
+use Rattle.unit.specs.declared.refusal.Refusal.{Refusal}
 use Rattle.again.specs.laws.Found.{ResultOf, lines_at, Writable}
 use Rattle.again.proofs.laws.Found.{result_of, again_size}
 
-abbrev pub LaysOut : List ℕ → List ℕ → List ℕ → Laid → List ℕ → Type 0
+abbrev pub LaysOut : List ℕ → List ℕ → List ℕ → Result (Option ℕ) Refusal → List ℕ → Type 0
 LaysOut u b out r out' = (r ≡ laid_answer u b (length out)) × (out' ≡ output_laid u b out)
 
-pub unit_refused : (u b out : List ℕ) (k p : ℕ) → layout_of u ≡ RefusedLayout k p → LaysOut u b out (Refused k p) out
+pub unit_refused : (u b out : List ℕ) (k p : ℕ) → layout_of u ≡ Refused k p → LaysOut u b out (Refused k p) out
 unfolding laid_answer unit_answer output_laid output_by
 unit_refused u b out k p e = rw e (refl, refl)
 
 -- the given header is the unit's
-of_unit_lem : (u b : List ℕ) (h : Header) → layout_of u ≡ UnitLayout h → is_result_of (header_of u).counts b ≡ is_result_of h.counts b
+of_unit_lem : (u b : List ℕ) (h : Header) → layout_of u ≡ Ok h → is_result_of (header_of u).counts b ≡ is_result_of h.counts b
 of_unit_lem u b h e = ap (λ (x : Header). is_result_of x.counts b) (sym (layout_unit u h e).1)
 
-pub none_found : (u b out : List ℕ) (h : Header) → layout_of u ≡ UnitLayout h → is_result_of h.counts b ≡ false → LaysOut u b out None out
+pub none_found : (u b out : List ℕ) (h : Header) → layout_of u ≡ Ok h → is_result_of h.counts b ≡ false → LaysOut u b out (Ok None) out
 unfolding laid_answer unit_answer result_answer output_laid output_by
 none_found u b out h e f = rw (e, of_unit_lem u b h e, f) (refl, refl)
 
 -- ---- a unit with header h, and a result of it
 
 pub record Found (u b : List ℕ) (h : Header) : Type 0 where
-  pub checked : layout_of u ≡ UnitLayout h
+  pub checked : layout_of u ≡ Ok h
   pub found : is_result_of h.counts b ≡ true
 
 module _ {u b : List ℕ} {h : Header} (f : Found u b h) where
@@ -103,6 +103,6 @@ module _ {u b : List ℕ} {h g : Header} {n l : ℕ} (a : Headed u b h g n l) wh
         }
 
     pub written : (out' : List ℕ) → g.offsets.lines + line_size * l ≤ length out → out' ≡ put_mid 0 (length (laid_unit u b)) out (laid_unit u b)
-        → LaysOut u b out (Unit (g.offsets.lines + line_size * l)) out'
+        → LaysOut u b out (Ok (Some (g.offsets.lines + line_size * l))) out'
     unfolding laid_answer unit_answer result_answer room_answer output_laid output_by
     written out' e w = rw (a.of.checked, of_given a.of, size, le-leb (length (laid_unit u b)) (length out) (rw (← size) e)) (refl, w)

@@ -1,6 +1,6 @@
 -- What one pass or the cleaning rewrites, at the front of a buffer, is laid out as the very unit again that `UnitAgain` speaks of.
 -- Assumes nothing.
-use Rattle.std.specs.Prelude.{◌≡◌, Bool, ◌&&◌, get_or}
+use Rattle.std.specs.Prelude.{Option, Some, None, Ok, Err, Result, ◌≡◌, Bool, ◌&&◌, get_or}
 use Rattle.std.proofs.Math.Path.{refl, sym, ap}
 use Rattle.std.proofs.Common.{◌∙◌, zero-add, arith}
 use mathlib.Core.List.{List, [], ◌∷◌, ◌++◌, append_assoc, append-nil}
@@ -12,13 +12,14 @@ use Rattle.words.specs.Bytes.{Bytes}
 use Rattle.words.specs.Le.{from_le, to_le, u32_at}
 use Rattle.words.specs.laws.Inside.{mid_inside}
 use Rattle.words.specs.laws.Le.{length_to_le, from_to}
+use Rattle.unit.specs.Refusal.{Refused}
 use Rattle.unit.specs.Entry.{line_bytes, lines_in}
 use Rattle.unit.specs.Layout.{header_of, layout_of, lines_of}
 use Rattle.unit.specs.Result.{Retained, read_result, result_header, code_bytes, metadata_bytes_all, place_bytes, line_bytes_all, result_bytes, result_metadata_at, result_places_at, result_lines_at}
 use Rattle.unit.specs.Size.{line_size, result_header_size, result_size}
 use Rattle.unit.specs.laws.UnitLaws.{layout_unit, result_long, result_header_long, code_bytes_long, metadata_bytes_all_long, place_bytes_long, line_bytes_all_long}
-use Rattle.unit.specs.declared.Layout.{Layout}
-use Rattle.unit.specs.declared.Layout.TheVariants.{Unit as UnitLayout, Refused as RefusedLayout}
+use Rattle.unit.specs.declared.Header.{Header}
+use Rattle.unit.specs.declared.refusal.Refusal.{Refusal}
 use Rattle.unit.specs.declared.Line.{Line}
 use Rattle.lines.specs.Lines.{moved_lines, places_of}
 use Rattle.answer.specs.Pass.{refused, rewritten, lines_after}
@@ -32,7 +33,6 @@ use Rattle.run.specs.laws.Reading.{middle, result_back}
 use Rattle.again.specs.Again.{bytes_of, unit_of}
 use Rattle.again.specs.LaidOut.{read_lines, laid_unit, room_answer, result_answer, unit_answer, laid_answer, output_by, output_laid}
 use Rattle.again.proofs.Units.{refused_none, fewer, lines_below}
-use Rattle.again.specs.declared.Laid.TheVariants.{Unit}
 use Rattle.again.specs.laws.Entries.{entry_mid}
 use Rattle.again.specs.laws.Found.{ResultOf}
 use Rattle.again.proofs.laws.Found.{of_result}
@@ -85,17 +85,17 @@ module _ (kept : List Retained) (lines : List Line) (rest : List ℕ) where
 
 -- ---- what is returned
 
-module _ (u : List ℕ) (bytes : Bytes u) (laid : (k p : ℕ) → layout_of u ≡ RefusedLayout k p → ⊥) (room : Bool) (w : Worked u room) (kept : List Retained)
+module _ (u : List ℕ) (bytes : Bytes u) (laid : (k p : ℕ) → layout_of u ≡ Refused k p → ⊥) (room : Bool) (w : Worked u room) (kept : List Retained)
     (r : Returnable (given_function u) (header_of u).counts.cases kept) where
   abbrev moved : List Line
   moved = moved_lines (places_of kept) (lines_in (lines_of u))
 
-  is_laid : layout_of u ≡ UnitLayout (header_of u)
+  is_laid : layout_of u ≡ Ok (header_of u)
   is_laid = go (layout_of u) refl
     where
-      go : (x : Layout) → layout_of u ≡ x → layout_of u ≡ UnitLayout (header_of u)
-      go (RefusedLayout k p) e = absurd (laid k p e)
-      go (UnitLayout h) e = e ∙ ap UnitLayout (layout_unit u h e).1
+      go : (x : Result Header Refusal) → layout_of u ≡ x → layout_of u ≡ Ok (header_of u)
+      go (Err r) e = absurd (laid r.number r.place e)
+      go (Ok h) e = e ∙ ap Ok (layout_unit u h e).1
 
   module _ (rest : List ℕ) where
     abbrev buffer : List ℕ
@@ -145,7 +145,7 @@ module _ (u : List ℕ) (bytes : Bytes u) (laid : (k p : ℕ) → layout_of u �
     same_unit : laid_unit u buffer ≡ unit_of u (cells_after kept) moved
     same_unit = rw (read_back, lines_read)
 
-    answered : (size : ℕ) → length (unit_of u (cells_after kept) moved) ≤ size → laid_answer u buffer size ≡ Unit (length (unit_of u (cells_after kept) moved))
+    answered : (size : ℕ) → length (unit_of u (cells_after kept) moved) ≤ size → laid_answer u buffer size ≡ Ok (Some (length (unit_of u (cells_after kept) moved)))
     unfolding laid_answer unit_answer result_answer room_answer
     answered size h = rw (is_laid, of_result (header_of u).counts buffer is_result, same_unit, le-leb (length (unit_of u (cells_after kept) moved)) size h)
 
@@ -170,7 +170,7 @@ clean_laid u l first second kept bytes e =
     room : Bool
     room = room_for (header_of u).counts l && spare_for (header_of u).counts first second
 
-    none : (k p : ℕ) → layout_of u ≡ RefusedLayout k p → ⊥
+    none : (k p : ℕ) → layout_of u ≡ Refused k p → ⊥
     none k p f =
         let g : refused k p ≡ rewritten kept = rw f at e in
         let z : ◌≡◌ {A = ℕ} 0 1 = cc in

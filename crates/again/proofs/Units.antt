@@ -1,11 +1,12 @@
 -- What one pass or the cleaning rewrites, laid out as a unit again, is a unit of bytes, and its function is the one returned.
 -- Assumes nothing.
-use Rattle.std.specs.Prelude.{◌≡◌, refl, Bool, true, false, ◌&&◌, List, ℕ, ◌+◌, ◌*◌, ◌/◌, ◌^◌, ◌≤◌, ◌<◌, ltb, length}
+use Rattle.std.specs.Prelude.{Ok, Err, Result, ◌≡◌, refl, Bool, true, false, ◌&&◌, List, ℕ, ◌+◌, ◌*◌, ◌/◌, ◌^◌, ◌≤◌, ◌<◌, ltb, length}
 use Rattle.std.proofs.Common.{arith, ltb-true, ltb-false}
 use Rattle.std.proofs.lemmas.List.{length-map}
 use Rattle.words.specs.Bytes.{Bytes}
 use Rattle.words.specs.laws.Bytes.{bytes_mid, le_fits}
 use Rattle.words.specs.laws.Lists.{length_tabulate, get_d_tabulate}
+use Rattle.unit.specs.Refusal.{Refused}
 use Rattle.unit.specs.Entry.{metadata_at, good_metadata, is_wide_select, line_at, lines_in}
 use Rattle.unit.specs.Layout.{header_of, wide_select, metadata_of, lines_of, layout_of}
 use Rattle.unit.specs.Refusal.{too_many_cases}
@@ -13,7 +14,6 @@ use Rattle.unit.specs.Result.{Retained}
 use Rattle.unit.specs.Size.{line_size}
 use Rattle.unit.specs.laws.UnitLaws.{WellFormed, too_many_cases_lem}
 use Rattle.unit.proofs.laws.UnitLaws.{unit_laid}
-use Rattle.unit.specs.declared.Layout.TheVariants.{Refused}
 use Rattle.unit.specs.declared.Line.{Line}
 use Rattle.effects.specs.Shape.{cell_at}
 use Rattle.lines.specs.Lines.{below, moved_lines, places_of}

@@ -1,4 +1,4 @@
--- A buffer written from its front on: bytes copied, a header, and the unit again part by part.
+-- A buffer written from its front on: a header, and the unit again part by part.
 -- Assumes nothing.
 use mathlib.Core.Path.{◌≡◌, refl, sym, ap, subst, ◌∙◌}
 use mathlib.Core.List.{List, [], ◌++◌}
@@ -6,13 +6,13 @@ use Prim.Native.Nat.{ℕ, ◌+◌, ◌-◌, ◌*◌, ◌%◌, ◌^◌, ◌≤◌
 use native.Mathlib.Nat.{zero-add}
 use native.Mathlib.Numerals.{add-one}
 use native.Mathlib.Omega.{arith}
-use lib.ListN.{length, get_or, set, take, length-append}
+use lib.ListN.{length, get_or, take, length-append}
 use lib.Seq.{take_all}
 use borrow.Rule.Slice.PartMut.{mid_of, put_mid}
 use Rattle.words.specs.Bytes.{Bytes}
 use Rattle.words.specs.Le.{to_le, u32_at}
 use Rattle.words.specs.laws.Le.{length_to_le, to_le_mod}
-use Rattle.words.specs.laws.Regions.{mid_long, mid_more, put_long, put_more, put_put}
+use Rattle.words.specs.laws.Regions.{mid_long, put_long, put_put}
 use Rattle.unit.specs.Layout.{header_of}
 use Rattle.unit.specs.Size.{header_size, instruction_size, metadata_size, line_size, result_header_size}
 use Rattle.unit.specs.laws.UnitLaws.{WellFormed}
@@ -25,14 +25,6 @@ use Rattle.again.specs.laws.Found.{ResultOf, Writable}
 use Rattle.again.proofs.laws.Found.{again_parts}
 use Rattle.again.specs.laws.Laid.{size_with}
 use Rattle.again.proofs.laws.Laid.{words_long, header_long}
-
--- ---- bytes copied
-
--- a byte more
-pub copy_turn : (from to to' : List ℕ) (start at i : ℕ) → to' ≡ put_mid at i to (mid_of start i from) → start + i < length from → at + i < length to
-    → set to' (at + i) (get_or from (start + i) 0) ≡ put_mid at (i + 1) to (mid_of start (i + 1) from)
-copy_turn from to to' start at i e h g =
-    rw (e, mid_more from start i 0 h) (put_more to at i (mid_of start i from) (mid_long from start i (omega arith)) (omega arith) (get_or from (start + i) 0) g)
 
 -- ---- bytes at the front of a buffer
 

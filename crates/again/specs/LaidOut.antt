@@ -1,21 +1,20 @@
 -- Definitions. A result of one pass or of the cleaning laid out as a unit again in a lent buffer: what is answered, and what the buffer holds after it.
 -- Assumes nothing.
-use Rattle.std.specs.Prelude.{Bool, cond, ◌&&◌, List, ℕ, ◌*◌, eqb, leb, length}
+use Rattle.std.specs.Prelude.{Option, Some, None, Ok, Err, Result, Bool, cond, ◌&&◌, List, ℕ, ◌*◌, eqb, leb, length}
 use borrow.Rule.Slice.PartMut.{mid_of, put_mid}
 use Rattle.words.specs.Le.{u32_at}
+use Rattle.unit.specs.Refusal.{Refused}
 use Rattle.unit.specs.Entry.{lines_in}
 use Rattle.unit.specs.Layout.{header_of, layout_of}
 use Rattle.unit.specs.Refusal.{short_buffer}
 use Rattle.unit.specs.Result.{read_result, result_metadata_at, result_places_at, result_lines_at}
 use Rattle.unit.specs.Size.{line_size, result_header_size, result_size}
 use Rattle.unit.specs.declared.Counts.{Counts}
-use Rattle.unit.specs.declared.Layout.{Layout}
-use Rattle.unit.specs.declared.Layout.TheVariants.{Unit as UnitLayout, Refused as RefusedLayout}
+use Rattle.unit.specs.declared.Header.{Header}
+use Rattle.unit.specs.declared.refusal.Refusal.{Refusal}
 use Rattle.unit.specs.declared.Line.{Line}
 use Rattle.answer.specs.Clean.{cells_after}
 use Rattle.again.specs.Again.{unit_of}
-use Rattle.again.specs.declared.Laid.{Laid}
-use Rattle.again.specs.declared.Laid.TheVariants.{Unit, Refused, None}
 
 -- the lines of a result at the front of a buffer, read back as a caller reads them: by the two last words of its header
 unfoldable pub read_lines : List ℕ → List Line
@@ -50,26 +49,26 @@ laid_unit u b = unit_of u (cells_after (read_result b)) (read_lines b)
 -- result, and room the length of the buffer to write to.
 
 -- refused 2, place 0: the buffer to write to is shorter than the unit again
-unfoldable pub room_answer : List ℕ → List ℕ → ℕ → Laid
-room_answer u b room = let size = length (laid_unit u b) in cond (leb size room) (Unit size) (Refused short_buffer 0)
+unfoldable pub room_answer : List ℕ → List ℕ → ℕ → Result (Option ℕ) Refusal
+room_answer u b room = let size = length (laid_unit u b) in cond (leb size room) (Ok (Some size)) (Refused short_buffer 0)
 
 -- none: there is no result of this unit
-unfoldable pub result_answer : List ℕ → List ℕ → ℕ → Laid
-result_answer u b room = let rest = room_answer u b room in cond (is_result_of (header_of u).counts b) rest None
+unfoldable pub result_answer : List ℕ → List ℕ → ℕ → Result (Option ℕ) Refusal
+result_answer u b room = let rest = room_answer u b room in cond (is_result_of (header_of u).counts b) rest (Ok None)
 
 -- refused 1, 11 and 13, as a pass refuses the unit's bytes
-unfoldable pub unit_answer : Layout → Laid → Laid
-unit_answer (RefusedLayout k p) rest = Refused k p
-unit_answer (UnitLayout h) rest = rest
+unfoldable pub unit_answer : Result Header Refusal → Result (Option ℕ) Refusal → Result (Option ℕ) Refusal
+unit_answer (Err r) rest = Err r
+unit_answer (Ok h) rest = rest
 
-unfoldable pub laid_answer : List ℕ → List ℕ → ℕ → Laid
+unfoldable pub laid_answer : List ℕ → List ℕ → ℕ → Result (Option ℕ) Refusal
 laid_answer u b room = let rest = result_answer u b room in unit_answer (layout_of u) rest
 
 -- the buffer after an answer: the unit at its front, its rest as it was; all as it was where there is none
-unfoldable pub output_by : List ℕ → List ℕ → Laid → List ℕ
-output_by unit out (Unit size) = put_mid 0 size out unit
-output_by unit out (Refused k p) = out
-output_by unit out None = out
+unfoldable pub output_by : List ℕ → List ℕ → Result (Option ℕ) Refusal → List ℕ
+output_by unit out (Ok (Some size)) = put_mid 0 size out unit
+output_by unit out (Err r) = out
+output_by unit out (Ok None) = out
 
 unfoldable pub output_laid : List ℕ → List ℕ → List ℕ → List ℕ
 output_laid u b out = output_by (laid_unit u b) out (laid_answer u b (length out))

@@ -10,16 +10,9 @@ ghost use Rattle.again.specs.Again.{counts_with, offsets_of, header_with, header
 ghost use Rattle.again.specs.LaidOut.{has_offsets, is_result_of, laid_unit, laid_answer, output_laid};
 ghost use Rattle.again.specs.laws.Found.{lines_at, Writable};
 
-use unit::{Counts, Header, Layout, Offsets, field, refusal, result, section, size};
+use unit::refusal::{Reason, Refusal};
+use unit::{Counts, Header, Offsets, field, result, section, size};
 use words::le;
-
-// A unit of so many bytes, a refusal with number and place, or none: there is no result of the unit.
-#[derive(Clone, Copy)]
-pub enum Laid {
-    Unit(usize),
-    Refused(u32, u32),
-    None,
-}
 
 // A result's number at a byte.
 fn word(res: &[u8], at: usize) -> usize
@@ -68,14 +61,8 @@ fn counts_with(c: Counts, n: usize, l: usize) -> Counts
     Counts {
         instructions: n,
         metadata: n,
-        locals: c.locals,
-        types: c.types,
-        defer: c.defer,
-        constants: c.constants,
-        functions: c.functions,
-        externs: c.externs,
-        cases: c.cases,
         lines: l,
+        ..c
     }
 }
 
@@ -148,10 +135,8 @@ fn write_header(out: &mut [u8], h: Header)
     requires room { header_size ≤ length out.old }
     ensures out { out.new ≡ put_mid 0 header_size out.old (header_bytes h) }
 {
-    let mut q: usize = 0;
-    while q < 18 {
+    for q in 0..18 {
         le::write_u32(out, 4 * q, header_word(h, q));
-        q += 1;
     }
 }
 
@@ -161,11 +146,7 @@ fn copy(to: &mut [u8], at: usize, from: &[u8], start: usize, n: usize)
     requires room { at + n ≤ length to.old }
     ensures to { to.new ≡ put_mid at n to.old (mid_of start n from.now) }
 {
-    let mut i: usize = 0;
-    while i < n {
-        to[at + i] = from[start + i];
-        i += 1;
-    }
+    to[at..at + n].copy_from_slice(&from[start..start + n]);
 }
 
 // The unit again, with header h, at the front of a buffer. What stands between metadata and lines is the given unit's.
@@ -190,27 +171,24 @@ fn write(unit: &[u8], res: &[u8], out: &mut [u8], h: Header)
     copy(out, o.lines, res, lines_at, lines);
 }
 
-// The unit again of a unit and a result of it, at the front of a buffer whose rest stays.
-pub fn lay_out(unit: &[u8], res: &[u8], out: &mut [u8]) -> Laid
+// The unit again of a unit and a result of it, at the front of a buffer whose rest stays: its length in bytes, or none where there
+// is no result of the unit.
+pub fn lay_out(unit: &[u8], res: &[u8], out: &mut [u8]) -> Result<Option<usize>, Refusal>
     ensures answer { result ≡ laid_answer unit.now res.now (length out.old) }
     ensures out { out.new ≡ output_laid unit.now res.now out.old }
 {
-    match parse::check(unit) {
-        Layout::Refused(k, p) => Laid::Refused(k, p),
-        Layout::Unit(given) => {
-            let c = given.counts;
-            if !is_result_of(c, res) {
-                return Laid::None;
-            }
-            let l = word(res, result::LINES);
-            let h = header_with(c, word(res, 0), l);
-            let o = h.offsets;
-            let end = o.lines + size::LINE * l;
-            if out.len() < end {
-                return Laid::Refused(refusal::SHORT_BUFFER, 0);
-            }
-            write(unit, res, out, h);
-            Laid::Unit(end)
-        }
+    let given = parse::check(unit)?;
+    let c = given.counts;
+    if !is_result_of(c, res) {
+        return Ok(None);
     }
+    let l = word(res, result::LINES);
+    let h = header_with(c, word(res, 0), l);
+    let o = h.offsets;
+    let end = o.lines + size::LINE * l;
+    if out.len() < end {
+        return Err(Reason::ShortBuffer.at(0));
+    }
+    write(unit, res, out, h);
+    Ok(Some(end))
 }

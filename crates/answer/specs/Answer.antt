@@ -1,23 +1,22 @@
 -- Definitions. The answer of one pass for every bytes and every lengths of the lent buffers: document 01's table, from top to bottom.
 -- Assumes nothing.
-use Rattle.std.specs.Prelude.{Bool, cond, ◌&&◌, ◌||◌, not, List, ℕ, eqb, leb}
+use Rattle.std.specs.Prelude.{Ok, Err, Result, Bool, cond, ◌&&◌, ◌||◌, not, List, ℕ, eqb, leb}
 use Rattle.words.specs.Lists.{tabulate}
 use Rattle.instruction.specs.Instruction.{instruction_at}
 use Rattle.unit.specs.declared.Counts.{Counts}
-use Rattle.unit.specs.declared.Layout.{Layout}
-use Rattle.unit.specs.declared.Layout.TheVariants.{Unit}
-use Rattle.unit.specs.declared.Layout.TheVariants as layout
+use Rattle.unit.specs.declared.Header.{Header}
+use Rattle.unit.specs.declared.refusal.Refusal.{Refusal}
 use Rattle.unit.specs.Refusal.{short_buffer, metadata_count, type_count}
 use Rattle.unit.specs.Size.{output_room, work32_room, work64_room}
 use Rattle.unit.specs.declared.Line.{Line}
 use Rattle.unit.specs.Entry.{metadata_at, lines_in}
 use Rattle.unit.specs.Layout.{header_of, code_of, metadata_of, types_of, constants_of, functions_of, externs_of, cases_of, lines_of, layout_of}
-use Rattle.effects.specs.declared.Check.{Check}
-use Rattle.effects.specs.declared.Check.TheVariants.{Passed, Refused}
+use Rattle.effects.specs.Check.{Check}
+use Rattle.effects.specs.Check.{Passed}
+use Rattle.unit.specs.Refusal.{Refused}
 use Rattle.effects.specs.Shape.{Sections, Cell, tables_of}
 use Rattle.answer.specs.declared.Admission.{Admission}
 use Rattle.answer.specs.declared.Admission.TheVariants.{Admitted, Unchanged}
-use Rattle.answer.specs.declared.Admission.TheVariants as variant
 use Rattle.answer.specs.Pass.{Outcome, unchanged, refused, is_worked_on, optimized, lines_after}
 
 -- the function of a unit: its cells, and the sections that stay
@@ -66,31 +65,31 @@ count_check c =
     cond (eqb c.metadata c.instructions) typed (Refused metadata_count 0)
 
 -- what passes a check is admitted
-unfoldable pub admitted_by : Check → Admission
-admitted_by Passed = Admitted
-admitted_by (Refused k p) = variant.Refused k p
+unfoldable pub admitted_by : Check → Result Admission Refusal
+admitted_by Passed = Ok Admitted
+admitted_by (Err r) = Err r
 
 -- "refused 2, place 0: a lent buffer shorter than stated"
-unfoldable pub after_skipped : Bool → Counts → Admission
-after_skipped room c = let rest = admitted_by (count_check c) in cond room rest (variant.Refused short_buffer 0)
+unfoldable pub after_skipped : Bool → Counts → Result Admission Refusal
+after_skipped room c = let rest = admitted_by (count_check c) in cond room rest (Refused short_buffer 0)
 
 -- "unchanged: n under 2, above 65,536, or defer"
-unfoldable pub after_layout : Bool → Counts → Admission
-after_layout room c = let rest = after_skipped room c in cond (is_skipped c) Unchanged rest
+unfoldable pub after_layout : Bool → Counts → Result Admission Refusal
+after_layout room c = let rest = after_skipped room c in cond (is_skipped c) (Ok Unchanged) rest
 
 -- the rows of the unit's own bytes: "refused 1, place 0: unit not as above", and refusals 11 and 13
-unfoldable pub laid_out : Layout → Admission → Admission
-laid_out (Unit h) rest = rest
-laid_out (layout.Refused k p) rest = variant.Refused k p
+unfoldable pub laid_out : Result Header Refusal → Result Admission Refusal → Result Admission Refusal
+laid_out (Ok h) rest = rest
+laid_out (Err r) rest = Err r
 
-unfoldable pub admission : Bool → List ℕ → Admission
+unfoldable pub admission : Bool → List ℕ → Result Admission Refusal
 admission room u = let rest = after_layout room (header_of u).counts in laid_out (layout_of u) rest
 
 -- what is admitted is worked on
-unfoldable pub after_admission : Admission → Outcome → Outcome
-after_admission Admitted worked = worked
-after_admission Unchanged worked = unchanged
-after_admission (variant.Refused k p) worked = refused k p
+unfoldable pub after_admission : Result Admission Refusal → Outcome → Outcome
+after_admission (Ok Admitted) worked = worked
+after_admission (Ok Unchanged) worked = unchanged
+after_admission (Err r) worked = refused r.number r.place
 
 unfoldable pub answer_with : Bool → List ℕ → Outcome
 answer_with room u = let worked = optimized (sections_of u) (cells_of u) in after_admission (admission room u) worked

@@ -1,6 +1,6 @@
 -- Definitions. One pass over the cells of a function: the answers from refusal 5 on, in the order of document 01's table.
 -- Assumes nothing.
-use Rattle.std.specs.Prelude.{Bool, true, false, cond, ◌&&◌, not, List, [], ◌∷◌, ℕ, eqb, ltb, length, get_or}
+use Rattle.std.specs.Prelude.{Err, Bool, true, false, cond, ◌&&◌, not, List, [], ◌∷◌, ℕ, eqb, ltb, length, get_or}
 use borrow.Rule.Slice.PartMut.{put_mid}
 use Rattle.words.specs.Lists.{map_from}
 use Rattle.instruction.specs.Instruction.{to_word}
@@ -8,8 +8,9 @@ use Rattle.unit.specs.declared.Line.{Line}
 use Rattle.unit.specs.Result.{Retained, result_bytes}
 use Rattle.unit.specs.Size.{result_size, max_instructions}
 use Rattle.lines.specs.Lines.{moved_lines, places_of}
-use Rattle.effects.specs.declared.Check.{Check}
-use Rattle.effects.specs.declared.Check.TheVariants.{Passed, Refused}
+use Rattle.effects.specs.Check.{Check}
+use Rattle.effects.specs.Check.{Passed}
+use Rattle.unit.specs.Refusal.{Refused}
 use Rattle.effects.specs.Shape.{Sections, Cell}
 use Rattle.effects.specs.Check.{operand_check}
 use Rattle.flow.specs.Branch.{branch_check}
@@ -42,7 +43,7 @@ output_after (rewritten kept) lines out = put_mid 0 (result_size (length kept) (
 -- go on where a check passed
 unfoldable pub checked : Check → Outcome → Outcome
 checked Passed rest = rest
-checked (Refused k p) rest = refused k p
+checked (Err r) rest = refused r.number r.place
 
 unfoldable pub same_code : List Cell → List Cell → Bool
 same_code [] [] = true

@@ -1,6 +1,5 @@
-// Results in the spare buffers: copied, and their old places composed.
+// Results in the spare buffers: their old places composed.
 ghost use Rattle.std.specs.Prelude.{◌≡◌, ℕ, ◌+◌, ◌*◌, ◌≤◌, ◌<◌, length};
-ghost use borrow.Rule.Slice.PartMut.{mid_of, put_mid};
 ghost use Rattle.words.specs.Le.{u32_at};
 ghost use Rattle.unit.specs.Size.{max_instructions};
 ghost use Rattle.unit.specs.Size.{place_size};
@@ -8,27 +7,13 @@ ghost use Rattle.clean.specs.laws.Placing.{composed};
 
 use words::le;
 
-// The first n bytes of a buffer, at the front of another.
-pub fn copy(from: &[u8], to: &mut [u8], n: usize)
-    requires { (n ≤ length from.now) × (n ≤ length to.old) }
-    ensures { to.new ≡ put_mid 0 n to.old (mid_of 0 n from.now) }
-{
-    let mut i: usize = 0;
-    while i < n {
-        to[i] = from[i];
-        i += 1;
-    }
-}
-
 // "with old places in the given unit": each of k places in the code before becomes that code's place there.
 pub fn compose(from: &[u8], to: &mut [u8], k: usize)
     requires { (k ≤ max_instructions) × (length to.old ≡ place_size * k) × ((p : ℕ) → p < k → place_size * u32_at to.old (place_size * p) + place_size ≤ length from.now) }
     ensures { to.new ≡ composed from.now to.old k }
 {
-    let mut p: usize = 0;
-    while p < k {
+    for p in 0..k {
         let old = le::read_u32(&to[..], 4 * p) as usize;
         le::write_u32(to, 4 * p, le::read_u32(from, 4 * old));
-        p += 1;
     }
 }

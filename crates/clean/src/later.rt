@@ -14,6 +14,7 @@ ghost use Rattle.clean.specs.laws.Later.{Placeable};
 
 use crate::buffer;
 use optimize::{Answer, function};
+use unit::refusal::Refusal;
 use unit::{result, size};
 
 // The pass on the code and metadata of a result, and the unit's other sections.
@@ -24,7 +25,7 @@ fn work(
     work32: &mut [u32],
     work64: &mut [u64],
     k: usize,
-) -> Answer
+) -> Result<Answer, Refusal>
     requires { Ready unit.now from.now k (length to.old) (length work32.old) (length work64.old) × (1 < k) }
     ensures { Answers (optimized (sections_of unit.now) (cells_after (retained_in k from.now))) result to.old to.new }
 {
@@ -63,19 +64,16 @@ pub fn later(
     work32: &mut [u32],
     work64: &mut [u64],
     k: usize,
-) -> Answer
+) -> Result<Answer, Refusal>
     requires { Ready unit.now from.now k (length to.old) (length work32.old) (length work64.old) }
     ensures { Answers (later_outcome (sections_of unit.now) (retained_in k from.now)) result to.old to.new }
 {
     if k < 2 {
-        return Answer::Unchanged;
+        return Ok(Answer::Unchanged);
     }
-    match work(unit, from, to, work32, work64, k) {
-        Answer::Unchanged => Answer::Unchanged,
-        Answer::Refused(r, p) => Answer::Refused(r, p),
-        Answer::Rewritten(j) => {
-            place(from, to, k, j as usize);
-            Answer::Rewritten(j)
-        }
+    let answer = work(unit, from, to, work32, work64, k)?;
+    if let Answer::Rewritten(j) = answer {
+        place(from, to, k, j as usize);
     }
+    Ok(answer)
 }

@@ -21,13 +21,13 @@ mod later;
 
 use answer::Admission;
 use optimize::{Answer, pass};
+use unit::refusal::Refusal;
 use unit::size;
-use words::fill;
 
 // What the cleaning answers, and the number of the last pass run.
 #[derive(Clone, Copy)]
 pub struct Cleaned {
-    pub answer: Answer,
+    pub answer: Result<Answer, Refusal>,
     pub passes: u32,
 }
 
@@ -36,9 +36,10 @@ fn give(from: &[u8], out: &mut [u8], k: usize, passes: u32) -> Cleaned
     requires { (k ≤ max_instructions) × (result_size k 0 ≤ length from.now) × (result_size k 0 ≤ length out.old) × (mid_of 0 (result_size k 0) from.now ≡ result_bytes (retained_in k from.now) []) }
     ensures { AnswersCleaned (finished (retained_in k from.now) passes) result out.old out.new }
 {
-    buffer::copy(from, out, size::output_room(k, 0));
+    let room = size::output_room(k, 0);
+    out[..room].copy_from_slice(&from[..room]);
     Cleaned {
-        answer: Answer::Rewritten(k as u32),
+        answer: Ok(Answer::Rewritten(k as u32)),
         passes,
     }
 }
@@ -57,12 +58,12 @@ fn third_pass(
     ensures { AnswersCleaned (clean_from (sections_of unit.now) 1 2 (retained_in k from.now)) result out.old out.new }
 {
     match later::later(unit, from, to, work32, work64, k) {
-        Answer::Unchanged => give(from, out, k, 3),
-        Answer::Refused(r, p) => Cleaned {
-            answer: Answer::Refused(r, p),
+        Ok(Answer::Unchanged) => give(from, out, k, 3),
+        Err(r) => Cleaned {
+            answer: Err(r),
             passes: 3,
         },
-        Answer::Rewritten(j) => give(&to[..], out, j as usize, 3),
+        Ok(Answer::Rewritten(j)) => give(&to[..], out, j as usize, 3),
     }
 }
 
@@ -80,12 +81,14 @@ fn second_pass(
     ensures { AnswersCleaned (clean_from (sections_of unit.now) 2 1 (retained_in k from.old)) result out.old out.new }
 {
     match later::later(unit, &from[..], to, work32, work64, k) {
-        Answer::Unchanged => give(&from[..], out, k, 2),
-        Answer::Refused(r, p) => Cleaned {
-            answer: Answer::Refused(r, p),
+        Ok(Answer::Unchanged) => give(&from[..], out, k, 2),
+        Err(r) => Cleaned {
+            answer: Err(r),
             passes: 2,
         },
-        Answer::Rewritten(j) => { third_pass(unit, out, work32, work64, &to[..], from, j as usize) }
+        Ok(Answer::Rewritten(j)) => {
+            third_pass(unit, out, work32, work64, &to[..], from, j as usize)
+        }
     }
 }
 
@@ -105,15 +108,15 @@ fn first_pass(
         (optimized (sections_of unit.now) (cells_of unit.now))) result out.old out.new }
 {
     match pass::work(unit, first, work32, work64) {
-        Answer::Unchanged => Cleaned {
-            answer: Answer::Unchanged,
+        Ok(Answer::Unchanged) => Cleaned {
+            answer: Ok(Answer::Unchanged),
             passes: 1,
         },
-        Answer::Refused(r, p) => Cleaned {
-            answer: Answer::Refused(r, p),
+        Err(r) => Cleaned {
+            answer: Err(r),
             passes: 1,
         },
-        Answer::Rewritten(k) => {
+        Ok(Answer::Rewritten(k)) => {
             second_pass(unit, out, work32, work64, first, second, k as usize)
         }
     }
@@ -132,17 +135,17 @@ fn answer(
         (lent_of (length out.old) (length work32.old) (length work64.old))
         (length first.old) (length second.old)) result out.old out.new }
 {
-    let shortest = size::lesser(out.len(), size::lesser(first.len(), second.len()));
+    let shortest = out.len().min(first.len()).min(second.len());
     match admit::admit(unit, shortest, work32.len(), work64.len()) {
-        Admission::Unchanged => Cleaned {
-            answer: Answer::Unchanged,
+        Ok(Admission::Unchanged) => Cleaned {
+            answer: Ok(Answer::Unchanged),
             passes: 1,
         },
-        Admission::Refused(k, p) => Cleaned {
-            answer: Answer::Refused(k, p),
+        Err(r) => Cleaned {
+            answer: Err(r),
             passes: 1,
         },
-        Admission::Admitted => first_pass(unit, out, work32, work64, first, second),
+        Ok(Admission::Admitted) => first_pass(unit, out, work32, work64, first, second),
     }
 }
 
@@ -161,9 +164,9 @@ pub fn clean(
     let r = answer(unit, out, work32, work64, first, second);
     let a = r.answer;
     pass::add_lines(unit, out, a);
-    fill::zero_u32(work32);
-    fill::zero_u64(work64);
-    fill::zero_u8(first);
-    fill::zero_u8(second);
+    work32.fill(0);
+    work64.fill(0);
+    first.fill(0);
+    second.fill(0);
     r
 }

@@ -1,10 +1,9 @@
 -- Document 02, L6, its claim: "Whenever a given function returns, panics or runs out at its end in k steps, the rewritten one, from the same frame,
 -- ends likewise, with the same words read, in at most k."
 -- Assumes nothing.
-use Rattle.std.specs.Prelude.{◌≡◌, ℕ, zero, suc, ◌<◌, ◌≤◌, Bool, true, false, cond, ◌&&◌, ◌⊎◌, List, [], ◌∷◌, length, ◌==◌, ◌≢◌, nat_lt}
+use Rattle.std.specs.Prelude.{Option, Some, None, ◌≡◌, ℕ, zero, suc, ◌<◌, ◌≤◌, Bool, true, false, cond, ◌&&◌, ◌⊎◌, List, [], ◌∷◌, length, ◌==◌, ◌≢◌, nat_lt}
 use Rattle.std.proofs.Math.Path.{refl}
 use Rattle.std.proofs.Common.{sym, ap, ◌∙◌, inl, inr, true≢false, append-nil, arith}
-use Rattle.std.proofs.Math.Option.{Option, none, some}
 use Rattle.std.proofs.Math.Decide.{dec_le}
 use borrow.Author.Tests.{ltb-true, lt-ltb, le-ltb, eq-eqb}
 use Rattle.words.specs.Bytes.{Bytes}
@@ -17,7 +16,7 @@ use Rattle.instruction.specs.Instruction.{class}
 use Rattle.unit.specs.Layout.{header_of}
 use Rattle.unit.specs.Result.{Retained}
 use Rattle.unit.specs.declared.Constant.{Constant}
-use Rattle.unit.specs.declared.Constant.TheVariants.{Nil, Bool as BoolConstant, Int, Float, String, Missing}
+use Rattle.unit.specs.declared.Constant.TheVariants.{Nil, Bool as BoolConstant, Int, Float, String}
 use Rattle.effects.specs.Shape.{Sections, Cell, cell_at}
 use Rattle.effects.specs.laws.Sound.{passed_at}
 use Rattle.values.specs.Fold.{folding_unary, folding_binary}
@@ -39,7 +38,7 @@ use Rattle.run.specs.laws.Simulation.{after_stays}
 use Rattle.run.proofs.laws.Visited.{Visited, now, later}
 use Rattle.run.proofs.laws.Visited.{visited_hold}
 use Rattle.desk.specs.declared.Stop.{Stop}
-use Rattle.desk.specs.declared.Stop.TheVariants.{Returned, Panicked, Ended, Other, Limit, Refused}
+use Rattle.desk.specs.declared.Stop.TheVariants.{Returned, Panicked, Ended, Other, Limit}
 use Rattle.desk.specs.Desk.{Stopped, stopped_with, Due, goes, stops, not_executed, loads, due_by, halted, taken, due_at, run_from, notes_from}
 use Rattle.desk.specs.laws.Step.{words_in}
 use Rattle.desk.specs.laws.Stands.{is_executed, IsEnd}
@@ -48,14 +47,14 @@ use Rattle.desk.specs.Likewise.{Likewise, RunsLikewise}
 
 -- ---- whether an instruction is executed hangs on its opcode alone, and on its constant
 
-same_loads : (p q a b : ℕ) (f g : List ℕ) (c : Constant) → is_executed (loads p f a c) ≡ is_executed (loads q g b c)
+same_loads : (p q a b : ℕ) (f g : List ℕ) (c : Option Constant) → is_executed (loads p f a c) ≡ is_executed (loads q g b c)
 unfolding loads is_executed
-same_loads p q a b f g Nil = refl
-same_loads p q a b f g (BoolConstant v) = refl
-same_loads p q a b f g (Int v) = refl
-same_loads p q a b f g (Float v) = refl
-same_loads p q a b f g String = refl
-same_loads p q a b f g Missing = refl
+same_loads p q a b f g (Some Nil) = refl
+same_loads p q a b f g (Some (BoolConstant v)) = refl
+same_loads p q a b f g (Some (Int v)) = refl
+same_loads p q a b f g (Some (Float v)) = refl
+same_loads p q a b f g (Some String) = refl
+same_loads p q a b f g None = refl
 
 same_cond : (t : Bool) (p q : ℕ) (f g : List ℕ) → is_executed (cond t (goes p f) not_executed) ≡ is_executed (cond t (goes q g) not_executed)
 unfolding is_executed
@@ -98,9 +97,9 @@ stands_executed S i j (jump h e) d = rw e refl
 -- ---- what a run visits that ends
 
 -- a run that is over visits nothing
-visited_over : {W : World} {P : Program} {x : State} {q : ℕ} → Visited W P x q → (w : Way) → way_of P x ≢ some w
+visited_over : {W : World} {P : Program} {x : State} {q : ℕ} → Visited W P x q → (w : Way) → way_of P x ≢ Some w
 unfolding way_of
-visited_over {P = P} (now {p = p} h) w e = let n : ◌≡◌ {A = Option Way} none (some w) = rw (lt-ltb p P.size h) at e in let z : ◌≡◌ {A = ℕ} 0 1 = cc in omega arith
+visited_over {P = P} (now {p = p} h) w e = let n : ◌≡◌ {A = Option Way} None (Some w) = rw (lt-ltb p P.size h) at e in let z : ◌≡◌ {A = ℕ} 0 1 = cc in omega arith
 visited_over {W = W} {P = P} (later {x = x} v) w e = visited_over v w (rw (step_stays W P x w e) e)
 
 -- the place before which it stands, or one that it visits after a step
@@ -133,14 +132,13 @@ module _ (F : Function) (A : Runnable F) (W : World) where
   halted_none p f (stops s) e = e
   halted_none p f not_executed e = e
 
-  stands_over : (R : List Event) (s : Stop) (f : List ℕ) (x : State) → IsEnd s → Stands F W R s f x → (w : Way) × (way_of P x ≡ some w)
+  stands_over : (R : List Event) (s : Stop) (f : List ℕ) (x : State) → IsEnd s → Stands F W R s f x → (w : Way) × (way_of P x ≡ Some w)
   unfolding IsEnd Stands way_of program_of
   stands_over R (Returned a b) f x t u = (by_return, rw u.3)
   stands_over R (Panicked a b) f x t u = (by_panic, rw u.3)
   stands_over R Ended f x t u = (by_code, rw (u, le-ltb (length cells) (length cells) (omega arith), eq-eqb (length cells) (length cells) refl))
   stands_over R (Other q) f x t u = absurd t
   stands_over R Limit f x t u = absurd t
-  stands_over R (Refused k q) f x t u = absurd t
 
   -- every instruction that it visits is executed
   visits_executed : (k : ℕ) → Visits k
@@ -179,16 +177,14 @@ way_for (Panicked a b) = by_panic
 way_for Ended = by_code
 way_for (Other q) = by_reply
 way_for Limit = by_reply
-way_for (Refused k q) = by_reply
 
-stands_way : (F : Function) (W : World) (R : List Event) (s : Stop) (f : List ℕ) (x : State) → IsEnd s → Stands F W R s f x → way_of (program_of F W) x ≡ some (way_for s)
+stands_way : (F : Function) (W : World) (R : List Event) (s : Stop) (f : List ℕ) (x : State) → IsEnd s → Stands F W R s f x → way_of (program_of F W) x ≡ Some (way_for s)
 unfolding IsEnd Stands way_of program_of way_for
 stands_way F W R (Returned a b) f x t u = rw u.3
 stands_way F W R (Panicked a b) f x t u = rw u.3
 stands_way F W R Ended f x t u = rw (u, le-ltb (length F.cells) (length F.cells) (omega arith), eq-eqb (length F.cells) (length F.cells) refl)
 stands_way F W R (Other q) f x t u = absurd t
 stands_way F W R Limit f x t u = absurd t
-stands_way F W R (Refused k q) f x t u = absurd t
 
 head_same : (d e : Event) → ◌≡◌ {A = List Event} (d ∷ []) (e ∷ []) → d ≡ e
 head_same d e p = cc
@@ -204,7 +200,6 @@ like F G W (Returned a b) (Panicked c d) f g x y p q t w l = let z : ◌≡◌ {
 like F G W (Returned a b) Ended f g x y p q t w l = let z : ◌≡◌ {A = ℕ} 0 1 = cc in absurd (omega arith)
 like F G W (Returned a b) (Other c) f g x y p q t w l = absurd t
 like F G W (Returned a b) Limit f g x y p q t w l = absurd t
-like F G W (Returned a b) (Refused c d) f g x y p q t w l = absurd t
 like F G W (Panicked a b) (Returned c d) f g x y p q t w l = let z : ◌≡◌ {A = ℕ} 0 1 = cc in absurd (omega arith)
 like F G W (Panicked a b) (Panicked c d) f g x y (p, e, o, xe, be, we) (q, e', o', ye, be', we') t w l =
     let same : e' ≡ e = head_same e' e (sym (ap log_of ye) ∙ l ∙ ap log_of xe) in
@@ -213,26 +208,23 @@ like F G W (Panicked a b) (Panicked c d) f g x y (p, e, o, xe, be, we) (q, e', o
 like F G W (Panicked a b) Ended f g x y p q t w l = let z : ◌≡◌ {A = ℕ} 0 1 = cc in absurd (omega arith)
 like F G W (Panicked a b) (Other c) f g x y p q t w l = absurd t
 like F G W (Panicked a b) Limit f g x y p q t w l = absurd t
-like F G W (Panicked a b) (Refused c d) f g x y p q t w l = absurd t
 like F G W Ended (Returned c d) f g x y p q t w l = let z : ◌≡◌ {A = ℕ} 0 1 = cc in absurd (omega arith)
 like F G W Ended (Panicked c d) f g x y p q t w l = let z : ◌≡◌ {A = ℕ} 0 1 = cc in absurd (omega arith)
 like F G W Ended Ended f g x y p q t w l = refl
 like F G W Ended (Other c) f g x y p q t w l = absurd t
 like F G W Ended Limit f g x y p q t w l = absurd t
-like F G W Ended (Refused c d) f g x y p q t w l = absurd t
 like F G W (Other c) u f g x y p q t w l = tt
 like F G W Limit u f g x y p q t w l = tt
-like F G W (Refused c d) u f g x y p q t w l = tt
 
 -- a system that has ended stays as it is
-after_later : {R W : Type 0} (S : System R W) (j k : ℕ) (x : S.State) (w : W) → j ≤ k → S.way (after S j x) ≡ some w → after S k x ≡ after S j x
+after_later : {R W : Type 0} (S : System R W) (j k : ℕ) (x : S.State) (w : W) → j ≤ k → S.way (after S j x) ≡ Some w → after S k x ≡ after S j x
 unfolding after
 after_later S zero k x w h e = after_stays S k x w e
 after_later S (suc j) zero x w h e = absurd (omega arith)
 after_later S (suc j) (suc k) x w h e = after_later S j k (S.next x) w (omega arith) e
 
 -- so it ends in one state
-one_end : {R W : Type 0} (S : System R W) (j k : ℕ) (x : S.State) (v w : W) → S.way (after S j x) ≡ some v → S.way (after S k x) ≡ some w → after S j x ≡ after S k x
+one_end : {R W : Type 0} (S : System R W) (j k : ℕ) (x : S.State) (v w : W) → S.way (after S j x) ≡ Some v → S.way (after S k x) ≡ Some w → after S j x ≡ after S k x
 one_end S j k x v w e f = elim (dec_le j k) [ yes h ↦ sym (after_later S j k x v h e) | no h ↦ after_later S k j x w (omega arith) f ]
 
 -- a place that the run comes to is visited
@@ -269,7 +261,7 @@ module _ (F : Function) (kept : List Retained) (A : Runnable F) (A' : Runnable (
     unfolding result_function
     c = arrives F' A' mute note k 0 f [] [] (omega arith) long
 
-    way : way_of (program_of F mute) (after (visiting mute (program_of F mute) notes) a.steps (stand F A mute notes 0 f [] [])).content ≡ some (way_for (given k f).stop)
+    way : way_of (program_of F mute) (after (visiting mute (program_of F mute) notes) a.steps (stand F A mute notes 0 f [] [])).content ≡ Some (way_for (given k f).stop)
     way = stands_way F mute [] (given k f).stop (given k f).frame _ t a.stands
 
     -- the returned run ends too, in as many steps at most
@@ -279,7 +271,7 @@ module _ (F : Function) (kept : List Retained) (A : Runnable F) (A' : Runnable (
     abbrev start' : Noted State
     start' = stand F' A' mute note 0 f [] []
 
-    b : (j : ℕ) × (j ≤ a.steps) × (way_of (program_of F' mute) (after run' j start').content ≡ some (way_for (given k f).stop))
+    b : (j : ℕ) × (j ≤ a.steps) × (way_of (program_of F' mute) (after run' j start').content ≡ Some (way_for (given k f).stop))
         × (run'.log (after run' j start') ≡ (visiting mute (program_of F mute) notes).log (after (visiting mute (program_of F mute) notes) a.steps (stand F A mute notes 0 f [] [])))
     b = (same.visits.visits mute (words_in f) note).ends a.steps (way_for (given k f).stop) way
 
@@ -299,16 +291,15 @@ module _ (F : Function) (kept : List Retained) (A : Runnable F) (A' : Runnable (
         let u : Stands F' mute [] Limit (returned k f).frame (after run' c.steps start').content = rw e at c.stands in
         let all : c.steps ≡ k = c.all e in
         let over = after_later run' b.0 c.steps start' _ (omega (arith, b.1, a.within, all)) b.2 in
-        let ended : way_of (program_of F' mute) (after run' c.steps start').content ≡ some (way_for (given k f).stop) = rw over b.2 in
-        let going : way_of (program_of F' mute) (after run' c.steps start').content ≡ none = rw (u.2, lt-ltb u.0 (length (cells_after kept)) u.1) in
+        let ended : way_of (program_of F' mute) (after run' c.steps start').content ≡ Some (way_for (given k f).stop) = rw over b.2 in
+        let going : way_of (program_of F' mute) (after run' c.steps start').content ≡ None = rw (u.2, lt-ltb u.0 (length (cells_after kept)) u.1) in
         let z : ◌≡◌ {A = ℕ} 0 1 = cc in
         absurd (omega arith)
-    ends (Refused x y) e = absurd (rw e at c.stands)
 
     t' : IsEnd (returned k f).stop
     t' = ends (returned k f).stop refl
 
-    way' : way_of (program_of F' mute) (after run' c.steps start').content ≡ some (way_for (returned k f).stop)
+    way' : way_of (program_of F' mute) (after run' c.steps start').content ≡ Some (way_for (returned k f).stop)
     way' = stands_way F' mute [] (returned k f).stop (returned k f).frame _ t' c.stands
 
     -- where the visits end and where the desk run stops is one state
@@ -317,7 +308,7 @@ module _ (F : Function) (kept : List Retained) (A : Runnable F) (A' : Runnable (
 
     ended_likewise : Likewise (given k f).stop (given k f).frame (returned k f)
     ended_likewise =
-        let ways : way_for (returned k f).stop ≡ way_for (given k f).stop = (let x : some (way_for (returned k f).stop) ≡ some (way_for (given k f).stop) = sym way' ∙ (rw one at b.2) in cc) in
+        let ways : way_for (returned k f).stop ≡ way_for (given k f).stop = (let x : Some (way_for (returned k f).stop) ≡ Some (way_for (given k f).stop) = sym way' ∙ (rw one at b.2) in cc) in
         like F F' mute _ _ _ _ _ _ a.stands c.stands t' ways (ap (λ (y : Noted State). log_of y.content) (sym one) ∙ ap (λ (r : Noted (List Event)). r.content) b.3)
 
     -- the given run has the same notes, where each is made of the place that the returned instruction had
@@ -338,7 +329,6 @@ module _ (F : Function) (kept : List Retained) (A : Runnable F) (A' : Runnable (
       go Ended e = rw e at (ended_likewise k f long (rw e tt) quiet)
       go (Other q) e = tt
       go Limit e = tt
-      go (Refused x y) e = tt
 
 -- ---- the claim, of units that one pass or the cleaning rewrites
 

@@ -1,6 +1,6 @@
 -- Document 02, L12, its claims: "the rewritten one is never charged above it" and "No charge exceeds 281,470,681,678 cents".
 -- Assumes nothing.
-use Rattle.std.specs.Prelude.{◌≡◌, ℕ, zero, suc, ◌^◌, ◌<◌, ◌≤◌, Bool, true, false, cond, List, [], ◌∷◌, length, ◌==◌, nat_lt, slice_index}
+use Rattle.std.specs.Prelude.{Err, IsOkAnd, ◌≡◌, ℕ, zero, suc, ◌^◌, ◌<◌, ◌≤◌, Bool, true, false, cond, List, [], ◌∷◌, length, ◌==◌, nat_lt, slice_index}
 use Rattle.std.proofs.Math.Path.{refl}
 use Rattle.std.proofs.Math.Nat.{le_refl}
 use native.Mathlib.Omega.{arith}
@@ -14,8 +14,8 @@ use Rattle.instruction.specs.Class.{class_of}
 use Rattle.instruction.specs.Opcode as op
 use Rattle.unit.specs.Result.{Retained}
 use Rattle.unit.specs.declared.Line.{Line}
-use Rattle.effects.specs.declared.Check.{Check}
-use Rattle.effects.specs.declared.Check.TheVariants.{Passed, Refused}
+use Rattle.effects.specs.Check.{Check}
+use Rattle.effects.specs.Check.{Passed}
 use Rattle.effects.specs.Shape.{Sections, Cell}
 use Rattle.lines.specs.Lines.{places_of}
 use Rattle.answer.specs.Answer.{Lent, cells_of, sections_of, pass_answer, pass_lines}
@@ -29,7 +29,7 @@ use Rattle.again.proofs.Units.{pass_unit, clean_unit}
 use Rattle.desk.specs.Answer.{and_then, desk_check, stopped_by, desk_answer}
 use Rattle.desk.specs.Charge.{prices, highest_price, priced, spent_from, Premises, to_cents, tariff_check, charge_check, charge_answer, charged_by, charge_cents, most_cents}
 use Rattle.desk.specs.Desk.{Due, goes, stops, not_executed, due_at, run_from, noted_by, notes_from}
-use Rattle.desk.specs.Likewise.{Likewise}
+use Rattle.desk.specs.Likewise.{AnsweredLikewise}
 use Rattle.desk.proofs.Likewise.{Rewriting, same_notes, pass_rewriting, clean_rewriting}
 use Rattle.desk.specs.Rewritten.{EndsLikewise}
 use Rattle.desk.proofs.Rewritten.{frame_passed, again_cells, again_sections, pass_desk, clean_desk}
@@ -114,7 +114,7 @@ charge_runs u f k tariff e = rw (eq-eqb (length tariff) prices e) (go (desk_chec
   where
     go : (c : Check) → stopped_by (and_then c Passed) f (run_from (sections_of u) (cells_of u) k 0 f) ≡ stopped_by c f (run_from (sections_of u) (cells_of u) k 0 f)
     go Passed = refl
-    go (Refused n p) = refl
+    go (Err r) = refl
 
 -- ---- the claim, of units
 
@@ -133,7 +133,7 @@ module _ (u : List ℕ) (kept : List Retained) (lines : List Line) (A : UnitAgai
       rw (E.unrefused (length f), frame_passed (passed_run u (length f) both.0).frame, eq-eqb (length tariff) prices both.1)
 
   no_more : ChargedNoMore u (unit_of u (cells_after kept) lines)
-  unfolding charge_check charge_answer charge_cents stopped_by charged_by Likewise IsEnd
+  unfolding charge_check charge_answer charge_cents stopped_by charged_by
   no_more =
       record {
         unrefused = λ words count. rw (E.unrefused words);
@@ -141,17 +141,17 @@ module _ (u : List ℕ) (kept : List Retained) (lines : List Line) (A : UnitAgai
         never_above = λ f k tariff premises t. below f k tariff premises (check f tariff) refl t;
       }
     where
-      ending : (f : List ℕ) (k : ℕ) (tariff : List ℕ) (c : Check) → check f tariff ≡ c → Likewise (charge_answer u f k tariff).stop (charge_answer u f k tariff).frame (charge_answer v f k tariff)
+      ending : (f : List ℕ) (k : ℕ) (tariff : List ℕ) (c : Check) → check f tariff ≡ c → AnsweredLikewise (charge_answer u f k tariff) (charge_answer v f k tariff)
       ending f k tariff Passed e =
           let count = (charge_passed u (length f) (length tariff) e).1 in
           rw (charge_runs u f k tariff count, charge_runs v f k tariff count) (E.ends f k)
-      ending f k tariff (Refused n p) e = rw e tt
+      ending f k tariff (Err r) e = rw e tt
 
-      below : (f : List ℕ) (k : ℕ) (tariff : List ℕ) → Premises tariff → (c : Check) → check f tariff ≡ c → IsEnd (charge_answer u f k tariff).stop → charge_cents v f k tariff ≤ charge_cents u f k tariff
+      below : (f : List ℕ) (k : ℕ) (tariff : List ℕ) → Premises tariff → (c : Check) → check f tariff ≡ c → IsOkAnd (charge_answer u f k tariff).stop IsEnd → charge_cents v f k tariff ≤ charge_cents u f k tariff
       below f k tariff premises Passed e t =
           let long = (passed_run u (length f) (charge_passed u (length f) (length tariff) e).0).frame in
           rw (e, passed f tariff e, again_sections u kept lines A, again_cells u kept lines A) (cents_less _ _ (spent_less u kept R tariff (cheap tariff premises) k f long (rw e at t)))
-      below f k tariff premises (Refused n p) e t = absurd (rw e at t)
+      below f k tariff premises (Err r) e t = absurd (rw e at t)
 
 -- one pass
 pub pass_charged : (u : List ℕ) (l : Lent) (kept : List Retained) → Bytes u → pass_answer u l ≡ rewritten kept → ChargedNoMore u (unit_of u (cells_after kept) (pass_lines u l))
@@ -178,4 +178,4 @@ charge_most u f limit tariff small priced = go (charge_check u (length f) (lengt
 
     go : (c : Check) → charged_by c cents ≤ most_cents
     go Passed = cents_most _ limit small (spent_most (sections_of u) (cells_of u) tariff highest_price priced limit 0 f)
-    go (Refused k p) = omega arith
+    go (Err r) = omega arith

@@ -1,7 +1,7 @@
 -- Document 02, L6, its claim, of units: "Whenever a given function returns, panics or runs out at its end in k steps, the rewritten one, from the same
 -- frame, ends likewise, with the same words read, in at most k." The rewritten one is the result laid out as a unit again.
 -- Assumes nothing.
-use Rattle.std.specs.Prelude.{◌≡◌, ℕ, suc, ◌<◌, Bool, true, false, cond, List, length, nat_lt}
+use Rattle.std.specs.Prelude.{Err, ◌≡◌, ℕ, suc, ◌<◌, Bool, true, false, cond, List, length, nat_lt}
 use Rattle.std.proofs.Math.Path.{refl, ap}
 use Rattle.std.proofs.Common.{sym, ◌∙◌, zero-add, arith}
 use borrow.Author.Tests.{eq-eqb, lt-ltb}
@@ -12,8 +12,8 @@ use Rattle.unit.specs.Refusal.{branch_outside}
 use Rattle.unit.specs.Result.{Retained}
 use Rattle.unit.specs.declared.Line.{Line}
 use Rattle.unit.specs.laws.UnitLaws.{layout_unit}
-use Rattle.effects.specs.declared.Check.{Check}
-use Rattle.effects.specs.declared.Check.TheVariants.{Passed, Refused}
+use Rattle.effects.specs.Check.{Check}
+use Rattle.effects.specs.Check.{Passed}
 use Rattle.effects.specs.Check.{lowest, operand_refusal, operand_check}
 use Rattle.effects.specs.Shape.{Cell, cell_at}
 use Rattle.flow.specs.Branch.{branches, target, branch_inside, branch_check_in}
@@ -31,7 +31,7 @@ use Rattle.again.specs.Units.{UnitAgain}
 use Rattle.again.proofs.Units.{pass_unit, clean_unit}
 use Rattle.desk.specs.Answer.{and_then, layout_check, frame_check, desk_check, stopped_by, desk_answer}
 use Rattle.desk.specs.Desk.{run_from}
-use Rattle.desk.specs.Likewise.{Likewise, RunsLikewise}
+use Rattle.desk.specs.Likewise.{AnsweredLikewise, RunsLikewise}
 use Rattle.desk.proofs.Likewise.{pass_likewise, clean_likewise}
 use Rattle.desk.proofs.laws.Passed.{passed_run}
 use Rattle.desk.specs.Rewritten.{EndsLikewise}
@@ -96,16 +96,16 @@ module _ (u : List ℕ) (kept : List Retained) (lines : List Line) (A : UnitAgai
       rw (A.unit, counts, sections, cells, operands, branches)
 
   likewise : EndsLikewise u (unit_of u (cells_after kept) lines)
-  unfolding desk_answer stopped_by Likewise
+  unfolding desk_answer stopped_by
   likewise = record { unrefused = not_refused; ends = λ f k. by f k (desk_check u (length f)) refl }
     where
       by : (f : List ℕ) (k : ℕ) (c : Check) → desk_check u (length f) ≡ c
-          → Likewise (stopped_by c f (run_from (sections_of u) (cells_of u) k 0 f)).stop (stopped_by c f (run_from (sections_of u) (cells_of u) k 0 f)).frame (desk_answer v f k)
+          → AnsweredLikewise (stopped_by c f (run_from (sections_of u) (cells_of u) k 0 f)) (desk_answer v f k)
       by f k Passed e =
           let long = (passed_run u (length f) e).frame in
           let passed : desk_check v (length f) ≡ Passed = not_refused (length f) ∙ frame_passed long in
           rw (passed, sections, cells) (same k f long)
-      by f k (Refused n p) e = tt
+      by f k (Err r) e = tt
 
 -- one pass
 pub pass_desk : (u : List ℕ) (l : Lent) (kept : List Retained) → Bytes u → pass_answer u l ≡ rewritten kept → EndsLikewise u (unit_of u (cells_after kept) (pass_lines u l))

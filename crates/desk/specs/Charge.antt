@@ -1,17 +1,21 @@
 -- Definitions. Document 02, L12: the charge for a run at the desk.
 -- Assumes nothing.
-use Rattle.std.specs.Prelude.{◌≡◌, ℕ, ◌+◌, ◌/◌, ◌≤◌, true, cond, List, [], ◌∷◌, length, ◌==◌, slice_index}
+use Rattle.std.specs.Prelude.{Ok, Err, Result, ◌≡◌, ℕ, ◌+◌, ◌/◌, ◌≤◌, true, cond, List, [], ◌∷◌, length, ◌==◌, slice_index}
 use Rattle.words.specs.Lists.{sum}
 use Rattle.instruction.specs.Class.{class_of}
 use Rattle.instruction.specs.Opcode as op
 use Rattle.unit.specs.Refusal.{tariff_length}
-use Rattle.effects.specs.declared.Check.{Check}
-use Rattle.effects.specs.declared.Check.TheVariants.{Passed, Refused}
+use Rattle.effects.specs.Check.{Check}
+use Rattle.effects.specs.Check.{Passed}
+use Rattle.unit.specs.Refusal.{Refused}
+use Rattle.unit.specs.declared.refusal.Refusal.{Refusal}
 use Rattle.effects.specs.Shape.{Sections, Cell, cell_at}
 use Rattle.answer.specs.Answer.{cells_of, sections_of}
 use Rattle.run.specs.Visits.{is_operator, is_conditional}
-use Rattle.desk.specs.Desk.{Stopped, run_from, notes_from}
-use Rattle.desk.specs.Answer.{and_then, desk_check, stopped_by}
+use Rattle.desk.specs.declared.Charged.{Charged}
+use Rattle.desk.specs.declared.Stop.{Stop}
+use Rattle.desk.specs.Desk.{run_from, notes_from}
+use Rattle.desk.specs.Answer.{Answered, and_then, desk_check, stopped_by}
 
 -- ---- the price of a run
 
@@ -53,18 +57,27 @@ unfoldable pub charge_check : List ℕ → ℕ → ℕ → Check
 charge_check u words count = and_then (desk_check u words) (tariff_check count)
 
 -- how the run stops and the frame then: those of the run without a charge
-unfoldable pub charge_answer : List ℕ → List ℕ → ℕ → List ℕ → Stopped
+unfoldable pub charge_answer : List ℕ → List ℕ → ℕ → List ℕ → Answered
 charge_answer u f limit tariff = let run = run_from (sections_of u) (cells_of u) limit 0 f in stopped_by (charge_check u (length f) (length tariff)) f run
 
 -- a charge goes with every answer but a refusal
 unfoldable pub charged_by : Check → ℕ → ℕ
 charged_by Passed cents = cents
-charged_by (Refused k p) cents = 0
+charged_by (Err r) cents = 0
 
 unfoldable pub charge_cents : List ℕ → List ℕ → ℕ → List ℕ → ℕ
 charge_cents u f limit tariff =
     let cents = to_cents (spent_from (sections_of u) (cells_of u) tariff limit 0 f) in
     charged_by (charge_check u (length f) (length tariff)) cents
+
+-- how a charged run stops or why it was refused, and what it is charged: nothing with a refusal
+unfoldable pub stop_of : Result Charged Refusal → Result Stop Refusal
+stop_of (Ok c) = Ok c.stop
+stop_of (Err r) = Err r
+
+unfoldable pub cents_of : Result Charged Refusal → ℕ
+cents_of (Ok c) = c.cents
+cents_of (Err r) = 0
 
 -- "No charge exceeds 281,470,681,678 cents"
 abbrev pub most_cents : ℕ

@@ -1,6 +1,6 @@
 -- Definitions. Document 02, L6: the desk run, over the cells of a function. A frame is a list of words, so that it computes.
 -- Assumes nothing.
-use Rattle.std.specs.Prelude.{ℕ, zero, suc, cond, not, List, [], ◌++◌, length, ◌==◌, nat_lt, slice_index, slice_set}
+use Rattle.std.specs.Prelude.{Option, Some, None, ℕ, zero, suc, cond, not, List, [], ◌++◌, length, ◌==◌, nat_lt, slice_index, slice_set}
 use borrow.Rule.Slice.PartMut.{mid_of, put_mid}
 use Rattle.words.specs.Lists.{is_in}
 use Rattle.instruction.specs.declared.Instruction.{Instruction}
@@ -36,13 +36,13 @@ abbrev pub stores : ℕ → List ℕ → ℕ → ℕ → Due
 stores p f a w = goes (suc p) (slice_set f a w)
 
 -- "LoadConst of kinds 0 to 3"; "LoadConst its constant's word (Nil 0)"
-unfoldable pub loads : ℕ → List ℕ → ℕ → Constant → Due
-loads p f a constant.Nil = stores p f a 0
-loads p f a (constant.Bool v) = stores p f a v
-loads p f a (constant.Int v) = stores p f a v
-loads p f a (constant.Float v) = stores p f a v
-loads p f a constant.String = not_executed
-loads p f a constant.Missing = not_executed
+unfoldable pub loads : ℕ → List ℕ → ℕ → Option Constant → Due
+loads p f a (Some constant.Nil) = stores p f a 0
+loads p f a (Some (constant.Bool v)) = stores p f a v
+loads p f a (Some (constant.Int v)) = stores p f a v
+loads p f a (Some (constant.Float v)) = stores p f a v
+loads p f a (Some constant.String) = not_executed
+loads p f a None = not_executed
 
 -- "It executes LoadInt, LoadConst of kinds 0 to 3, Copy, CopyN, the 21 opcodes that fold, Hint, the three jumps, Return and Panic." CopyN reads all
 -- before it writes; Return reads b slots from a on, Panic two.

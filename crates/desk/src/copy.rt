@@ -8,10 +8,8 @@ fn copy_up(frame: &mut [u64], a: usize, b: usize, c: usize)
     requires read { b + c ≤ length frame.old }
     ensures frame { frame.new ≡ put_mid a c frame.old (mid_of b c frame.old) }
 {
-    let mut k: usize = 0;
-    while k < c {
+    for k in 0..c {
         frame[a + k] = frame[b + k];
-        k += 1;
     }
 }
 
@@ -21,9 +19,7 @@ fn copy_down(frame: &mut [u64], a: usize, b: usize, c: usize)
     requires written { a + c ≤ length frame.old }
     ensures frame { frame.new ≡ put_mid a c frame.old (mid_of b c frame.old) }
 {
-    let mut k: usize = c;
-    while k > 0 {
-        k -= 1;
+    for k in (0..c).rev() {
         frame[a + k] = frame[b + k];
     }
 }
@@ -37,6 +33,7 @@ pub fn copy_words(frame: &mut [u64], a: usize, b: usize, c: usize)
     if c == 0 {
         return;
     }
+    // Not `copy_within`: the edit copy_up_always turns this choice, which that hides.
     if a < b {
         copy_up(frame, a, b, c);
     } else {

@@ -16,11 +16,11 @@ ghost use Rattle.desk.specs.laws.Priced as priced;
 ghost use Rattle.desk.specs.laws.Spent.{stop_price};
 
 use crate::{PRICES, Stop, copy};
-use instruction::{Class, Instruction, number, opcode};
+use instruction::{Class, Instruction, opcode};
 use unit::{Constant, entry, section, size};
 use values::fold;
 
-// No place: what stops at an instruction goes nowhere.
+// No place: what stops at an instruction goes nowhere. No Option: each step would return a second word.
 const NOWHERE: u64 = 4294967296;
 
 // The prices of a run that is not charged.
@@ -53,6 +53,7 @@ fn store(frame: &mut [u64], p: usize, a: u16, w: u64) -> u64
 }
 
 // "LoadConst of kinds 0 to 3"
+#[tactic(auto, unfolding(crate::specs::Desk::loads, crate::specs::laws::Execution::goes_to, crate::specs::laws::Execution::frame_after))]
 fn load(constants: &[u8], frame: &mut [u64], p: usize, a: u16, b: u16) -> u64
     requires place { p + 1 < 2 ^ 32 }
     requires slot { a < length frame.old }
@@ -61,12 +62,12 @@ fn load(constants: &[u8], frame: &mut [u64], p: usize, a: u16, b: u16) -> u64
         (loads p frame.old a (constant_at constants.now b)) }
 {
     match entry::constant(constants, b as usize) {
-        Constant::Nil => store(frame, p, a, 0),
-        Constant::Bool(v) => store(frame, p, a, v),
-        Constant::Int(v) => store(frame, p, a, v),
-        Constant::Float(v) => store(frame, p, a, v),
-        Constant::String => NOWHERE,
-        Constant::Missing => NOWHERE,
+        Some(Constant::Nil) => store(frame, p, a, 0),
+        Some(Constant::Bool(v)) => store(frame, p, a, v),
+        Some(Constant::Int(v)) => store(frame, p, a, v),
+        Some(Constant::Float(v)) => store(frame, p, a, v),
+        Some(Constant::String) => NOWHERE,
+        None => NOWHERE,
     }
 }
 
@@ -104,7 +105,7 @@ fn jump(p: usize, i: Instruction, taken: bool) -> u64
     ensures place { result ≡ (if taken then (p + imm32 i) % 2 ^ 64 else suc p) }
 {
     if taken {
-        return std::num::wrapping_add_u64(p as u64, i.imm32());
+        return (p as u64).wrapping_add(i.imm32());
     }
     p as u64 + 1
 }
@@ -167,20 +168,18 @@ fn execute(code: &[u8], constants: &[u8], frame: &mut [u64], p: usize) -> u64
 }
 
 // Has the constant a word? "kinds 0 to 3"
-fn has_word(constant: Constant) -> bool
+#[tactic(auto, unfolding(crate::specs::laws::Execution::has_word))]
+fn has_word(constant: Option<Constant>) -> bool
     ensures answer { result ≡ has_word constant }
 {
-    match constant {
-        Constant::Nil => true,
-        Constant::Bool(_) => true,
-        Constant::Int(_) => true,
-        Constant::Float(_) => true,
-        Constant::String => false,
-        Constant::Missing => false,
-    }
+    matches!(
+        constant,
+        Some(Constant::Nil | Constant::Bool(_) | Constant::Int(_) | Constant::Float(_))
+    )
 }
 
 // Is the instruction at place p one that the desk executes?
+#[tactic(auto, unfolding(crate::specs::Desk::due_by, crate::specs::laws::Stands::is_executed))]
 fn is_executed(code: &[u8], constants: &[u8], p: usize) -> bool
     requires code { 8 * p + 8 ≤ length code.now }
     ensures answer { (f : List ℕ)
@@ -188,21 +187,19 @@ fn is_executed(code: &[u8], constants: &[u8], p: usize) -> bool
 {
     let i = instruction::read(code, p);
     match i.class() {
-        Class::Hint => true,
-        Class::LoadInt => true,
         Class::LoadConst => has_word(entry::constant(constants, i.b as usize)),
-        Class::Copy => true,
-        Class::CopyN => true,
         Class::Unary => fold::folds_unary(i.op),
         Class::Binary => fold::folds_binary(i.op),
-        Class::Jump => true,
-        Class::JumpIf => true,
-        Class::JumpIfNot => true,
-        Class::ForLoop => false,
-        Class::Return => true,
-        Class::Panic => true,
-        Class::Outside => false,
-        Class::Invalid => false,
+        Class::ForLoop | Class::Outside | Class::Invalid => false,
+        Class::Hint
+        | Class::LoadInt
+        | Class::Copy
+        | Class::CopyN
+        | Class::Jump
+        | Class::JumpIf
+        | Class::JumpIfNot
+        | Class::Return
+        | Class::Panic => true,
     }
 }
 
@@ -238,6 +235,7 @@ pub fn advance_priced(
     let mut p = from;
     let mut left = steps;
     let mut spent: u64 = 0;
+    // No range: a step may go anywhere, and the steps that are left are part of the answer.
     while (left > 0) & (p < n) {
         let q = execute(code, constants, frame, p);
         if q >= NOWHERE {
@@ -292,14 +290,11 @@ pub fn stop_at(unit: &[u8], p: usize, left: u32) -> Stop
         return Stop::Limit;
     }
     let i = instruction::read(code, p);
-    let k = opcode::class_number(i.op);
-    if k == number::RETURN {
-        return Stop::Returned(i.a as u32, i.b as u32);
+    match i.class() {
+        Class::Return => Stop::Returned(i.a as u32, i.b as u32),
+        Class::Panic => Stop::Panicked(i.a as u32, 2),
+        _ => Stop::Limit,
     }
-    if k == number::PANIC {
-        return Stop::Panicked(i.a as u32, 2);
-    }
-    Stop::Limit
 }
 
 // The price of the step by which a run stops at place p: of Return and Panic.
@@ -316,6 +311,5 @@ pub fn stop_price(unit: &[u8], tariff: &[u16], p: usize, stop: Stop) -> u64
         Stop::Ended => 0,
         Stop::Other(_) => 0,
         Stop::Limit => 0,
-        Stop::Refused(_, _) => 0,
     }
 }

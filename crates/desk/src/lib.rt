@@ -4,16 +4,16 @@
 
 ghost use Rattle.std.specs.Prelude.{◌≡◌, ◌≤◌};
 ghost use Rattle.desk.specs.Answer.{desk_answer, step_answer};
-ghost use Rattle.desk.specs.Charge.{charge_answer, charge_cents, most_cents};
+ghost use Rattle.desk.specs.Charge.{charge_answer, charge_cents, stop_of, cents_of, most_cents};
 
-use effects::Check;
+use unit::refusal::Refusal;
 
 pub mod check;
 pub mod copy;
 pub mod execution;
 
 // How a run stops: Return or Panic with the first slot and the count of the words that it read, the end of the code,
-// the place of the first other instruction, the limit, or a refusal with number and place.
+// the place of the first other instruction, or the limit.
 #[derive(Clone, Copy)]
 pub enum Stop {
     Returned(u32, u32),
@@ -21,7 +21,6 @@ pub enum Stop {
     Ended,
     Other(u32),
     Limit,
-    Refused(u32, u32),
 }
 
 // What a step does: it goes to a place, or the run stops.
@@ -42,59 +41,49 @@ pub struct Charged {
 }
 
 // "a run over a unit, a lent frame of s words and a step limit below 2^32"
-pub fn run(unit: &[u8], frame: &mut [u64], limit: u32) -> Stop
+pub fn run(unit: &[u8], frame: &mut [u64], limit: u32) -> Result<Stop, Refusal>
     ensures answer { result ≡ (desk_answer unit.now frame.old limit).stop }
     ensures frame { frame.new ≡ (desk_answer unit.now frame.old limit).frame }
 {
-    match check::check(unit, frame.len()) {
-        Check::Refused(k, p) => Stop::Refused(k, p),
-        Check::Passed => {
-            let reached = execution::advance(unit, frame, 0, limit);
-            execution::stop_at(unit, reached.place, reached.left)
-        }
-    }
+    check::check(unit, frame.len())?;
+    let reached = execution::advance(unit, frame, 0, limit);
+    Ok(execution::stop_at(unit, reached.place, reached.left))
 }
 
 // One step of it, from any place.
-pub fn step(unit: &[u8], frame: &mut [u64], place: u32) -> Next
+pub fn step(unit: &[u8], frame: &mut [u64], place: u32) -> Result<Next, Refusal>
     ensures answer { result ≡ (step_answer unit.now frame.old place).next }
     ensures frame { frame.new ≡ (step_answer unit.now frame.old place).frame }
 {
-    match check::check(unit, frame.len()) {
-        Check::Refused(k, p) => Next::Stops(Stop::Refused(k, p)),
-        Check::Passed => {
-            let reached = execution::advance(unit, frame, place as usize, 1);
-            if reached.left == 0 {
-                return Next::Goes(reached.place as u32);
-            }
-            Next::Stops(execution::stop_at(unit, reached.place, 1))
-        }
+    check::check(unit, frame.len())?;
+    let reached = execution::advance(unit, frame, place as usize, 1);
+    if reached.left == 0 {
+        return Ok(Next::Goes(reached.place as u32));
     }
+    Ok(Next::Stops(execution::stop_at(unit, reached.place, 1)))
 }
 
 // The same run with a price for each step: "the price of all executed instructions, divided by 1,000 and rounded up to
 // a whole cent"
-pub fn charge(unit: &[u8], frame: &mut [u64], limit: u32, tariff: &[u16]) -> Charged
-    ensures answer { result.stop ≡ (charge_answer unit.now frame.old limit
+pub fn charge(
+    unit: &[u8],
+    frame: &mut [u64],
+    limit: u32,
+    tariff: &[u16],
+) -> Result<Charged, Refusal>
+    ensures answer { stop_of result ≡ (charge_answer unit.now frame.old limit
         tariff.now).stop }
     ensures frame { frame.new ≡ (charge_answer unit.now frame.old limit
         tariff.now).frame }
-    ensures cents { result.cents ≡ charge_cents unit.now frame.old limit
+    ensures cents { cents_of result ≡ charge_cents unit.now frame.old limit
         tariff.now }
-    ensures most { result.cents ≤ most_cents }
+    ensures most { cents_of result ≤ most_cents }
 {
-    match check::check_charge(unit, frame.len(), tariff.len()) {
-        Check::Refused(k, p) => Charged {
-            stop: Stop::Refused(k, p),
-            cents: 0,
-        },
-        Check::Passed => {
-            let paid = execution::advance_priced(unit, frame, tariff, 0, limit);
-            let stop = execution::stop_at(unit, paid.place, paid.left);
-            let last = execution::stop_price(unit, tariff, paid.place, stop);
-            let spent = paid.spent + last;
-            let cents = (spent + 999) / 1000;
-            Charged { stop, cents }
-        }
-    }
+    check::check_charge(unit, frame.len(), tariff.len())?;
+    let paid = execution::advance_priced(unit, frame, tariff, 0, limit);
+    let stop = execution::stop_at(unit, paid.place, paid.left);
+    let last = execution::stop_price(unit, tariff, paid.place, stop);
+    let spent = paid.spent + last;
+    let cents = (spent + 999) / 1000;
+    Ok(Charged { stop, cents })
 }

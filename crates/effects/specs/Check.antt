@@ -1,12 +1,18 @@
 -- Definitions. The operands of every instruction: refusals 5, 6 and 7 "by lowest p: Invalid; effect error; a slot at or past s".
 -- Assumes nothing.
-use Rattle.std.specs.Prelude.{Bool, false, cond, List, [], ◌∷◌, ◌++◌, ℕ, suc, eqb, ltb}
+use Rattle.std.specs.Prelude.{Result, Ok, Bool, false, cond, List, [], ◌∷◌, ◌++◌, ℕ, suc, eqb, ltb}
 use Rattle.instruction.specs.Opcode as op
-use Rattle.unit.specs.Refusal.{invalid_opcode, effect_error, slot_outside}
-use Rattle.effects.specs.declared.Check.{Check}
-use Rattle.effects.specs.declared.Check.TheVariants.{Passed, Refused}
+use Rattle.unit.specs.declared.refusal.Refusal.{Refusal}
+use Rattle.unit.specs.Refusal.{invalid_opcode, effect_error, slot_outside, Refused}
 use Rattle.effects.specs.Shape.{Tables, Cell}
 use Rattle.effects.specs.Effects.{all_reads, writes, demands_met, range_fits, range_within, all_of}
+
+-- the answer of a check over the whole function: nothing, or the refusal
+abbrev pub Check : Type 0
+Check = Result (Unit {0}) Refusal
+
+pattern abbrev pub Passed : Check
+Passed = Ok tt
 
 -- the lowest place whose test is no 0, with that number: every refusal "at the lowest place" is one of these
 unfoldable pub lowest : (ℕ → Cell → ℕ) → ℕ → List Cell → Check

@@ -1,17 +1,14 @@
 -- Definitions. The shape of an instruction's effects: what it needs to be told, and the ranges of slots that it then names.
 -- A shape stands for the opcodes of one arm of instruction_effects.rs (Table.antt says which).
 -- Assumes nothing.
-use Rattle.std.specs.Prelude.{Bool, false, ◌||◌, List, ℕ, ◌+◌, ◌*◌, ◌/◌, ◌%◌, eqb, get_or}
+use Rattle.std.specs.Prelude.{Option, None, Some, Bool, false, ◌||◌, List, ℕ, ◌+◌, ◌*◌, ◌/◌, ◌%◌, eqb, get_or}
 use Rattle.std.proofs.Math.Bool.{true, cond}
-use Rattle.instruction.specs.declared.Instruction.{Instruction}
 use Rattle.instruction.specs.Instruction.{static_call_func_id, call_shape_is_closure, call_shape_static_func_id}
-use Rattle.unit.specs.declared.Metadata.{Metadata}
 use Rattle.unit.specs.declared.Callee.{Callee}
-use Rattle.unit.specs.declared.Callee.TheVariants.{Slots, Missing as NoFunction}
-use Rattle.unit.specs.declared.Extern.{Extern}
-use Rattle.unit.specs.declared.Extern.TheVariants.{Returns, Missing as NoExtern}
 use Rattle.unit.specs.Entry.{function_at, extern_at, kind_call_layout, kind_call_iface_layout, kind_call_extern_layout}
 use Rattle.effects.specs.declared.Range.{Range}
+use Rattle.effects.specs.declared.Cell as code
+use Rattle.effects.specs.declared.Tables as view
 
 -- The sections that effects look at.
 pub record Tables : Type 0 where
@@ -22,6 +19,14 @@ pub record Tables : Type 0 where
 abbrev pub tables_of : List ℕ → List ℕ → List ℕ → Tables
 tables_of functions externs cases = record { functions = functions; externs = externs; cases = cases }
 
+-- what those sections hold that code has a view of
+abbrev pub tables_in : view.Tables → Tables
+tables_in t = tables_of t.functions.now t.externs.now t.cases.now
+
+-- the same with any cases
+abbrev pub tables_with : List ℕ → view.Tables → Tables
+tables_with cases t = tables_of t.functions.now t.externs.now cases
+
 -- All of a unit that stays as it is while its code and metadata change.
 pub record Sections : Type 0 where
   pub locals : ℕ
@@ -30,9 +35,8 @@ pub record Sections : Type 0 where
   pub tables : Tables
 
 -- an instruction with its metadata
-pub record Cell : Type 0 where
-  pub instruction : Instruction
-  pub metadata : Metadata
+abbrev pub Cell : Type 0
+Cell = code.Cell
 
 -- what stands at a place past the end
 abbrev pub no_cell : Cell
@@ -96,34 +100,34 @@ part base count = record { when = always; base = base; offset = fixed 0; count =
 
 -- ---- what the terms mean for one instruction
 
-unfoldable pub is_there : Callee → Bool
-is_there (Slots p r) = true
-is_there NoFunction = false
+unfoldable pub is_there : Option Callee → Bool
+is_there (Some f) = true
+is_there None = false
 
-unfoldable pub param_slots : Callee → ℕ
-param_slots (Slots p r) = p
-param_slots NoFunction = 0
+unfoldable pub param_slots : Option Callee → ℕ
+param_slots (Some f) = f.params
+param_slots None = 0
 
-unfoldable pub return_slots : Callee → ℕ
-return_slots (Slots p r) = r
-return_slots NoFunction = 0
+unfoldable pub return_slots : Option Callee → ℕ
+return_slots (Some f) = f.returns
+return_slots None = 0
 
-unfoldable pub is_known : Extern → Bool
-is_known (Returns r) = true
-is_known NoExtern = false
+unfoldable pub is_known : Option ℕ → Bool
+is_known (Some r) = true
+is_known None = false
 
-unfoldable pub extern_slots : Extern → ℕ
-extern_slots (Returns r) = r
-extern_slots NoExtern = 0
+unfoldable pub extern_slots : Option ℕ → ℕ
+extern_slots (Some r) = r
+extern_slots None = 0
 
 module _ (T : Tables) (x : Cell) where
-  abbrev pub function : Callee
+  abbrev pub function : Option Callee
   function = function_at T.functions (static_call_func_id x.instruction)
 
-  abbrev pub shape_function : Callee
+  abbrev pub shape_function : Option Callee
   shape_function = function_at T.functions (call_shape_static_func_id x.instruction)
 
-  abbrev pub extern_def : Extern
+  abbrev pub extern_def : Option ℕ
   extern_def = extern_at T.externs x.instruction.b
 
   unfoldable pub is_kind : ℕ → Bool

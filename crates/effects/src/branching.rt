@@ -1,44 +1,39 @@
-// Hints, jumps and loops, by the number of their class.
+// Hints, jumps and loops, by their class.
 ghost use Rattle.std.specs.Prelude.{◌≡◌, ◌<◌};
-ghost use Rattle.instruction.specs.Class.{number_of};
-ghost use Rattle.instruction.specs.declared.Class.{Class};
 ghost use Rattle.effects.specs.laws.Branching.{is_branching, reads_condition, is_loop};
 
-use instruction::number;
+use instruction::Class;
 
-// Sets of classes, as bits by their numbers.
-const BRANCHING: u64 = (1 << number::HINT)
-    | (1 << number::JUMP)
-    | (1 << number::JUMP_IF)
-    | (1 << number::JUMP_IF_NOT)
-    | (1 << number::FOR_LOOP);
+// Sets of classes, as bits by their places in `Class`.
+const BRANCHING: u64 = (1 << Class::Hint as u64)
+    | (1 << Class::Jump as u64)
+    | (1 << Class::JumpIf as u64)
+    | (1 << Class::JumpIfNot as u64)
+    | (1 << Class::ForLoop as u64);
 
-const CONDITIONAL: u64 = (1 << number::JUMP_IF)
-    | (1 << number::JUMP_IF_NOT)
-    | (1 << number::FOR_LOOP);
+const CONDITIONAL: u64 = (1 << Class::JumpIf as u64)
+    | (1 << Class::JumpIfNot as u64)
+    | (1 << Class::ForLoop as u64);
 
-const LOOPING: u64 = 1 << number::FOR_LOOP;
+const LOOPING: u64 = 1 << Class::ForLoop as u64;
 
 // Is it one of these? Of slots it reads a and b and writes a at most.
-pub fn is_branching(k: u64) -> bool
-    requires { k < 15 }
-    ensures { (x : Class) → k ≡ number_of x → result ≡ is_branching x }
+pub fn is_branching(c: Class) -> bool
+    ensures { result ≡ is_branching c }
 {
-    (BRANCHING >> k) % 2 == 1
+    (BRANCHING >> c as u64) % 2 == 1
 }
 
 // Of these, does it read a, the condition or a loop's index? All but Hint and Jump do.
-pub fn reads_condition(k: u64) -> bool
-    requires { k < 15 }
-    ensures { (x : Class) → k ≡ number_of x → result ≡ reads_condition x }
+pub fn reads_condition(c: Class) -> bool
+    ensures { result ≡ reads_condition c }
 {
-    (CONDITIONAL >> k) % 2 == 1
+    (CONDITIONAL >> c as u64) % 2 == 1
 }
 
 // Is it ForLoop? That reads its limit b too, and writes a.
-pub fn is_loop(k: u64) -> bool
-    requires { k < 15 }
-    ensures { (x : Class) → k ≡ number_of x → result ≡ is_loop x }
+pub fn is_loop(c: Class) -> bool
+    ensures { result ≡ is_loop c }
 {
-    (LOOPING >> k) % 2 == 1
+    (LOOPING >> c as u64) % 2 == 1
 }

@@ -1,65 +1,67 @@
-// The range of each form, by the form's number (specs/Form.antt).
+// The range of each form, by the form's number (specs/Form.antt). Numbers, and no enum: a row packs seven of them into one word.
 ghost use Rattle.std.specs.Prelude.{◌≡◌, cond, List, ℕ, ◌≤◌, ◌<◌};
 ghost use Rattle.instruction.specs.Instruction.{of_word, static_call_func_id, call_shape_static_func_id};
 ghost use Rattle.unit.specs.Entry.{function_at};
 ghost use Rattle.unit.specs.declared.Metadata.{Metadata};
-ghost use Rattle.effects.specs.Shape.{Tables, range_of, tables_of, param_slots, return_slots, extern_slots, value, arguments};
+ghost use Rattle.effects.specs.Shape as shape;
+ghost use Rattle.effects.specs.Shape.{range_of, tables_of, tables_with, param_slots, return_slots, extern_slots, value, arguments};
 ghost use Rattle.effects.specs.laws.Form.{form_at, empty_range};
 ghost use Rattle.effects.specs.laws.Plain.{slot_of};
 
-use crate::Range;
+use crate::{Cell, Range, Tables};
 use instruction::Instruction;
-use unit::{Callee, Extern, Metadata, entry};
+use unit::{Callee, entry};
 
-pub fn param_slots(f: Callee) -> usize
+pub fn param_slots(f: Option<Callee>) -> usize
     ensures { (result ≡ param_slots f) × (result < 65536) }
 {
     match f {
-        Callee::Slots(params, _) => params as usize,
-        Callee::Missing => 0,
+        Some(callee) => callee.params as usize,
+        None => 0,
     }
 }
 
-fn return_slots(f: Callee) -> usize
+fn return_slots(f: Option<Callee>) -> usize
     ensures { result ≡ return_slots f }
 {
     match f {
-        Callee::Slots(_, returns) => returns as usize,
-        Callee::Missing => 0,
+        Some(callee) => callee.returns as usize,
+        None => 0,
     }
 }
 
-fn extern_slots(f: Extern) -> usize
+fn extern_slots(f: Option<u16>) -> usize
     ensures { result ≡ extern_slots f }
 {
     match f {
-        Extern::Returns(returns) => returns as usize,
-        Extern::Missing => 0,
+        Some(returns) => returns as usize,
+        None => 0,
     }
 }
 
 // The function that Call names.
-pub fn callee(i: Instruction, functions: &[u8]) -> Callee
+pub fn callee(i: Instruction, functions: &[u8]) -> Option<Callee>
     ensures { result ≡ function_at functions.now (static_call_func_id i) }
 {
     entry::function(functions, i.static_call_func_id() as usize)
 }
 
 // The function that GoStart, DeferPush and ErrDeferPush name where they call no closure.
-pub fn shape_callee(i: Instruction, functions: &[u8]) -> Callee
+pub fn shape_callee(i: Instruction, functions: &[u8]) -> Option<Callee>
     ensures { result ≡ function_at functions.now (call_shape_static_func_id i) }
 {
     entry::function(functions, i.call_shape_static_func_id() as usize)
 }
 
 // A closure's arguments are counted by its layout.
-fn argument_slots(i: Instruction, m: Metadata, functions: &[u8]) -> usize
-    ensures { (externs cases : List ℕ) → result ≡ value (tables_of functions.now externs cases) (record { instruction = i; metadata = m }) arguments }
+fn argument_slots(x: Cell, tables: Tables) -> usize
+    ensures { (externs cases : List ℕ)
+        → result ≡ value (tables_of tables.entry.functions.now externs cases) x arguments }
 {
-    if i.call_shape_is_closure() {
-        m.first as usize
+    if x.instruction.call_shape_is_closure() {
+        x.metadata.first as usize
     } else {
-        param_slots(shape_callee(i, functions))
+        param_slots(shape_callee(x.instruction, tables.functions))
     }
 }
 
@@ -91,7 +93,7 @@ pub fn slot(form: u64, i: Instruction) -> usize
 
 fn slot_range(form: u64, i: Instruction) -> Range
     requires { form < 3 }
-    ensures { (T : Tables) (m : Metadata) → result ≡ range_of T (record { instruction = i; metadata = m }) (form_at form) }
+    ensures { (T : shape.Tables) (m : Metadata) → result ≡ range_of T (record { instruction = i; metadata = m }) (form_at form) }
 {
     Range {
         start: slot(form, i),
@@ -102,7 +104,7 @@ fn slot_range(form: u64, i: Instruction) -> Range
 // Other forms of the instruction's fields alone.
 fn field_range(form: u64, i: Instruction) -> Range
     requires { (3 ≤ form) × (form < 18) }
-    ensures { (T : Tables) (m : Metadata) → result ≡ range_of T (record { instruction = i; metadata = m }) (form_at form) }
+    ensures { (T : shape.Tables) (m : Metadata) → result ≡ range_of T (record { instruction = i; metadata = m }) (form_at form) }
 {
     let flags = i.flags as usize;
     let a = i.a as usize;
@@ -137,18 +139,18 @@ fn field_range(form: u64, i: Instruction) -> Range
 pub const KEY_AND_VALUE: u64 = 24;
 
 // Forms of the metadata's lengths.
-pub fn layout_range(form: u64, i: Instruction, m: Metadata) -> Range
+pub fn layout_range(form: u64, x: Cell) -> Range
     requires { (18 ≤ form) × (form < 29) }
-    ensures { (T : Tables) → result ≡ range_of T (record { instruction = i; metadata = m }) (form_at form) }
+    ensures { (T : shape.Tables) → result ≡ range_of T x (form_at form) }
 {
-    let a = i.a as usize;
-    let b = i.b as usize;
-    let c = i.c as usize;
-    let first = m.first as usize;
-    let second = m.second as usize;
-    let flag = (i.flags % 2) as usize;
-    let ok = m.ok as usize;
-    let array = (m.array as usize) * first;
+    let a = x.instruction.a as usize;
+    let b = x.instruction.b as usize;
+    let c = x.instruction.c as usize;
+    let first = x.metadata.first as usize;
+    let second = x.metadata.second as usize;
+    let flag = (x.instruction.flags % 2) as usize;
+    let ok = x.metadata.ok as usize;
+    let array = (x.metadata.array as usize) * first;
     match form {
         18 => Range {
             start: a,
@@ -198,44 +200,44 @@ pub fn layout_range(form: u64, i: Instruction, m: Metadata) -> Range
 }
 
 // Forms of the function or the extern that is called.
-fn call_range(form: u64, i: Instruction, m: Metadata, functions: &[u8], externs: &[u8]) -> Range
+fn call_range(form: u64, x: Cell, tables: Tables) -> Range
     requires { 29 ≤ form }
-    ensures { (cases : List ℕ) → result ≡ range_of (tables_of functions.now externs.now cases) (record { instruction = i; metadata = m }) (form_at form) }
+    ensures { (cases : List ℕ) → result ≡ range_of (tables_with cases tables.entry) x (form_at form) }
 {
-    let a = i.a as usize;
-    let b = i.b as usize;
+    let a = x.instruction.a as usize;
+    let b = x.instruction.b as usize;
     match form {
         29 => Range {
             start: b,
-            count: param_slots(callee(i, functions)),
+            count: param_slots(callee(x.instruction, tables.functions)),
         },
         30 => Range {
-            start: b + param_slots(callee(i, functions)),
-            count: return_slots(callee(i, functions)),
+            start: b + param_slots(callee(x.instruction, tables.functions)),
+            count: return_slots(callee(x.instruction, tables.functions)),
         },
         31 => Range {
             start: a,
-            count: extern_slots(entry::extern_of(externs, i.b as usize)),
+            count: extern_slots(entry::extern_of(tables.externs, x.instruction.b as usize)),
         },
         32 => Range {
             start: b,
-            count: argument_slots(i, m, functions),
+            count: argument_slots(x, tables),
         },
         _ => Range { start: 0, count: 0 },
     }
 }
 
-pub fn range_of(form: u64, i: Instruction, m: Metadata, functions: &[u8], externs: &[u8]) -> Range
-    ensures { (cases : List ℕ) → result ≡ range_of (tables_of functions.now externs.now cases) (record { instruction = i; metadata = m }) (form_at form) }
+pub fn range_of(form: u64, x: Cell, tables: Tables) -> Range
+    ensures { (cases : List ℕ) → result ≡ range_of (tables_with cases tables.entry) x (form_at form) }
 {
     if form < 3 {
-        return slot_range(form, i);
+        return slot_range(form, x.instruction);
     }
     if form < 18 {
-        return field_range(form, i);
+        return field_range(form, x.instruction);
     }
     if form < 29 {
-        return layout_range(form, i, m);
+        return layout_range(form, x);
     }
-    call_range(form, i, m, functions, externs)
+    call_range(form, x, tables)
 }

@@ -1,6 +1,9 @@
 // What each instruction reads and writes, as ranges of slots, and the check of every operand.
 #![tactic(auto)]
 
+ghost use Rattle.std.specs.Prelude.{◌≡◌, true};
+ghost use Rattle.unit.specs.Layout.{is_unit, functions_of, externs_of, cases_of};
+
 pub mod branching;
 pub mod demand;
 pub mod form;
@@ -11,16 +14,43 @@ pub mod select;
 pub mod single;
 pub mod table;
 
+use instruction::Instruction;
+use unit::{Metadata, section};
+
+// The sections of a unit that effects look at.
+#[derive(Clone, Copy)]
+pub struct Tables<'a> {
+    pub functions: &'a [u8],
+    pub externs: &'a [u8],
+    pub cases: &'a [u8],
+}
+
+impl<'a> Tables<'a> {
+    // Those of a unit.
+    pub fn of_unit(unit: &'a [u8]) -> Tables<'a>
+        requires { is_unit unit.now ≡ true }
+        ensures functions { result.functions.now ≡ functions_of unit.now }
+        ensures externs { result.externs.now ≡ externs_of unit.now }
+        ensures cases { result.cases.now ≡ cases_of unit.now }
+    {
+        Tables {
+            functions: section::functions(unit),
+            externs: section::externs(unit),
+            cases: section::cases(unit),
+        }
+    }
+}
+
+// An instruction with its metadata.
+#[derive(Clone, Copy)]
+pub struct Cell {
+    pub instruction: Instruction,
+    pub metadata: Metadata,
+}
+
 // `count` slots from `start`.
 #[derive(Clone, Copy)]
 pub struct Range {
     pub start: usize,
     pub count: usize,
-}
-
-// The answer of a check over the whole function: the number and place of a refusal, or none.
-#[derive(Clone, Copy)]
-pub enum Check {
-    Passed,
-    Refused(u32, u32),
 }

@@ -5,7 +5,7 @@ ghost use Rattle.effects.specs.Effects.{case_reads, case_writes};
 ghost use Rattle.effects.specs.laws.Form.{empty_range};
 
 use crate::Range;
-use unit::{Metadata, entry};
+use unit::{Metadata, entry, kind};
 
 // Of each case the queue, then what a send case sends.
 pub fn case_read(k: usize, m: Metadata, cases: &[u8]) -> Range
@@ -19,7 +19,7 @@ pub fn case_read(k: usize, m: Metadata, cases: &[u8]) -> Range
             count: 1,
         };
     }
-    if x.kind == 0 {
+    if x.kind == kind::SEND {
         return Range {
             start: x.slot as usize,
             count: x.elements as usize,
@@ -37,7 +37,7 @@ pub fn case_write(k: usize, m: Metadata, cases: &[u8]) -> Range
     ensures { result ≡ get_or (case_writes cases.now m.first m.second) k empty_range }
 {
     let x = entry::select_case(cases, (m.first as usize) + k);
-    if x.kind == 0 {
+    if x.kind == kind::SEND {
         return Range {
             start: x.slot as usize,
             count: 0,

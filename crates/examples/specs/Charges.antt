@@ -1,11 +1,13 @@
 -- Document 02, L12: charges, computed. What is charged, that each premise is needed, and the highest charge.
 -- Assumes nothing.
-use Rattle.std.specs.Prelude.{◌≡◌, refl, Bool, true, false, cond, not, List, [], ◌∷◌, map, ℕ, ◌-◌, ◌^◌, ◌<◌, ltb, length, get_or, set, replicate}
+use Rattle.std.specs.Prelude.{Ok, Result, ◌≡◌, refl, Bool, true, false, cond, not, List, [], ◌∷◌, map, ℕ, ◌-◌, ◌^◌, ◌<◌, ltb, length, get_or, set, replicate}
 use Rattle.std.proofs.Common.{arith}
 use Rattle.words.specs.Lists.{every, sum, tabulate}
 use Rattle.instruction.specs.Opcode as op
 use Rattle.instruction.specs.Class.{class_of}
-use Rattle.effects.specs.declared.Check.TheVariants.{Passed}
+use Rattle.unit.specs.Refusal.{Refused}
+use Rattle.unit.specs.declared.refusal.Refusal.{Refusal}
+use Rattle.effects.specs.Check.{Passed}
 use Rattle.effects.specs.Shape.{Cell}
 use Rattle.answer.specs.Answer.{cells_of, sections_of, pass_answer}
 use Rattle.answer.specs.Clean.{cells_after}
@@ -13,7 +15,7 @@ use Rattle.answer.specs.Pass.{Outcome, unchanged, refused, rewritten}
 use Rattle.run.specs.Visits.{is_operator, is_conditional}
 use Rattle.again.specs.Again.{unit_of}
 use Rattle.desk.specs.declared.Stop.{Stop}
-use Rattle.desk.specs.declared.Stop.TheVariants.{Returned, Panicked, Ended, Other, Limit, Refused}
+use Rattle.desk.specs.declared.Stop.TheVariants.{Returned, Panicked, Ended, Other, Limit}
 use Rattle.desk.specs.Charge.{prices, highest_price, price_at, to_cents, charge_check, charge_answer, charged_by, charge_cents, most_cents}
 use Rattle.desk.specs.Desk.{goes, due_at}
 use Rattle.desk.proofs.laws.Spent.{spent_there}
@@ -30,36 +32,36 @@ only o v = set (flat 0) o v
 
 -- ---- what is charged
 
--- a function, a frame, a limit and a tariff; how the run stops, and the cents
+-- a function, a frame, a limit and a tariff; how the run stops or why it is refused, and the cents
 pub record Case : Type 0 where
   pub cells : List Cell
   pub frame : List ℕ
   pub slots : ℕ
   pub limit : ℕ
   pub tariff : List ℕ
-  pub stop : Stop
+  pub stop : Result Stop Refusal
   pub cents : ℕ
 
-abbrev case : List Cell → List ℕ → ℕ → List ℕ → Stop → ℕ → Case
+abbrev case : List Cell → List ℕ → ℕ → List ℕ → Result Stop Refusal → ℕ → Case
 case cells f limit tariff s cents = record { cells = cells; frame = f; slots = length f; limit = limit; tariff = tariff; stop = s; cents = cents }
 
 abbrev pub cases : List Case
 cases =
     -- Return, Panic, hints and a jump to n are steps
-    case (return 0 0 ∷ []) [] 9 (only op.Return 1) (Returned 0 0) 1
-    ∷ case (three op.Panic 0 0 0 ∷ []) (7 ∷ 8 ∷ []) 9 (only op.Panic 1000) (Panicked 0 2) 1
-    ∷ case (three op.Hint 0 0 0 ∷ []) [] 9 (only op.Hint 1001) Ended 2
-    ∷ case (jump 1 ∷ []) [] 9 (only op.Jump 999) Ended 1
+    case (return 0 0 ∷ []) [] 9 (only op.Return 1) (Ok (Returned 0 0)) 1
+    ∷ case (three op.Panic 0 0 0 ∷ []) (7 ∷ 8 ∷ []) 9 (only op.Panic 1000) (Ok (Panicked 0 2)) 1
+    ∷ case (three op.Hint 0 0 0 ∷ []) [] 9 (only op.Hint 1001) (Ok Ended) 2
+    ∷ case (jump 1 ∷ []) [] 9 (only op.Jump 999) (Ok Ended) 1
     -- the end of the code and another instruction are none
-    ∷ case [] [] 9 (flat highest_price) Ended 0
-    ∷ case (three op.AddF 0 0 0 ∷ []) (3 ∷ []) 9 (flat highest_price) (Other 0) 0
+    ∷ case [] [] 9 (flat highest_price) (Ok Ended) 0
+    ∷ case (three op.AddF 0 0 0 ∷ []) (3 ∷ []) 9 (flat highest_price) (Ok (Other 0)) 0
     -- a charge goes with the limit too, and with another instruction that is met
-    ∷ case (jump 0 ∷ []) [] 1000 (flat 1) Limit 1
-    ∷ case (load_int 0 5 ∷ three op.AddF 0 0 0 ∷ []) (3 ∷ []) 9 (flat 2000) (Other 1) 2
-    ∷ case (return 0 0 ∷ []) [] 0 (flat highest_price) Limit 0
+    ∷ case (jump 0 ∷ []) [] 1000 (flat 1) (Ok Limit) 1
+    ∷ case (load_int 0 5 ∷ three op.AddF 0 0 0 ∷ []) (3 ∷ []) 9 (flat 2000) (Ok (Other 1)) 2
+    ∷ case (return 0 0 ∷ []) [] 0 (flat highest_price) (Ok Limit) 0
     -- the sum is rounded up, once
-    ∷ case (load_int 0 5 ∷ return 0 1 ∷ []) (3 ∷ []) 9 (flat 500) (Returned 0 1) 1
-    ∷ case (load_int 0 5 ∷ return 0 1 ∷ []) (3 ∷ []) 9 (flat 501) (Returned 0 1) 2
+    ∷ case (load_int 0 5 ∷ return 0 1 ∷ []) (3 ∷ []) 9 (flat 500) (Ok (Returned 0 1)) 1
+    ∷ case (load_int 0 5 ∷ return 0 1 ∷ []) (3 ∷ []) 9 (flat 501) (Ok (Returned 0 1)) 2
     -- 15 for a tariff too short or too long, after 12; a refusal costs nothing
     ∷ case (return 0 0 ∷ []) [] 9 [] (Refused 15 0) 0
     ∷ case (return 0 0 ∷ []) [] 9 (replicate 255 9) (Refused 15 0) 0
@@ -188,7 +190,7 @@ premises_kept = refl
 abbrev pub given : Needed → List ℕ
 given x = unit (length x.frame) x.cells
 
-pub given_stop : map (λ (x : Needed). (charge_answer (given x) x.frame x.limit x.tariff).stop) needed ≡ map (λ (x : Needed). x.stop) needed
+pub given_stop : map (λ (x : Needed). (charge_answer (given x) x.frame x.limit x.tariff).stop) needed ≡ map (λ (x : Needed). Ok x.stop) needed
 unfolding desk unit bytes_of metadata_of numbers
 given_stop = refl
 

@@ -1,13 +1,15 @@
 -- Document 02, L6: runs at the desk, computed. A table of runs and one of whole units' answers, and one theorem for each.
 -- Assumes nothing.
-use Rattle.std.specs.Prelude.{◌≡◌, refl, List, [], ◌∷◌, map, ℕ, replicate, length}
+use Rattle.std.specs.Prelude.{Ok, Result, ◌≡◌, refl, List, [], ◌∷◌, map, ℕ, replicate, length}
 use Rattle.instruction.specs.Opcode as op
 use Rattle.unit.specs.Entry.{type_value}
+use Rattle.unit.specs.Refusal.{Refused}
+use Rattle.unit.specs.declared.refusal.Refusal.{Refusal}
 use Rattle.effects.specs.Shape.{Sections, Cell, tables_of}
 use Rattle.desk.specs.declared.Stop.{Stop}
-use Rattle.desk.specs.declared.Stop.TheVariants.{Returned, Panicked, Ended, Other, Limit, Refused}
+use Rattle.desk.specs.declared.Stop.TheVariants.{Returned, Panicked, Ended, Other, Limit}
 use Rattle.desk.specs.Desk.{stopped_with, run_from}
-use Rattle.desk.specs.Answer.{desk_answer}
+use Rattle.desk.specs.Answer.{answered_with, desk_answer}
 use Rattle.examples.specs.Computed.{desk}
 use Rattle.examples.specs.Unit.{load_int, jump, jump_if, three, return, bytes_of, metadata_of, numbers, unit}
 
@@ -53,12 +55,12 @@ pub desk_runs : map (λ (x : Case). run_from (sections x) x.cells x.limit 0 x.fr
 unfolding desk
 desk_runs = refl
 
--- a unit's bytes, a frame and a limit; how the run stops, and the frame then
+-- a unit's bytes, a frame and a limit; how the run stops or why it is refused, and the frame then
 pub record UnitCase : Type 0 where
   pub unit : List ℕ
   pub frame : List ℕ
   pub limit : ℕ
-  pub stop : Stop
+  pub stop : Result Stop Refusal
   pub after : List ℕ
 
 abbrev pub unit_cases : List UnitCase
@@ -66,7 +68,7 @@ unit_cases =
     -- a function of one instruction is looked at too
     record { unit = unit 0 (return 0 1 ∷ []); frame = []; limit = 9; stop = Refused 7 0; after = [] }
     -- a branch to n is not refused, one past it is, reached or not
-    ∷ record { unit = unit 1 (jump 2 ∷ return 0 1 ∷ []); frame = 4 ∷ []; limit = 9; stop = Ended; after = 4 ∷ [] }
+    ∷ record { unit = unit 1 (jump 2 ∷ return 0 1 ∷ []); frame = 4 ∷ []; limit = 9; stop = Ok Ended; after = 4 ∷ [] }
     ∷ record { unit = unit 1 (jump 2 ∷ jump_if 0 10 ∷ []); frame = 4 ∷ []; limit = 9; stop = Refused 8 1; after = 4 ∷ [] }
     -- 12 for a frame too short or too long, and after 8
     ∷ record { unit = unit 1 (return 0 1 ∷ []); frame = []; limit = 9; stop = Refused 12 0; after = [] }
@@ -75,10 +77,10 @@ unit_cases =
     -- bytes that are no unit
     ∷ record { unit = []; frame = 4 ∷ []; limit = 9; stop = Refused 1 0; after = 4 ∷ [] }
     -- "(a and 0 for none)"
-    ∷ record { unit = unit 0 (return 65535 0 ∷ []); frame = []; limit = 1; stop = Returned 65535 0; after = [] }
-    ∷ record { unit = unit 0 []; frame = []; limit = 0; stop = Ended; after = [] }
+    ∷ record { unit = unit 0 (return 65535 0 ∷ []); frame = []; limit = 1; stop = Ok (Returned 65535 0); after = [] }
+    ∷ record { unit = unit 0 []; frame = []; limit = 0; stop = Ok Ended; after = [] }
     ∷ []
 
-pub desk_answers : map (λ (x : UnitCase). desk_answer x.unit x.frame x.limit) unit_cases ≡ map (λ (x : UnitCase). stopped_with x.stop x.after) unit_cases
+pub desk_answers : map (λ (x : UnitCase). desk_answer x.unit x.frame x.limit) unit_cases ≡ map (λ (x : UnitCase). answered_with x.stop x.after) unit_cases
 unfolding desk unit bytes_of metadata_of numbers
 desk_answers = refl

@@ -1,10 +1,9 @@
 -- Equal runs can be false: pairs of small functions of which they are refuted. One table, and one theorem for it.
 -- Assumes nothing.
-use Rattle.std.specs.Prelude.{◌≡◌, refl, Bool, true, false, ◌&&◌, ◌||◌, not, List, [], ◌∷◌, map, ℕ, zero, suc, ◌≤◌, eqb, length, replicate}
+use Rattle.std.specs.Prelude.{Option, None, Some, ◌≡◌, refl, Bool, true, false, ◌&&◌, ◌||◌, not, List, [], ◌∷◌, map, ℕ, zero, suc, ◌≤◌, eqb, length, replicate}
 use Rattle.std.proofs.Common.{sym, ap, ◌∙◌, true≢false, arith, eq-eqb, eqb-true}
 use Rattle.std.proofs.lemmas.Bool.{false≢true, eqb-false, not-true}
 use Rattle.std.proofs.Math.Bool.{or-true}
-use Rattle.std.proofs.Math.Option.{Option, none, some}
 use Rattle.words.specs.laws.Truth.{left_true, right_true}
 use Rattle.instruction.specs.Opcode as op
 use Rattle.instruction.specs.Instruction.{plain, with_imm32}
@@ -39,11 +38,11 @@ event_numbers e =
 
 -- 0 as long as the run has not ended
 unfoldable pub way_number : Option Way → ℕ
-way_number none = 0
-way_number (some by_return) = 1
-way_number (some by_panic) = 2
-way_number (some by_reply) = 3
-way_number (some by_code) = 4
+way_number None = 0
+way_number (Some by_return) = 1
+way_number (Some by_panic) = 2
+way_number (Some by_reply) = 3
+way_number (Some by_code) = 4
 
 unfoldable pub seen : Option Way → List Event → List (List ℕ)
 seen w R = (way_number w ∷ []) ∷ map event_numbers R
@@ -104,8 +103,8 @@ refuted F G k d s = go (way_of (program_of F world) (after_steps F k)) refl
     unseen = not-true (is_seen (seen_after F k) G k) (right_true (has_ended F k) (not (is_seen (seen_after F k) G k)) d)
 
     go : (w : Option Way) → way_of (program_of F world) (after_steps F k) ≡ w → ⊥
-    go none e = let z : false ≡ true = rw e at (left_true (has_ended F k) (not (is_seen (seen_after F k) G k)) d) in true≢false (sym z)
-    go (some w) e =
+    go None e = let z : false ≡ true = rw e at (left_true (has_ended F k) (not (is_seen (seen_after F k) G k)) d) in true≢false (sym z)
+    go (Some w) e =
         let r = (s.runs world zeros).ends k w e in
         let same : seen_after G r.0 ≡ seen_after F k = rw (r.2, r.3, e) in
         true≢false (sym (is_seen_lem (seen_after F k) G k r.0 r.1 same) ∙ unseen)
@@ -238,18 +237,18 @@ loops : step world (program_of endless world) (start zeros) ≡ start zeros
 unfolding runs
 loops = refl
 
-goes_on_lem : way_of (program_of endless world) (start zeros) ≡ none
+goes_on_lem : way_of (program_of endless world) (start zeros) ≡ None
 unfolding runs
 goes_on_lem = refl
 
-returns : way_of (program_of returning world) (after (system world (program_of returning world)) 1 (start zeros)) ≡ some by_return
+returns : way_of (program_of returning world) (after (system world (program_of returning world)) 1 (start zeros)) ≡ Some by_return
 unfolding runs
 returns = refl
 
 pub endless_differs : SameRuns (program_of endless) (program_of returning) → ⊥
 endless_differs s =
     let r = (s.runs world zeros).ends⁻ 1 by_return returns in
-    let still : way_of (program_of endless world) (start zeros) ≡ some by_return = rw (stands (system world (program_of endless world)) (start zeros) loops r.0) at r.1 in
+    let still : way_of (program_of endless world) (start zeros) ≡ Some by_return = rw (stands (system world (program_of endless world)) (start zeros) loops r.0) at r.1 in
     let z : ◌≡◌ {A = ℕ} 0 1 = cc (goes_on_lem) in
     omega arith
 

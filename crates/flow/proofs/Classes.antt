@@ -1,32 +1,13 @@
 -- What an arm of a `match` on a class knows: the class is one of those with the arm's tags, which are the classes' numbers.
 -- Assumes nothing.
-use Rattle.std.proofs.Common.{◌≡◌, ℕ, Bool, true, ◌&&◌, List, [], ◌∷◌, sym, refl, ap, ◌∙◌, inl, inr}
+use Rattle.std.proofs.Common.{◌≡◌, ℕ, Bool, true, ◌&&◌, List, [], ◌∷◌, sym, ap, ◌∙◌, inl, inr}
 use types.Run.{OneOf}
 use denote.Enum.Declared.{tag_of}
 use Rattle.words.specs.laws.Truth.{both}
 use Rattle.instruction.specs.contracts.Class.{the_type}
 use Rattle.instruction.specs.declared.Class.{Class}
-use Rattle.instruction.specs.declared.Class.TheVariants.{Hint, LoadInt, LoadConst, Copy, CopyN, Unary, Binary, Jump, JumpIf, JumpIfNot, ForLoop, Return, Panic, Outside, Invalid}
-use Rattle.instruction.specs.Class.{number_of, named_class}
-use Rattle.instruction.specs.laws.Class.{named_number}
-
-pub tag : (x : Class) → number_of x ≡ tag_of the_type x
-unfolding number_of
-tag Hint = refl
-tag LoadInt = refl
-tag LoadConst = refl
-tag Copy = refl
-tag CopyN = refl
-tag Unary = refl
-tag Binary = refl
-tag Jump = refl
-tag JumpIf = refl
-tag JumpIfNot = refl
-tag ForLoop = refl
-tag Return = refl
-tag Panic = refl
-tag Outside = refl
-tag Invalid = refl
+use Rattle.instruction.specs.Class.{named_class}
+use Rattle.instruction.specs.laws.Class.{named_number, tag}
 
 pub of_tag : (x : Class) (k : ℕ) → tag_of the_type x ≡ k → x ≡ named_class k
 of_tag x k e = sym (named_number x) ∙ ap named_class (tag x ∙ e)

@@ -6,7 +6,7 @@ use Rattle.instruction.specs.declared.Class.{Class}
 use Rattle.instruction.specs.declared.Class.TheVariants.{Hint, LoadInt, LoadConst, Copy, CopyN, Unary, Binary, Jump, JumpIf, JumpIfNot, ForLoop, Return, Panic, Outside, Invalid}
 use Rattle.instruction.specs.Instruction.{imm32, for_loop_distance, class}
 use Rattle.unit.specs.Refusal.{branch_outside}
-use Rattle.effects.specs.declared.Check.{Check}
+use Rattle.effects.specs.Check.{Check}
 use Rattle.effects.specs.Shape.{Cell}
 use Rattle.effects.specs.Check.{lowest}
 

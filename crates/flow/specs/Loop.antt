@@ -7,7 +7,7 @@ use Rattle.instruction.specs.declared.Instruction.{Instruction}
 use Rattle.instruction.specs.Instruction.{imm32_unsigned, class}
 use Rattle.unit.specs.Refusal.{unsound_loop}
 use Rattle.unit.specs.Entry.{kind_loop_end}
-use Rattle.effects.specs.declared.Check.{Check}
+use Rattle.effects.specs.Check.{Check}
 use Rattle.effects.specs.Shape.{Cell, cell_at}
 use Rattle.effects.specs.Check.{lowest}
 use Rattle.flow.specs.Branch.{falls, branches, target}

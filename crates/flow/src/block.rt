@@ -12,9 +12,8 @@ ghost use Rattle.flow.specs.laws.Marks.{Marked};
 ghost use Rattle.flow.specs.Reach.{mark_all};
 
 use crate::{branch, mark};
-use instruction::{Instruction, opcode};
+use instruction::Instruction;
 use unit::region;
-use words::fill;
 
 // Marks the leaders that the instruction at place p makes: its target, and the place after it. A branch ends its block.
 fn mark_starts(marks: &mut [u32], p: usize, i: Instruction)
@@ -24,8 +23,8 @@ fn mark_starts(marks: &mut [u32], p: usize, i: Instruction)
     if !branch::ends_block(i.op) {
         return;
     }
-    let k = opcode::class_number(i.op);
-    mark::mark_if(marks, branch::branches(k) == 1, branch::target(p, i));
+    let class = i.class();
+    mark::mark_if(marks, branch::branches(class) == 1, branch::target(p, i));
     mark::mark_if(marks, true, p as u64 + 1);
 }
 
@@ -35,13 +34,11 @@ pub fn mark_leaders(words: &[u64], list: &[u64], marks: &mut [u32])
         × (length marks.old ≡ length words.now) × Controls words.now list.now (length words.now) }
     ensures { (metadata : List ℕ) → marks.new ≡ leaders (cells_by words.now metadata) }
 {
-    fill::zero_u32(marks);
+    marks.fill(0);
     marks[0] = 1;
-    let mut k: usize = 0;
-    while k < list.len() {
-        let p = list[k] as usize;
+    for place in list {
+        let p = *place as usize;
         mark_starts(marks, p, Instruction::from_word(words[p]));
-        k += 1;
     }
 }
 
@@ -54,13 +51,11 @@ pub fn number_blocks(work: &mut [u32], n: usize) -> usize
 {
     let starts = region::starts_at(n);
     let mut count: usize = 0;
-    let mut p: usize = 0;
-    while p < n {
+    for p in 0..n {
         // Stored over again, unless p is a leader.
         work[starts + count] = p as u32;
         count += work[p] as usize;
         work[n + p] = (count - 1) as u32;
-        p += 1;
     }
     work[starts + count] = n as u32;
     count

@@ -1,62 +1,58 @@
 // Branches and their targets.
 ghost use Rattle.std.specs.Prelude.{◌≡◌, ℕ, ◌^◌, ◌<◌, true, List, length, if◌then◌else◌};
-ghost use Rattle.unit.specs.Refusal.{branch_outside};
+ghost use Rattle.unit.specs.Refusal.{branch_outside, test_number};
 ghost use Rattle.effects.specs.laws.Cells.{cells_by};
 ghost use mir.Val.{bool_byte};
-ghost use Rattle.instruction.specs.Class.{class_of, number_of};
+ghost use Rattle.instruction.specs.Class.{class_of};
 ghost use Rattle.instruction.specs.Instruction.{class, imm32, for_loop_distance};
-ghost use Rattle.instruction.specs.declared.Class.{Class};
 ghost use Rattle.flow.specs.Branch.{falls, branches, target, branch_inside, branch_check};
 ghost use Rattle.flow.specs.Block.{ends_block};
 ghost use Rattle.flow.specs.laws.Control.{Controls};
 
-use effects::Check;
-use instruction::{Instruction, number, opcode};
-use unit::refusal;
+use effects::branching;
+use instruction::{Class, Instruction, opcode};
+use unit::refusal::{Reason, Refusal};
 
-// Sets of classes, as bits by their numbers: all but Jump, Return, Panic and Invalid go on to the next place.
-const FALLING: u64 = (1 << number::INVALID)
+// Sets of classes, as bits by their places in `Class`: all but Jump, Return, Panic and Invalid go on to the next place.
+const FALLING: u64 = (1 << Class::Invalid as u64)
     - 1
-    - (1 << number::JUMP)
-    - (1 << number::RETURN)
-    - (1 << number::PANIC);
+    - (1 << Class::Jump as u64)
+    - (1 << Class::Return as u64)
+    - (1 << Class::Panic as u64);
 
-const BRANCHES: u64 = (1 << number::JUMP)
-    | (1 << number::JUMP_IF)
-    | (1 << number::JUMP_IF_NOT)
-    | (1 << number::FOR_LOOP);
+const BRANCHES: u64 = (1 << Class::Jump as u64)
+    | (1 << Class::JumpIf as u64)
+    | (1 << Class::JumpIfNot as u64)
+    | (1 << Class::ForLoop as u64);
 
 // Does a block end after an instruction of that opcode? Most end none, and the number tells it fastest: Jump, JumpIf, JumpIfNot,
 // Return, Panic and ForLoop do.
 pub fn ends_block(op: u8) -> bool
     ensures { result ≡ ends_block (class_of op) }
 {
-    match op {
+    matches!(
+        op,
         opcode::JUMP
-        | opcode::JUMP_IF
-        | opcode::JUMP_IF_NOT
-        | opcode::RETURN
-        | opcode::PANIC
-        | opcode::FOR_LOOP => true,
-        _ => false,
-    }
+            | opcode::JUMP_IF
+            | opcode::JUMP_IF_NOT
+            | opcode::RETURN
+            | opcode::PANIC
+            | opcode::FOR_LOOP
+    )
 }
 
-// 1 if the next step may be at the next place, by the number of the class: a bit of a constant, so that the processor has no branch to
-// predict.
-pub fn falls(k: u64) -> u64
-    requires { k < 15 }
-    ensures { (x : Class) → k ≡ number_of x → result ≡ bool_byte (falls x) }
+// 1 if the next step may be at the next place, by its class: a bit of a constant, so that the processor has no branch to predict.
+pub fn falls(c: Class) -> u64
+    ensures { result ≡ bool_byte (falls c) }
 {
-    (FALLING >> k) % 2
+    (FALLING >> c as u64) % 2
 }
 
 // 1 if it may be at a branch's target.
-pub fn branches(k: u64) -> u64
-    requires { k < 15 }
-    ensures { (x : Class) → k ≡ number_of x → result ≡ bool_byte (branches x) }
+pub fn branches(c: Class) -> u64
+    ensures { result ≡ bool_byte (branches c) }
 {
-    (BRANCHES >> k) % 2
+    (BRANCHES >> c as u64) % 2
 }
 
 // The distance of a branch from its place, or of ForLoop from the next place.
@@ -68,14 +64,14 @@ fn distance(i: Instruction, looped: bool) -> u64
     if looped { near } else { far }
 }
 
-// The target of a branch at place p, by the number of its class; of what is no branch the answer is free.
-pub fn branch_target(p: usize, i: Instruction, k: u64) -> u64
-    requires { (p < 2 ^ 32) × (k ≡ number_of (class i)) }
+// The target of a branch at place p, by its class; of what is no branch the answer is free.
+pub fn branch_target(p: usize, i: Instruction, c: Class) -> u64
+    requires { (p < 2 ^ 32) × (c ≡ class i) }
     ensures { branches (class i) ≡ true → result ≡ target p i }
 {
-    let looped = k == number::FOR_LOOP;
+    let looped = branching::is_loop(c);
     let from = (p as u64) + (looped as u64);
-    std::num::wrapping_add_u64(from, distance(i, looped))
+    from.wrapping_add(distance(i, looped))
 }
 
 // Of what is no branch, the next place.
@@ -83,44 +79,41 @@ pub fn target(p: usize, i: Instruction) -> u64
     requires { p < 2 ^ 32 }
     ensures { result ≡ target p i }
 {
-    let k = opcode::class_number(i.op);
-    if branches(k) == 1 {
-        return branch_target(p, i, k);
+    let class = i.class();
+    if branches(class) == 1 {
+        return branch_target(p, i, class);
     }
     p as u64 + 1
 }
 
-// Refusal 8 of one instruction, at place p, or 0: a branch may go to the places below n, whatever n is.
-pub fn branch_refusal(n: usize, p: usize, i: Instruction) -> u32
+// Why the instruction at place p is refused: a branch may go to the places below n, whatever n is.
+pub fn branch_refusal(n: usize, p: usize, i: Instruction) -> Option<Reason>
     requires place { p < 2 ^ 32 }
-    ensures refusal { result ≡ (if branch_inside n p i then 0 else branch_outside) }
+    ensures refusal { test_number result ≡ (if branch_inside n p i then 0 else branch_outside) }
 {
     if !ends_block(i.op) {
-        return 0;
+        return None;
     }
-    let k = opcode::class_number(i.op);
-    if branches(k) == 1 {
-        if branch_target(p, i, k) >= n as u64 {
-            return refusal::BRANCH_OUTSIDE;
+    let class = i.class();
+    if branches(class) == 1 {
+        if branch_target(p, i, class) >= n as u64 {
+            return Some(Reason::BranchOutside);
         }
     }
-    0
+    None
 }
 
 // Refusal 8, by the list of the control places. The metadata of the cells plays no part.
-pub fn check_branches(words: &[u64], list: &[u64]) -> Check
+pub fn check_branches(words: &[u64], list: &[u64]) -> Result<(), Refusal>
     requires { (length words.now < 2 ^ 32) × Controls words.now list.now (length words.now) }
     ensures { (metadata : List ℕ) → result ≡ branch_check (cells_by words.now metadata) }
 {
     let n = words.len();
-    let mut k: usize = 0;
-    while k < list.len() {
-        let p = list[k] as usize;
-        let r = branch_refusal(n, p, Instruction::from_word(words[p]));
-        if r != 0 {
-            return Check::Refused(r, p as u32);
+    for place in list {
+        let p = *place as usize;
+        if let Some(reason) = branch_refusal(n, p, Instruction::from_word(words[p])) {
+            return Err(reason.at(p as u32));
         }
-        k += 1;
     }
-    Check::Passed
+    Ok(())
 }

@@ -2,6 +2,7 @@
 ghost use Rattle.std.specs.Prelude.{◌≡◌, ◌+◌, ◌*◌, ◌^◌, ◌<◌, ◌≤◌, ◌&&◌, [], ◌∷◌, length, if◌then◌else◌, ◌==◌, nat_eq, nat_lt, slice_index};
 ghost use borrow.Rule.Slice.PartMut.{mid_of, put_mid};
 ghost use Rattle.unit.specs.Entry.{kind_loop_end, metadata_at};
+ghost use Rattle.unit.specs.Refusal.{test_number};
 ghost use Rattle.unit.specs.Size.{metadata_size};
 ghost use Rattle.effects.specs.laws.Cells.{cell_of, cells_by};
 ghost use Rattle.flow.specs.laws.Control.{Controls};
@@ -10,10 +11,9 @@ ghost use Rattle.flow.specs.Loop.{is_loop_hint, loop_check, anchors};
 ghost use Rattle.flow.specs.Reach.{mark_all};
 
 use crate::mark;
-use effects::Check;
 use instruction::{Instruction, opcode};
-use unit::{Metadata, entry, refusal};
-use words::fill;
+use unit::refusal::{Reason, Refusal};
+use unit::{Metadata, entry, kind};
 
 pub fn is_loop_hint(i: Instruction) -> bool
     ensures { result ≡ is_loop_hint i }
@@ -25,42 +25,44 @@ pub fn is_loop_hint(i: Instruction) -> bool
 pub fn is_sound(n: usize, d: Metadata) -> bool
     ensures { result ≡ (d.kind == kind_loop_end && nat_lt d.end n) }
 {
-    (d.kind == 15) & ((d.end as usize) < n)
+    (d.kind == kind::LOOP_END) & ((d.end as usize) < n)
 }
 
-// The refusal of the instruction at place p, or 0.
-fn loop_refusal(words: &[u64], metadata: &[u8], marks: &[u32], p: usize) -> u32
+// Why the instruction at place p is refused.
+fn loop_refusal(words: &[u64], metadata: &[u8], marks: &[u32], p: usize) -> Option<Reason>
     requires { (p < length words.now) × (metadata_size * length words.now ≤ length metadata.now)
         × (length marks.now ≡ length words.now) }
-    ensures { result ≡ loop_test marks.now (length words.now) p (cell_of metadata.now p (slice_index words.now p)) }
+    ensures { test_number result ≡ loop_test marks.now (length words.now) p (cell_of metadata.now p (slice_index words.now p)) }
 {
     if !is_loop_hint(Instruction::from_word(words[p])) {
-        return 0;
+        return None;
     }
     if marks[p] == 1 {
         if !is_sound(words.len(), entry::metadata(metadata, p)) {
-            return refusal::UNSOUND_LOOP;
+            return Some(Reason::UnsoundLoop);
         }
     }
-    0
+    None
 }
 
 // Refusal 9, of the places that are reached, by the list of the control places.
-pub fn check_loops(words: &[u64], list: &[u64], metadata: &[u8], marks: &[u32]) -> Check
+pub fn check_loops(
+    words: &[u64],
+    list: &[u64],
+    metadata: &[u8],
+    marks: &[u32],
+) -> Result<(), Refusal>
     requires { (length words.now < 2 ^ 32) × (metadata_size * length words.now ≤ length metadata.now)
         × (length marks.now ≡ length words.now) × Controls words.now list.now (length words.now) }
     ensures { result ≡ loop_check marks.now (cells_by words.now metadata.now) }
 {
-    let mut k: usize = 0;
-    while k < list.len() {
-        let p = list[k] as usize;
-        let r = loop_refusal(words, metadata, marks, p);
-        if r != 0 {
-            return Check::Refused(r, p as u32);
+    for place in list {
+        let p = *place as usize;
+        if let Some(reason) = loop_refusal(words, metadata, marks, p) {
+            return Err(reason.at(p as u32));
         }
-        k += 1;
     }
-    Check::Passed
+    Ok(())
 }
 
 // Marks the end of a reached loop hint.
@@ -83,13 +85,11 @@ pub fn mark_anchors(words: &[u64], list: &[u64], metadata: &[u8], work: &mut [u3
 {
     let n = words.len();
     let end = at + n;
-    fill::zero_u32(&mut work[at..end]);
-    let mut k: usize = 0;
-    while k < list.len() {
-        let p = list[k] as usize;
+    work[at..end].fill(0);
+    for place in list {
+        let p = *place as usize;
         let reached = work[p];
         let i = Instruction::from_word(words[p]);
         mark_end(metadata, &mut work[at..end], reached, p, i);
-        k += 1;
     }
 }

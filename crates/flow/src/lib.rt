@@ -7,10 +7,3 @@ pub mod control;
 pub mod hint;
 mod mark;
 pub mod reach;
-
-// What the check of all operands answers: the number and place of a refusal, or how many control places it listed.
-#[derive(Clone, Copy)]
-pub enum Listing {
-    Refused(u32, u32),
-    Listed(usize),
-}

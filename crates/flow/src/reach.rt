@@ -10,9 +10,8 @@ ghost use Rattle.flow.specs.laws.Successors.{near_successors, loop_successors_of
 
 use crate::{branch, hint};
 use effects::operands::MAX_VALID;
-use instruction::{Instruction, opcode};
+use instruction::Instruction;
 use unit::{entry, region};
-use words::fill;
 
 // The number v goes onto the stack, if it is to and is a place. The result is the stack's new height.
 fn push_if(stack: &mut [u32], n: usize, sp: usize, when: bool, v: u64) -> usize
@@ -33,13 +32,13 @@ fn push_near(stack: &mut [u32], n: usize, sp: usize, p: usize, i: Instruction) -
     requires { (n < 2 ^ 32) × (p < n) × (sp + 2 ≤ length stack.old) }
     ensures { Pushed n sp (near_successors p i) stack.old stack.new result }
 {
-    let k = opcode::class_number(i.op);
-    let next = push_if(stack, n, sp, branch::falls(k) == 1, p as u64 + 1);
+    let class = i.class();
+    let next = push_if(stack, n, sp, branch::falls(class) == 1, p as u64 + 1);
     push_if(
         stack,
         n,
         next,
-        branch::branches(k) == 1,
+        branch::branches(class) == 1,
         branch::target(p, i),
     )
 }
@@ -120,7 +119,7 @@ pub fn mark_reached(words: &[u64], metadata: &[u8], work: &mut [u32])
     ensures { (mid_of 0 (length words.now) work.new ≡ reached_places (cells_by words.now metadata.now)) × (work.new ≡ put_mid 0 (stack_end (length words.now)) work.old (mid_of 0 (stack_end (length words.now)) work.new)) }
 {
     let n = words.len();
-    fill::zero_u32(&mut work[0..n]);
+    work[0..n].fill(0);
     work[n] = 0;
     let mut sp: usize = 1;
     while sp > 0 {

@@ -6,7 +6,6 @@ ghost use borrow.Rule.Slice.PartMut.{put_mid};
 ghost use Rattle.words.specs.Le.{to_le};
 ghost use Rattle.instruction.specs.Instruction.{instruction_at, to_word, of_word, imm32, imm32_unsigned, with_imm32, plain, class, for_loop_distance, static_call_func_id, call_shape_is_closure, call_shape_static_func_id};
 
-pub mod number;
 pub mod opcode;
 
 // What an instruction is to the optimizer.
@@ -71,18 +70,16 @@ impl Instruction {
     pub fn imm32(self) -> u64
         ensures { result ≡ imm32 self }
     {
-        words::word::sign_extend_32(self.imm32_unsigned())
+        words::word::sign_extend::<32>(self.imm32_unsigned() as u64)
     }
 
     pub fn with_imm32(self, v: u32) -> Self
         ensures { result ≡ with_imm32 self v }
     {
         Instruction {
-            op: self.op,
-            flags: self.flags,
-            a: self.a,
             b: (v % 65536) as u16,
             c: (v / 65536) as u16,
+            ..self
         }
     }
 
@@ -103,7 +100,7 @@ impl Instruction {
     pub fn for_loop_distance(self) -> u64
         ensures { result ≡ for_loop_distance self }
     {
-        words::word::sign_extend_16(self.c)
+        words::word::sign_extend::<16>(self.c as u64)
     }
 
     pub fn static_call_func_id(self) -> u32

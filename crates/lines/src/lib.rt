@@ -19,14 +19,12 @@ fn boundary(places: &[u8], q: usize, p: u32) -> usize
     ensures { (q ≤ result) × (result ≤ length places.now / place_size) × (Rising (places_in places.now) → q ≤ below (places_in places.now) p → result ≡ below (places_in places.now) p) }
 {
     let k = places.len() / size::PLACE;
-    let mut b = q;
-    while b < k {
+    for b in q..k {
         if le::read_u32(places, size::PLACE * b) >= p {
             return b;
         }
-        b += 1;
     }
-    b
+    k
 }
 
 // Where the next of `count` entries goes, that lands on b: "the later supersedes the earlier", which landed on q.
@@ -49,8 +47,7 @@ fn write_entries(lines: &[u8], out: &mut [u8], k: usize) -> usize
     let at = result::lines_at(k);
     let mut q: usize = 0;
     let mut count: usize = 0;
-    let mut j: usize = 0;
-    while j < l {
+    for j in 0..l {
         let e = entry::line(lines, j);
         let b = boundary(&out[old..at], q, e.place);
         if b == k {
@@ -67,7 +64,6 @@ fn write_entries(lines: &[u8], out: &mut [u8], k: usize) -> usize
         );
         q = b;
         count = i + 1;
-        j += 1;
     }
     count
 }

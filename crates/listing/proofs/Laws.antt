@@ -1,5 +1,6 @@
 -- Laws of the text: the lines of a result, the answers, and what is written of what is read.
 -- Assumes nothing.
+use Rattle.std.specs.Prelude.{Ok, Err, Result}
 use Rattle.std.proofs.Common.{◌≡◌, ap, sym, subst, refl, ◌∙◌, ◌⊎◌, inl, inr, None, Some, IfSome, OnOk, Option, Result, Ok, Err, cond, List, [], ◌++◌, ℕ, ◌+◌, ◌*◌, ◌-◌, ◌≤◌, ◌<◌, ltb, length, take, drop, set, replicate, zero, suc, ◌/◌, ◌%◌, arith, length-append, length-drop, length-take-le, le-leb, lt-ltb, le-ltb, append-nil}
 use Rattle.std.proofs.lemmas.Bool.{lt-leb}
 use Rattle.std.proofs.Math.Nat.{eq-or-lt_of_le}
@@ -15,8 +16,9 @@ use Rattle.unit.specs.declared.Line.{Line}
 use Rattle.unit.specs.Size.{result_header_size, result_size}
 use Rattle.answer.specs.Pass.{Outcome, unchanged, refused, rewritten, output_after}
 use Rattle.answer.specs.Answer.{Lent, lent_of, pass_answer, pass_lines}
+use Rattle.unit.specs.declared.refusal.Refusal.{Refusal}
+use Rattle.unit.specs.Refusal.{Refused}
 use Rattle.optimize.specs.declared.Answer.{Answer}
-use Rattle.optimize.specs.declared.Answer.TheVariants.{Refused}
 use Rattle.optimize.specs.PassAnswer.{answer_of}
 use Rattle.listing.specs.laws.Puts.{Puts, Fits, puts_none, puts_one, puts_long, puts_then, puts_text}
 use Rattle.listing.specs.Text.{decimal, ended, fields, line, text_of, listing_with, listing}
@@ -74,7 +76,7 @@ pub listed : {end : ℕ} {xs text text' : List ℕ} (u : List ℕ) → xs ≡ li
 listed u e p = (puts_text p).2 ∙ e
 
 -- the text of what a pass tells
-pub outcome_puts : (u out out' : List ℕ) (l : Lent) {r : Answer} {text text' : List ℕ} {end : ℕ} → r ≡ answer_of (pass_answer u l) → out' ≡ output_after (pass_answer u l) (pass_lines u l) out
+pub outcome_puts : (u out out' : List ℕ) (l : Lent) {r : Result Answer Refusal} {text text' : List ℕ} {end : ℕ} → r ≡ answer_of (pass_answer u l) → out' ≡ output_after (pass_answer u l) (pass_lines u l) out
     → Puts 0 (text_of r out') text text' end → Puts 0 (listing_with u out l) text text' end
 unfolding listing_with
 outcome_puts u out out' l e w p = rw (e, w) at p

@@ -1,6 +1,6 @@
 -- Definitions. What the listing program prints: "in decimal, the answer and then new place, old place, op, flags, a, b, c".
 -- Assumes nothing.
-use Rattle.std.specs.Prelude.{cond, List, [], ◌∷◌, ◌++◌, ℕ, zero, suc, ◌+◌, ◌*◌, ◌/◌, ◌%◌, ltb, leb, length, drop, replicate}
+use Rattle.std.specs.Prelude.{Ok, Err, Result, cond, List, [], ◌∷◌, ◌++◌, ℕ, zero, suc, ◌+◌, ◌*◌, ◌/◌, ◌%◌, ltb, leb, length, drop, replicate}
 use Rattle.words.specs.Le.{u32_at}
 use Rattle.instruction.specs.declared.Instruction.{Instruction}
 use Rattle.instruction.specs.Instruction.{instruction_at}
@@ -9,8 +9,10 @@ use Rattle.unit.specs.Result.{result_places_at}
 use Rattle.unit.specs.Size.{result_header_size}
 use Rattle.answer.specs.Answer.{Lent, lent_of, pass_answer, pass_lines}
 use Rattle.answer.specs.Pass.{output_after}
+use Rattle.unit.specs.declared.refusal.Refusal.{Refusal}
+use Rattle.unit.specs.Refusal.{Refused}
 use Rattle.optimize.specs.declared.Answer.{Answer}
-use Rattle.optimize.specs.declared.Answer.TheVariants.{Unchanged, Refused, Rewritten}
+use Rattle.optimize.specs.declared.Answer.TheVariants.{Unchanged, Rewritten}
 use Rattle.optimize.specs.PassAnswer.{answer_of}
 
 -- the decimal digits of v, the last k if it has more
@@ -58,10 +60,10 @@ unfoldable pub rewritten_text : List ℕ
 rewritten_text = 114 ∷ 101 ∷ 119 ∷ 114 ∷ 105 ∷ 116 ∷ 116 ∷ 101 ∷ 110 ∷ 32 ∷ []
 
 -- the text of an answer and of the output after it
-unfoldable pub text_of : Answer → List ℕ → List ℕ
-text_of Unchanged out = unchanged_text
-text_of (Refused k p) out = refused_text ++ ended k space ++ ended p newline
-text_of (Rewritten n) out = rewritten_text ++ ended n newline ++ lines out n n
+unfoldable pub text_of : Result Answer Refusal → List ℕ → List ℕ
+text_of (Ok Unchanged) out = unchanged_text
+text_of (Err r) out = refused_text ++ ended r.number space ++ ended r.place newline
+text_of (Ok (Rewritten n)) out = rewritten_text ++ ended n newline ++ lines out n n
 
 -- the text of one pass with lent buffers, the output as it was before
 unfoldable pub listing_with : List ℕ → List ℕ → Lent → List ℕ

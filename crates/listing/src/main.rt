@@ -7,10 +7,10 @@ ghost use Rattle.answer.specs.Answer.{lent_of};
 ghost use Rattle.listing.specs.Text.{listing, listing_with};
 ghost use Rattle.listing.specs.laws.Puts.{Puts};
 
-use optimize::{Answer, pass};
+use optimize::pass;
 use std::io;
 use std::io::{Read, Write};
-use unit::refusal;
+use unit::refusal::Reason;
 
 mod text;
 
@@ -38,7 +38,7 @@ fn list(unit: &[u8], text: &mut [u8; 65536]) -> usize
 {
     let mut out = [0u8; 8192];
     if unit.len() > 2048 {
-        return text::put_answer(text, Answer::Refused(refusal::SHORT_BUFFER, 0), &out);
+        return text::put_answer(text, Err(Reason::ShortBuffer.at(0)), &out);
     }
     let mut work32 = [0u32; 4096];
     let mut work64 = [0u64; 8192];

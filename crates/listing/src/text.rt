@@ -5,6 +5,7 @@ ghost use Rattle.listing.specs.laws.Puts.{Puts, Listed, Fits};
 
 use instruction::Instruction;
 use optimize::Answer;
+use unit::refusal::Refusal;
 use unit::{result, size};
 use words::le;
 
@@ -12,12 +13,9 @@ fn put_bytes(text: &mut [u8], at: usize, s: &[u8]) -> usize
     requires { at + length s.now ≤ length text.old }
     ensures { Puts at s.now text.old text.new result }
 {
-    let mut i = 0;
-    while i < s.len() {
-        text[at + i] = s[i];
-        i += 1;
-    }
-    at + i
+    let end = at + s.len();
+    text[at..end].copy_from_slice(s);
+    end
 }
 
 // The decimal digits of a number, the last k if it has more.
@@ -82,27 +80,25 @@ fn put_lines(text: &mut [u8], at: usize, out: &[u8], n: usize) -> usize
     ensures { Puts at (lines out.now n n) text.old text.new result }
 {
     let mut end = at;
-    let mut k = 0;
-    while k < n {
+    for k in 0..n {
         end = put_line(text, end, out, n, k);
-        k += 1;
     }
     end
 }
 
-pub fn put_answer(text: &mut [u8], a: Answer, out: &[u8]) -> usize
+pub fn put_answer(text: &mut [u8], a: Result<Answer, Refusal>, out: &[u8]) -> usize
     requires fits { Fits a (length out.now) }
     requires room { 65536 ≤ length text.old }
     ensures { Puts 0 (text_of a out.now) text.old text.new result }
 {
     match a {
-        Answer::Unchanged => put_bytes(text, 0, b"unchanged\n"),
-        Answer::Refused(k, p) => {
+        Ok(Answer::Unchanged) => put_bytes(text, 0, b"unchanged\n"),
+        Err(r) => {
             let at = put_bytes(text, 0, b"refused ");
-            let at = put_number(text, at, k, b' ');
-            put_number(text, at, p, b'\n')
+            let at = put_number(text, at, r.number, b' ');
+            put_number(text, at, r.place, b'\n')
         }
-        Answer::Rewritten(n) => {
+        Ok(Answer::Rewritten(n)) => {
             let at = put_bytes(text, 0, b"rewritten ");
             let at = put_number(text, at, n, b'\n');
             put_lines(text, at, out, n as usize)

@@ -1,7 +1,6 @@
 -- Definitions. "dead pure stores (all slots Value or Float, none live; empty CopyN too)"
 -- Assumes nothing.
-use Rattle.std.specs.Prelude.{Bool, false, cond, not, ◌&&◌, List, [], ◌∷◌, ℕ, suc, ◌+◌, length, get_or}
-use Rattle.std.proofs.Math.Option.{Option, none, some}
+use Rattle.std.specs.Prelude.{Option, None, Some, Bool, false, cond, not, ◌&&◌, List, [], ◌∷◌, ℕ, suc, ◌+◌, length, get_or}
 use Rattle.words.specs.Lists.{every}
 use Rattle.instruction.specs.Class.{is_pure}
 use Rattle.instruction.specs.Instruction.{class}
@@ -39,8 +38,8 @@ module _ (S : Sections) (n : ℕ) (leaders keep : List ℕ) (rows : List Row) wh
 
 -- the kept places without dead stores, or as they were where dead stores are skipped
 unfoldable pub without_dead : Sections → List ℕ → List ℕ → List Cell → Option (List Row) → List ℕ
-without_dead S leaders keep cells none = keep
-without_dead S leaders keep cells (some rows) = (sweep_from S (length cells) leaders keep rows 0 cells).keep
+without_dead S leaders keep cells None = keep
+without_dead S leaders keep cells (Some rows) = (sweep_from S (length cells) leaders keep rows 0 cells).keep
 
 unfoldable pub dead_stores : Sections → List ℕ → List ℕ → List Cell → List ℕ
 dead_stores S leaders keep cells = without_dead S leaders keep cells (live_rows S leaders keep cells)

@@ -1,9 +1,8 @@
 -- Definitions. Live slots. A row tells for each of the s slots whether it is live; there is one row for each block, the slots that are live
 -- where the block starts.
 -- Assumes nothing.
-use Rattle.std.specs.Prelude.{Bool, true, false, cond, not, ◌&&◌, ◌||◌, List, [], ◌∷◌, ◌++◌, ℕ, zero, suc, ◌*◌, ◌/◌, eqb, leb, ltb, length, get_or, set, replicate}
+use Rattle.std.specs.Prelude.{Option, None, Some, Bool, true, false, cond, not, ◌&&◌, ◌||◌, List, [], ◌∷◌, ◌++◌, ℕ, zero, suc, ◌*◌, ◌/◌, eqb, leb, ltb, length, get_or, set, replicate}
 use Rattle.std.specs.Bool.{beq}
-use Rattle.std.proofs.Math.Option.{Option, none, some}
 use Rattle.words.specs.Lists.{map_from}
 use Rattle.instruction.specs.Instruction.{class}
 use Rattle.unit.specs.Size.{set_words, max_set_words}
@@ -78,11 +77,11 @@ module _ (S : Sections) (n : ℕ) (leaders keep : List ℕ) where
 
   -- at most k rounds, "until one changes nothing"
   unfoldable pub solve_in : ℕ → List Cell → List Row → Option (List Row)
-  solve_in zero cells rows = none
+  solve_in zero cells rows = None
   solve_in (suc k) cells rows =
       let next = (round_from 0 cells rows).rows in
       let again = solve_in k cells next in
-      cond (same_rows rows next) (some next) again
+      cond (same_rows rows next) (Some next) again
 
 -- "when liveness work passes 16,777,216: w for each block visited": as many rounds as that allows
 abbrev pub max_liveness_work : ℕ
@@ -94,4 +93,4 @@ live_rows S leaders keep cells =
     let w = set_words S.locals in
     let size = w * block_count leaders in
     let rows = solve_in S (length cells) leaders keep (max_liveness_work / size) cells (replicate (block_count leaders) (no_row S (length cells) leaders keep)) in
-    cond (eqb w 0) none (cond (leb size max_set_words) rows none)
+    cond (eqb w 0) None (cond (leb size max_set_words) rows None)

@@ -2,7 +2,7 @@
 ghost use Rattle.std.specs.Prelude.{◌≡◌, ℕ, ◌+◌, ◌*◌, ◌-◌, ◌≤◌, ◌<◌, length, get_or};
 ghost use borrow.Rule.Slice.PartMut.{mid_of};
 ghost use Rattle.unit.specs.Size.{metadata_size};
-ghost use Rattle.effects.specs.Shape.{tables_of};
+ghost use Rattle.effects.specs.Shape.{tables_in};
 ghost use Rattle.effects.specs.laws.Cells.{cell_of, cells_by};
 ghost use Rattle.pc_map.specs.Boundary.{is_kept};
 ghost use Rattle.use_def.specs.laws.Touched.{Fits};
@@ -12,9 +12,9 @@ ghost use Rattle.liveness.specs.laws.Through.{Placed, Summary};
 ghost use Rattle.liveness.specs.laws.Visit.{Rising, Summed};
 
 use crate::{BlockSets, SetLayout};
-use effects::{branching, single};
+use effects::{Tables, branching, single};
 use instruction::{Instruction, opcode};
-use use_def::{row, touch};
+use use_def::touch;
 
 // A place more, before those that the two sets are of. Most instructions name single slots, and their word tells all.
 fn summarize_place(
@@ -22,14 +22,12 @@ fn summarize_place(
     sets: BlockSets,
     metadata: &[u8],
     keep: &[u32],
-    functions: &[u8],
-    externs: &[u8],
-    cases: &[u8],
+    tables: Tables,
     p: usize,
 )
-    requires fits { BlockFits sets (tables_of functions.now externs.now cases.now)
+    requires fits { BlockFits sets (tables_in tables)
         memory.old metadata.now keep.now (p + 1) }
-    ensures sets { Placed (tables_of functions.now externs.now cases.now)
+    ensures sets { Placed (tables_in tables.entry)
         (is_kept keep.now p) (cell_of metadata.now p (get_or memory.old p 0))
         (mid_of sets.uses sets.width memory.old)
         (mid_of sets.preserved sets.width memory.old)
@@ -45,15 +43,15 @@ fn summarize_place(
     let preserved = sets.preserved;
     let w = sets.width;
     let word = memory[p];
-    let k = opcode::class_number((word % 256) as u8);
-    if single::is_single(k) {
+    let class = opcode::class_of((word % 256) as u8);
+    if single::is_single(class) {
         touch::take_single_write(&mut memory[preserved..preserved + w], word);
-        touch::single_before(&mut memory[uses..uses + w], word, k, true);
+        touch::single_before(&mut memory[uses..uses + w], word, class, true);
         return;
     }
-    if branching::is_branching(k) {
-        touch::take_loop_write(&mut memory[preserved..preserved + w], word, k);
-        touch::branch_before(&mut memory[uses..uses + w], word, k);
+    if branching::is_branching(class) {
+        touch::take_loop_write(&mut memory[preserved..preserved + w], word, class);
+        touch::branch_before(&mut memory[uses..uses + w], word, class);
         return;
     }
     let i = Instruction::from_word(word);
@@ -63,18 +61,9 @@ fn summarize_place(
         i,
         metadata,
         p,
-        functions,
-        externs,
+        tables,
     );
-    touch::live_before(
-        &mut memory[uses..uses + w],
-        i,
-        metadata,
-        p,
-        functions,
-        externs,
-        cases,
-    );
+    touch::live_before(&mut memory[uses..uses + w], i, metadata, p, tables);
 }
 
 // The two sets of the places from start to end.
@@ -83,17 +72,15 @@ fn summarize_block(
     sets: BlockSets,
     metadata: &[u8],
     keep: &[u32],
-    functions: &[u8],
-    externs: &[u8],
-    cases: &[u8],
+    tables: Tables,
     start: usize,
     end: usize,
 )
-    requires fits { BlockFits sets (tables_of functions.now externs.now cases.now)
+    requires fits { BlockFits sets (tables_in tables)
         memory.old metadata.now keep.now end }
     requires places { start ≤ end }
     ensures sets { (n : ℕ) → end ≤ n → n ≤ sets.uses
-        → Summary (tables_of functions.now externs.now cases.now) keep.now
+        → Summary (tables_in tables.entry) keep.now
         (cells_by (mid_of 0 n memory.old) metadata.now)
         (mid_of sets.uses sets.width memory.new)
         (mid_of sets.preserved sets.width memory.new)
@@ -104,12 +91,10 @@ fn summarize_block(
     let uses = sets.uses;
     let preserved = sets.preserved;
     let w = sets.width;
-    row::fill(&mut memory[preserved..preserved + w], u64::MAX);
-    row::fill(&mut memory[uses..uses + w], 0);
-    let mut p = end;
-    while p > start {
-        p -= 1;
-        summarize_place(memory, sets, metadata, keep, functions, externs, cases, p);
+    memory[preserved..preserved + w].fill(u64::MAX);
+    memory[uses..uses + w].fill(0);
+    for p in (start..end).rev() {
+        summarize_place(memory, sets, metadata, keep, tables, p);
     }
 }
 
@@ -119,29 +104,21 @@ pub fn summarize(
     sets: SetLayout,
     metadata: &[u8],
     keep: &[u32],
-    functions: &[u8],
-    externs: &[u8],
-    cases: &[u8],
+    tables: Tables,
     starts: &[u32],
 )
-    requires { LayoutFits sets (length memory.old) × (sets.count < length starts.now) × Rising starts.now sets.count sets.code × (metadata_size * sets.code ≤ length metadata.now) × (length keep.now ≡ sets.code) × ((p : ℕ) → p < sets.code → Fits sets.width (tables_of functions.now externs.now cases.now) (cell_of metadata.now p (get_or memory.old p 0))) × (0 < sets.width) }
-    ensures { Summed (tables_of functions.now externs.now cases.now) keep.now (cells_by (code_words sets memory.old) metadata.now) sets.width starts.now (uses_of sets memory.new) (preserved_of sets memory.new) sets.count × (code_words sets memory.new ≡ code_words sets memory.old) × (live_of sets memory.new ≡ live_of sets memory.old) }
+    requires { LayoutFits sets (length memory.old) × (sets.count < length starts.now) × Rising starts.now sets.count sets.code × (metadata_size * sets.code ≤ length metadata.now) × (length keep.now ≡ sets.code) × ((p : ℕ) → p < sets.code → Fits sets.width (tables_in tables) (cell_of metadata.now p (get_or memory.old p 0))) × (0 < sets.width) }
+    ensures { Summed (tables_in tables.entry) keep.now (cells_by (code_words sets memory.old) metadata.now) sets.width starts.now (uses_of sets memory.new) (preserved_of sets memory.new) sets.count × (code_words sets memory.new ≡ code_words sets memory.old) × (live_of sets memory.new ≡ live_of sets memory.old) }
 {
-    let mut b: usize = 0;
-    while b < sets.count {
+    for b in 0..sets.count {
         let at = sets.width * b;
         let start = starts[b] as usize;
         let end = starts[b + 1] as usize;
-        let uses = sets.uses + at;
-        let preserved = sets.preserved + at;
         let own = BlockSets {
-            uses: uses,
-            preserved: preserved,
+            uses: sets.uses + at,
+            preserved: sets.preserved + at,
             width: sets.width,
         };
-        summarize_block(
-            memory, own, metadata, keep, functions, externs, cases, start, end,
-        );
-        b += 1;
+        summarize_block(memory, own, metadata, keep, tables, start, end);
     }
 }

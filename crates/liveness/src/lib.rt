@@ -1,4 +1,5 @@
-// Live slots, and stores that nothing reads.
+// Live slots, and stores that nothing reads. The sets lie in one lent buffer, by where they start, since the library takes no memory
+// of its own.
 #![tactic(auto)]
 
 mod block;

@@ -7,7 +7,7 @@ ghost use Rattle.liveness.specs.laws.Out.{OutOf};
 
 use crate::SetLayout;
 use flow::branch;
-use instruction::{Instruction, opcode};
+use instruction::Instruction;
 use use_def::row;
 
 // Where the live slots at the start of the block of place q stand.
@@ -25,11 +25,11 @@ pub fn live_out(memory: &mut [u64], blocks: &[u32], sets: SetLayout, p: usize)
     ensures { OutOf sets.width (live_of sets memory.old) blocks.now sets.code p (of_word (get_or memory.old p 0)) (row_of sets memory.new) × Only (At sets.row sets.width) memory.old memory.new }
 {
     let i = Instruction::from_word(memory[p]);
-    let k = opcode::class_number(i.op);
+    let class = i.class();
     let next = p as u64 + 1;
-    let first = row::mask(branch::falls(k) & ((next < sets.code as u64) as u64));
-    let second = row::mask(branch::branches(k));
+    let first = row::mask(branch::falls(class) & ((next < sets.code as u64) as u64));
+    let second = row::mask(branch::branches(class));
     let a = row_of(blocks, sets, next & first);
-    let b = row_of(blocks, sets, branch::branch_target(p, i, k) & second);
+    let b = row_of(blocks, sets, branch::branch_target(p, i, class) & second);
     row::join(memory, sets.row, a, first, b, second, sets.width);
 }

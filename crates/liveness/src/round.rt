@@ -44,11 +44,8 @@ fn round(memory: &mut [u64], sets: SetLayout, blocks: &[u32], starts: &[u32]) ->
     ensures { ((S : Sections) (leaders keep metadata : List ℕ) (rows : List Row) → Around S leaders keep (cells_by (code_words sets memory.old) metadata) sets.width sets.count rows blocks.now starts.now (uses_of sets memory.old) (preserved_of sets memory.old) (live_of sets memory.old) → Rounded S leaders keep (cells_by (code_words sets memory.old) metadata) sets.width rows (live_of sets memory.new) result) × Only (InRows sets) memory.old memory.new }
 {
     let mut changed = false;
-    let mut b = sets.count;
-    while b > 0 {
-        b -= 1;
-        let moved = visit_block(memory, sets, blocks, starts, b);
-        changed = changed | moved;
+    for b in (0..sets.count).rev() {
+        changed |= visit_block(memory, sets, blocks, starts, b);
     }
     changed
 }
@@ -64,12 +61,10 @@ pub fn solve(
     requires { Ready sets memory.old blocks.now starts.now }
     ensures { Solves sets memory.old blocks.now starts.now limit memory.new result }
 {
-    let mut k = limit;
-    while k > 0 {
+    for _ in 0..limit {
         if !round(memory, sets, blocks, starts) {
             return true;
         }
-        k -= 1;
     }
     false
 }

@@ -1,16 +1,15 @@
 // The live slots at the start of each block.
 ghost use Rattle.std.specs.Prelude.{◌≡◌, true, false, List, ℕ, ◌+◌, ◌*◌, ◌≤◌, ◌^◌, ◌<◌, length};
-ghost use Rattle.std.proofs.Math.Option.{none};
 ghost use borrow.Rule.Slice.PartMut.{mid_of};
 ghost use Rattle.unit.specs.laws.Region.{keep_at};
 ghost use Rattle.unit.specs.Size.{set_words, sets_room};
-ghost use Rattle.effects.specs.Shape.{tables_of};
+ghost use Rattle.effects.specs.Shape.{tables_in};
 ghost use Rattle.liveness.specs.laws.SetMemory.{laid_out, code_words};
 ghost use Rattle.liveness.specs.laws.Workable.{Known, Workable, RowsIn, rows_by};
 
 use crate::{SetLayout, block, round};
+use effects::Tables;
 use unit::{region, size};
-use words::fill;
 
 // "liveness work passes 16,777,216"
 const MAX_WORK: usize = 16777216;
@@ -26,10 +25,10 @@ pub fn laid_out(n: usize, w: usize, count: usize) -> SetLayout
     SetLayout {
         code: n,
         width: w,
-        count: count,
+        count,
         row: n,
-        uses: uses,
-        preserved: preserved,
+        uses,
+        preserved,
         live: preserved + size,
     }
 }
@@ -40,22 +39,20 @@ fn solve_blocks(
     table: &[u32],
     sets: SetLayout,
     metadata: &[u8],
-    functions: &[u8],
-    externs: &[u8],
-    cases: &[u8],
+    tables: Tables,
 ) -> bool
-    requires workable { (types : List ℕ) × Workable sets (tables_of functions.now externs.now cases.now)
+    requires workable { (types : List ℕ) × Workable sets (tables_in tables)
         memory.old metadata.now types table.now }
     ensures found { result ≡ true → (types constants : List ℕ)
-        → Workable sets (tables_of functions.now externs.now cases.now)
+        → Workable sets (tables_in tables.entry)
         memory.old metadata.now types table.now
-        → RowsIn sets (tables_of functions.now externs.now cases.now)
+        → RowsIn sets (tables_in tables.entry)
         memory.new metadata.now types table.now constants }
     ensures none { result ≡ false → (types constants : List ℕ)
-        → Workable sets (tables_of functions.now externs.now cases.now)
+        → Workable sets (tables_in tables.entry)
         memory.old metadata.now types table.now
-        → rows_by (tables_of functions.now externs.now cases.now) sets.code
-        memory.old metadata.now types table.now constants ≡ none }
+        → rows_by (tables_in tables.entry) sets.code
+        memory.old metadata.now types table.now constants ≡ None }
     ensures code { code_words sets memory.new ≡ code_words sets memory.old }
 {
     let n = sets.code;
@@ -63,15 +60,13 @@ fn solve_blocks(
     let flags = region::keep_at(n);
     let live = sets.live;
     let size = sets.width * sets.count;
-    fill::zero_u64(&mut memory[live..live + size]);
+    memory[live..live + size].fill(0);
     block::summarize(
         memory,
         sets,
         metadata,
         &table[flags..flags + n],
-        functions,
-        externs,
-        cases,
+        tables,
         &table[starts..flags],
     );
     round::solve(
@@ -91,23 +86,21 @@ pub fn solve_rows(
     table: &[u32],
     metadata: &[u8],
     types: &[u8],
-    functions: &[u8],
-    externs: &[u8],
-    cases: &[u8],
+    tables: Tables,
     n: usize,
     count: usize,
 ) -> bool
-    requires known { Known (tables_of functions.now externs.now cases.now) n count
+    requires known { Known (tables_in tables) n count
         memory.old metadata.now types.now table.now }
     requires room { sets_room n (length types.now) ≤ length memory.old }
     requires flags { keep_at n + n ≤ length table.now }
     ensures found { result ≡ true → (constants : List ℕ)
         → RowsIn (laid_out n (set_words (length types.now)) count)
-        (tables_of functions.now externs.now cases.now)
+        (tables_in tables.entry)
         memory.new metadata.now types.now table.now constants }
     ensures none { result ≡ false → (constants : List ℕ)
-        → rows_by (tables_of functions.now externs.now cases.now) n
-        memory.old metadata.now types.now table.now constants ≡ none }
+        → rows_by (tables_in tables.entry) n
+        memory.old metadata.now types.now table.now constants ≡ None }
     ensures code { mid_of 0 n memory.new ≡ mid_of 0 n memory.old }
 {
     let w = size::set_words(types.len());
@@ -117,13 +110,5 @@ pub fn solve_rows(
     if w * count > size::MAX_SET_WORDS {
         return false;
     }
-    solve_blocks(
-        memory,
-        table,
-        laid_out(n, w, count),
-        metadata,
-        functions,
-        externs,
-        cases,
-    )
+    solve_blocks(memory, table, laid_out(n, w, count), metadata, tables)
 }

@@ -2,7 +2,7 @@
 ghost use Rattle.std.specs.Prelude.{◌≡◌, ◌+◌, ◌*◌, ◌≤◌, ◌<◌, length, get_or};
 ghost use Rattle.instruction.specs.Instruction.{of_word, class};
 ghost use Rattle.unit.specs.Size.{metadata_size};
-ghost use Rattle.effects.specs.Shape.{tables_of};
+ghost use Rattle.effects.specs.Shape.{tables_in};
 ghost use Rattle.effects.specs.laws.Cells.{cell_of};
 ghost use Rattle.effects.specs.laws.Form.{empty_range};
 ghost use Rattle.effects.specs.laws.ByClass.{writes_by_class};
@@ -16,7 +16,7 @@ ghost use Rattle.liveness.specs.laws.Sweeping.{Entered, Swept};
 ghost use Rattle.liveness.specs.laws.Sweep.{Sweeps};
 
 use crate::{SetLayout, out};
-use effects::{branching, single};
+use effects::{Tables, branching, single};
 use instruction::{Instruction, opcode};
 use unit::region;
 use use_def::{dead, touch};
@@ -49,13 +49,11 @@ fn sweep_place(
     sets: SetLayout,
     metadata: &[u8],
     types: &[u8],
-    functions: &[u8],
-    externs: &[u8],
-    cases: &[u8],
+    tables: Tables,
     p: usize,
 )
-    requires { LayoutFits sets (length memory.old) × (p < sets.code) × (metadata_size * sets.code ≤ length metadata.now) × (length keep.old ≡ sets.code) × Spans types.now (row_of sets memory.old) (get_or (writes_by_class (class (of_word (get_or memory.old p 0))) (of_word (get_or memory.old p 0))) 0 empty_range) × Fits sets.width (tables_of functions.now externs.now cases.now) (cell_of metadata.now p (get_or memory.old p 0)) × (0 < sets.width) }
-    ensures { Swept (tables_of functions.now externs.now cases.now) (is_kept keep.old p) (dead_by types.now (row_of sets memory.old) (of_word (get_or memory.old p 0))) (cell_of metadata.now p (get_or memory.old p 0)) p keep.old keep.new (row_of sets memory.old) (row_of sets memory.new) × Only (At sets.row sets.width) memory.old memory.new }
+    requires { LayoutFits sets (length memory.old) × (p < sets.code) × (metadata_size * sets.code ≤ length metadata.now) × (length keep.old ≡ sets.code) × Spans types.now (row_of sets memory.old) (get_or (writes_by_class (class (of_word (get_or memory.old p 0))) (of_word (get_or memory.old p 0))) 0 empty_range) × Fits sets.width (tables_in tables) (cell_of metadata.now p (get_or memory.old p 0)) × (0 < sets.width) }
+    ensures { Swept (tables_in tables.entry) (is_kept keep.old p) (dead_by types.now (row_of sets memory.old) (of_word (get_or memory.old p 0))) (cell_of metadata.now p (get_or memory.old p 0)) p keep.old keep.new (row_of sets memory.old) (row_of sets memory.new) × Only (At sets.row sets.width) memory.old memory.new }
 {
     if keep[p] != 1 {
         return;
@@ -63,16 +61,16 @@ fn sweep_place(
     let start = sets.row;
     let end = start + sets.width;
     let word = memory[p];
-    let k = opcode::class_number((word % 256) as u8);
-    if single::is_single(k) {
+    let class = opcode::class_of((word % 256) as u8);
+    if single::is_single(class) {
         // The processor could not predict which store is dead.
         let live = !dead::is_single_dead(types, &memory[start..end], word);
         keep[p] = live as u32;
-        touch::single_before(&mut memory[start..end], word, k, live);
+        touch::single_before(&mut memory[start..end], word, class, live);
         return;
     }
-    if branching::is_branching(k) {
-        touch::branch_before(&mut memory[start..end], word, k);
+    if branching::is_branching(class) {
+        touch::branch_before(&mut memory[start..end], word, class);
         return;
     }
     let i = Instruction::from_word(word);
@@ -80,15 +78,7 @@ fn sweep_place(
         keep[p] = 0;
         return;
     }
-    touch::live_before(
-        &mut memory[start..end],
-        i,
-        metadata,
-        p,
-        functions,
-        externs,
-        cases,
-    );
+    touch::live_before(&mut memory[start..end], i, metadata, p, tables);
 }
 
 // Drops the dead stores, given what is live at the start of each block. The table is the 32-bit work, with leaders, blocks and the
@@ -99,18 +89,14 @@ pub fn sweep(
     sets: SetLayout,
     metadata: &[u8],
     types: &[u8],
-    functions: &[u8],
-    externs: &[u8],
-    cases: &[u8],
+    tables: Tables,
 )
-    requires { Sweepable sets (tables_of functions.now externs.now cases.now) memory.old metadata.now types.now table.old × (0 < sets.width) }
-    ensures { Sweeps sets memory.old metadata.now types.now (tables_of functions.now externs.now cases.now) table.old memory.new table.new }
+    requires { Sweepable sets (tables_in tables) memory.old metadata.now types.now table.old × (0 < sets.width) }
+    ensures { Sweeps sets memory.old metadata.now types.now (tables_in tables.entry) table.old memory.new table.new }
 {
     let n = sets.code;
     let flags = region::keep_at(n);
-    let mut p = n;
-    while p > 0 {
-        p -= 1;
+    for p in (0..n).rev() {
         enter_place(memory, sets, &table[n..n + n], &table[0..n], p);
         sweep_place(
             memory,
@@ -118,9 +104,7 @@ pub fn sweep(
             sets,
             metadata,
             types,
-            functions,
-            externs,
-            cases,
+            tables,
             p,
         );
     }

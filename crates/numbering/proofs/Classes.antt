@@ -16,7 +16,8 @@ use Rattle.instruction.specs.declared.Class.TheVariants.{Hint, LoadInt, LoadCons
 use Rattle.instruction.specs.contracts.Class.{the_type as class-type}
 use Rattle.instruction.specs.Class.{number_of, named_class}
 use Rattle.effects.specs.Shape.{Sections}
-use Rattle.flow.proofs.Classes.{tag, of_tag}
+use Rattle.instruction.specs.laws.Class.{tag}
+use Rattle.flow.proofs.Classes.{of_tag}
 use Rattle.values.specs.Values.{Values, value_of}
 use Rattle.values.specs.Number.{number_unary_with, number_binary_with, number_jump, cleared as clearedBy, number_by, number_by_with}
 use Rattle.numbering.specs.laws.Walk.{fold_by, second_of, binary_class, operator_class, on_zero, operated, takes, pure_by, other_by, by_other}

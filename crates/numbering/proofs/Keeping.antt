@@ -2,21 +2,18 @@
 -- Assumes nothing.
 use mathlib.Core.Path.{◌≡◌, refl, sym, ap, ◌∙◌}
 use mathlib.Core.List.{List}
-use mathlib.Core.Option.{Option, none, some}
+use Rattle.std.specs.Prelude.{Some, None, Option}
 use Prim.Native.Nat.{ℕ, zero, suc, ◌+◌, ◌≤◌, ◌<◌}
 use native.Mathlib.Omega.{arith}
 use lib.ListN.{length, get_or}
-use Rattle.values.specs.Values.{Values, value_of, expression_in, lowest_slot, or_itself}
+use Rattle.values.specs.Values.{Values, value_of, expression_in, lowest_slot}
 use Rattle.values.specs.laws.Folded.{expression_of}
 use Rattle.values.specs.laws.Entries.{Key, value, newest}
 use Rattle.values.specs.laws.Search.{newest_le}
 use Rattle.values.specs.laws.Memory.{memory_of, number_at, expression_key, limit, expression_if, expression_at, Ready, atom_in, atom_found, Holds}
-use Rattle.values.proofs.laws.Lowest.{lowest_found}
 use Rattle.values.specs.laws.Promises.{Kept, Same, Shares}
 use Rattle.numbering.specs.laws.Walk.{Room}
 use Rattle.values.specs.declared.Atom.{Atom}
-use Rattle.values.specs.declared.Found.{Found}
-use Rattle.values.specs.declared.Found.TheVariants.{At}
 
 -- ---- what stays in order
 
@@ -72,32 +69,19 @@ abbrev pub Knows : ℕ → List ℕ → List ℕ → (ℕ → ℕ) → Values �
 Knows n types t dest v = Holds n (length types) types dest v (memory_of n (length types) t)
 
 -- the slot that `share` answers, and what the definition finds
-module _ {n : ℕ} {types t t' : List ℕ} {s d r : ℕ} (w : Shares n (length types) types t s d r t') (dest : ℕ → ℕ) (v : Values) (h : Knows n types t dest v) where
-  abbrev asked : Option ℕ
-  asked = lowest_slot types v (value_at n types t dest d) (get_or types s 0)
+module _ {n : ℕ} {types t t' : List ℕ} {s d : ℕ} {f : Option ℕ} (w : Shares n (length types) types t s d f t') (dest : ℕ → ℕ) (v : Values) (h : Knows n types t dest v) where
+  pub shared_slot : {r : ℕ} → f ≡ Some r → lowest_slot types v (value_at n types t dest d) (get_or types s 0) ≡ Some r
+  shared_slot e = sym (w.lowest dest v h) ∙ e
 
-  pub shared_slot : r < length types → lowest_slot types v (value_at n types t dest d) (get_or types s 0) ≡ some r
-  unfolding or_itself
-  shared_slot l = go asked (w.lowest dest v h)
-    where
-      go : (o : Option ℕ) → r ≡ or_itself (length types) o → o ≡ some r
-      go (some q) e = ap some (sym e)
-      go none e = absurd (omega arith)
-
-  pub shared_none : length types ≤ r → lowest_slot types v (value_at n types t dest d) (get_or types s 0) ≡ none
-  unfolding or_itself
-  shared_none l = go asked refl (w.lowest dest v h)
-    where
-      go : (o : Option ℕ) → asked ≡ o → r ≡ or_itself (length types) o → o ≡ none
-      go (some q) a e = absurd (omega (arith, (lowest_found v (value_at n types t dest d) (get_or types s 0) types q a).1))
-      go none a e = refl
+  pub shared_none : f ≡ None → lowest_slot types v (value_at n types t dest d) (get_or types s 0) ≡ None
+  shared_none e = sym (w.lowest dest v h) ∙ e
 
 -- the number of an expression's value is in use
-pub found_low : {n S : ℕ} {t : List ℕ} {f : Found} → Ready n S t → (k : Key) (d : ℕ) → f ≡ expression_at n S (memory_of n S t) k → f ≡ At d → d < limit n S (memory_of n S t)
+pub found_low : {n S : ℕ} {t : List ℕ} {f : Option ℕ} → Ready n S t → (k : Key) (d : ℕ) → f ≡ expression_at n S (memory_of n S t) k → f ≡ Some d → d < limit n S (memory_of n S t)
 unfolding expression_if
 found_low {n} {S} {t} g k d e q = go (newest (memory_of n S t).expression_table n (memory_of n S t).expressions k) refl (sym e ∙ q)
   where
-    go : (j : ℕ) → newest (memory_of n S t).expression_table n (memory_of n S t).expressions k ≡ j → expression_if n S (memory_of n S t).expression_table j ≡ At d → d < limit n S (memory_of n S t)
+    go : (j : ℕ) → newest (memory_of n S t).expression_table n (memory_of n S t).expressions k ≡ j → expression_if n S (memory_of n S t).expression_table j ≡ Some d → d < limit n S (memory_of n S t)
     go zero l z = let y : ◌≡◌ {A = ℕ} 0 1 = cc in absurd (omega arith)
     go (suc j) l z =
         let same : value (memory_of n S t).expression_table n j ≡ d = cc in
@@ -105,7 +89,7 @@ found_low {n} {S} {t} g k d e q = go (newest (memory_of n S t).expression_table 
         rw (← same) (g.order.values_low j low)
 
 -- the value of an expression of two numbers
-pub known_expression : {n S : ℕ} (t : List ℕ) {k : Key} {f : Found} {types : List ℕ} {dest : ℕ → ℕ} {v : Values} (op flags left right : ℕ) → op < 256 → flags < 256
+pub known_expression : {n S : ℕ} (t : List ℕ) {k : Key} {f : Option ℕ} {types : List ℕ} {dest : ℕ → ℕ} {v : Values} (op flags left right : ℕ) → op < 256 → flags < 256
     → left < limit n S (memory_of n S t) → right < limit n S (memory_of n S t) → k ≡ expression_key op flags left right → f ≡ expression_at n S (memory_of n S t) k → Holds n S types dest v (memory_of n S t)
     → atom_found n S dest (memory_of n S t) f ≡ expression_in v.expressions (expression_of op flags (atom_in n S dest (memory_of n S t) left) (atom_in n S dest (memory_of n S t) right))
 known_expression {n} {S} t {k} {f} {dest = dest} op flags left right a b c d q e h =

@@ -3,7 +3,7 @@
 use mathlib.Core.Path.{◌≡◌, refl, sym, ap, ◌∙◌}
 use mathlib.Core.Bool.{Bool, true, false, cond, ◌&&◌}
 use mathlib.Core.List.{List, [], ◌∷◌}
-use mathlib.Core.Option.{Option, none, some}
+use Rattle.std.specs.Prelude.{Some, None, Option}
 use Prim.Native.Nat.{ℕ, ◌+◌, ◌≤◌, ◌<◌}
 use native.Mathlib.Omega.{arith}
 use lib.Dec.{eqb}
@@ -23,15 +23,9 @@ use Rattle.values.specs.laws.Folded.{integer_of, expression_of}
 use Rattle.values.specs.laws.Entries.{Key, key}
 use Rattle.values.specs.laws.Memory.{memory_of, number_at, key_atom, constant_key, expression_key, limit, integer_at, expression_at, Ready, atom_in, atom_found, Holds}
 use Rattle.values.specs.laws.Promises.{Kept, Clears, Represents, Stores, Shares, Interns, Learns}
-use Rattle.numbering.specs.laws.Walk.{sections_with, load_of, word_of, Stands, Becomes, Known, Valued, Second, second_number, fold_by, second_of, atom_of, KindOf, operated, scalar_in, undecided_by, pure_by, other_by}
+use Rattle.numbering.specs.laws.Walk.{sections_with, load_of, Stands, Becomes, Known, Valued, Second, second_number, fold_by, second_of, atom_of, KindOf, operated, scalar_in, undecided_by, pure_by, other_by}
 use Rattle.values.specs.declared.Atom.{Atom}
 use Rattle.values.specs.declared.Atom.TheVariants.{Integer, Float, Definition}
-use Rattle.values.specs.declared.Found.{Found}
-use Rattle.values.specs.declared.Found.TheVariants.{At, Nothing}
-use Rattle.numbering.specs.declared.Loaded.{Loaded}
-use Rattle.numbering.specs.declared.Loaded.TheVariants.{Value, Unknown}
-use Rattle.values.specs.declared.Folded.{Folded}
-use Rattle.values.specs.declared.Folded.TheVariants.{Word, Not}
 use Rattle.values.specs.contracts.Atom.{the_type}
 use Rattle.values.proofs.Atoms.{atom_place, atom_zero, integer_at_lem}
 use Rattle.values.proofs.Recording.{unchanged, same_self}
@@ -96,7 +90,7 @@ module _ {n : ℕ} {types : List ℕ} {t : List ℕ} where
   stay_becomes g e = record { kept = unchanged g; holds = λ dest z l T v y h. rw (e dest z l T v h) (refl, h) }
 
   -- a store, and a copy of the lowest slot that held the value
-  copied_becomes : (i : Instruction) {d r : ℕ} {j : Instruction} {t' : List ℕ} → Shares n (length types) types t i.a d r t' → j.a ≡ i.a
+  copied_becomes : (i : Instruction) {d : ℕ} {f : Option ℕ} {j : Instruction} {t' : List ℕ} → Shares n (length types) types t i.a d f t' → j.a ≡ i.a
       → ((dest : ℕ → ℕ) (z : List ℕ) (l : ℕ) (T : Tables) (v : Values) → Knows n types t dest v
       → j ≡ copied (sections_with types z l T) i v (value_at n types t dest d))
       → Becomes n types 0 0 0 t j t' (λ dest z. Unit {0})
@@ -106,13 +100,13 @@ module _ {n : ℕ} {types : List ℕ} {t : List ℕ} where
       as_becomes (omega arith) (omega arith) (omega arith)
       (λ dest z l T v y h. (y, ap (λ (j : Instruction). storedBy (sections_with types z l T) j v (value_at n types t dest d)) (g dest z l T v h))) (store_becomes (rw (sym a) at b))
 
-  pub copy_found : (i : Instruction) {d r : ℕ} {j : Instruction} {t' : List ℕ} → Shares n (length types) types t i.a d r t' → r < length types → j ≡ plain 3 i.a r 0
+  pub copy_found : (i : Instruction) {d r : ℕ} {f : Option ℕ} {j : Instruction} {t' : List ℕ} → Shares n (length types) types t i.a d f t' → f ≡ Some r → j ≡ plain 3 i.a r 0
       → Becomes n types 0 0 0 t j t' (λ dest z. Unit {0})
       (λ dest S v. storedBy S (copied S i v (value_at n types t dest d)) v (value_at n types t dest d))
   unfolding copied copy_or_stay
   copy_found i w l e = copied_becomes i w (rw e) (λ dest z k T v h. rw (shared_slot w dest v h l) e)
 
-  pub copy_none : (i : Instruction) {d r : ℕ} {t' : List ℕ} → Shares n (length types) types t i.a d r t' → length types ≤ r
+  pub copy_none : (i : Instruction) {d : ℕ} {f : Option ℕ} {t' : List ℕ} → Shares n (length types) types t i.a d f t' → f ≡ None
       → Becomes n types 0 0 0 t i t' (λ dest z. Unit {0})
       (λ dest S v. storedBy S (copied S i v (value_at n types t dest d)) v (value_at n types t dest d))
   unfolding copied copy_or_stay
@@ -140,7 +134,7 @@ module _ {n : ℕ} {types : List ℕ} {t : List ℕ} where
   -- looked up: found, or new
   module _ (i : Instruction) (p left right : ℕ) {k : Key} {x : Instruction} {t' : List ℕ} (lowl : left < limit n (length types) (memory_of n (length types) t)) (lowr : right < limit n (length types) (memory_of n (length types) t))
       (q : k ≡ expression_key i.op i.flags left right) where
-    pub expression_found : {f : Found} (d : ℕ) → f ≡ expression_at n (length types) (memory_of n (length types) t) k → f ≡ At d
+    pub expression_found : {f : Option ℕ} (d : ℕ) → f ≡ expression_at n (length types) (memory_of n (length types) t) k → f ≡ Some d
         → Becomes n types 0 0 0 t x t' (λ dest z. Unit {0})
         (λ dest S v. storedBy S (copied S i v (value_at n types t dest d)) v (value_at n types t dest d))
         → Becomes n types 0 0 1 t x t' (λ dest z. Stands n p i dest)
@@ -149,12 +143,12 @@ module _ {n : ℕ} {types : List ℕ} {t : List ℕ} where
     expression_found {f} d e z b =
         as_becomes (omega arith) (omega arith) (omega arith)
         (λ dest w l T v y h.
-        let known : some (value_at n types t dest d) ≡ expression_in v.expressions (expression_of i.op i.flags (value_at n types t dest left) (value_at n types t dest right))
+        let known : Some (value_at n types t dest d) ≡ expression_in v.expressions (expression_of i.op i.flags (value_at n types t dest left) (value_at n types t dest right))
         = ap (atom_found n (length types) dest (memory_of n (length types) t)) (sym z) ∙ known_expression t i.op i.flags left right y.op y.flags lowl lowr q e h in
         (tt, rw (sym known)))
         b
 
-    pub expression_none : {f : Found} → f ≡ expression_at n (length types) (memory_of n (length types) t) k → f ≡ Nothing → i.op < 256 → i.flags < 256
+    pub expression_none : {f : Option ℕ} → f ≡ expression_at n (length types) (memory_of n (length types) t) k → f ≡ None → i.op < 256 → i.flags < 256
         → ((op flags left right : ℕ) → op < 256 → flags < 256 → left < limit n (length types) (memory_of n (length types) t) → right < limit n (length types) (memory_of n (length types) t) → k ≡ expression_key op flags left right
         → Becomes n types 0 0 1 t x t' (λ dest z. Stands n p i dest)
         (λ dest S v. storedBy S i (learn v (expression_of op flags (value_at n types t dest left) (value_at n types t dest right)) (Definition p i.a)) (Definition p i.a)))
@@ -164,7 +158,7 @@ module _ {n : ℕ} {types : List ℕ} {t : List ℕ} where
     expression_none {f} e z a c b =
         as_becomes (omega arith) (omega arith) (omega arith)
         (λ dest w l T v y h.
-        let known : none ≡ expression_in v.expressions (expression_of i.op i.flags (value_at n types t dest left) (value_at n types t dest right))
+        let known : None ≡ expression_in v.expressions (expression_of i.op i.flags (value_at n types t dest left) (value_at n types t dest right))
         = ap (atom_found n (length types) dest (memory_of n (length types) t)) (sym z) ∙ known_expression t i.op i.flags left right a c lowl lowr q e h in
         (y, rw (sym known)))
         (b i.op i.flags left right a c lowl lowr q)
@@ -185,75 +179,75 @@ module _ {n : ℕ} {types : List ℕ} {t : List ℕ} where
   word_wide i w wide d b = after (λ dest v. v) d.kept (d.holds types) (λ dest z l T v y h. (tt, rw (d.is dest, wide))) b
 
   -- folded, or looked up
-  pub folded_word : (i : Instruction) (p : ℕ) (g : (ℕ → ℕ) → Expression) {f : Folded} {w : ℕ} {x : Instruction} {t' : List ℕ} → f ≡ Word w
+  pub folded_word : (i : Instruction) (p : ℕ) (g : (ℕ → ℕ) → Expression) {f : Option ℕ} {w : ℕ} {x : Instruction} {t' : List ℕ} → f ≡ Some w
       → Becomes n types 0 1 0 t x t' (λ dest z. Unit {0}) (λ dest S v. storedBy S (folded S (held_or_stays S) i v w) v (Integer w))
-      → Becomes n types 0 1 1 t x t' (λ dest z. Stands n p i dest) (λ dest S v. by_value S p i v (g dest) (word_of f))
-  unfolding by_value_with word_of
+      → Becomes n types 0 1 1 t x t' (λ dest z. Stands n p i dest) (λ dest S v. by_value S p i v (g dest) f)
+  unfolding by_value_with
   folded_word i p g q b = as_becomes (omega arith) (omega arith) (omega arith) (λ dest z l T v y h. (tt, rw q)) b
 
-  folded_not : (i : Instruction) (p : ℕ) (g : (ℕ → ℕ) → Expression) {f : Folded} {x : Instruction} {t' : List ℕ} → f ≡ Not
+  folded_not : (i : Instruction) (p : ℕ) (g : (ℕ → ℕ) → Expression) {f : Option ℕ} {x : Instruction} {t' : List ℕ} → f ≡ None
       → Becomes n types 0 0 1 t x t' (λ dest z. Stands n p i dest) (λ dest S v. by_expression S p i v (g dest) (expression_in v.expressions (g dest)))
-      → Becomes n types 0 1 1 t x t' (λ dest z. Stands n p i dest) (λ dest S v. by_value S p i v (g dest) (word_of f))
-  unfolding by_value_with word_of
+      → Becomes n types 0 1 1 t x t' (λ dest z. Stands n p i dest) (λ dest S v. by_value S p i v (g dest) f)
+  unfolding by_value_with
   folded_not i p g q b = as_becomes (omega arith) (omega arith) (omega arith) (λ dest z l T v y h. (y, rw q)) b
 
 -- ---- a number that is known
 
 -- of a folded word, and of an expression
-pub known_of_word : {n S word v d : ℕ} {t t₁ : List ℕ} {f : Folded} → f ≡ Word v → Interns n S t 0 v d t₁ → Known n S t word f (At d) t₁
+pub known_of_word : {n S word v d : ℕ} {t t₁ : List ℕ} {f : Option ℕ} → f ≡ Some v → Interns n S t 0 v d t₁ → Known n S t word f (Some d) t₁
 known_of_word {v = v} e w =
     record {
       constant = λ u z. let same : v ≡ u = cc in record { number = _; is = refl; interns = rw (← same) w };
       expression = λ z. let y : ◌≡◌ {A = ℕ} 0 1 = cc in absurd (omega arith);
     }
 
-pub known_of_expression : {n S word : ℕ} {t : List ℕ} {r : Found} {f : Folded} → f ≡ Not → r ≡ expression_at n S (memory_of n S t) (key word 0) → Known n S t word f r t
+pub known_of_expression : {n S word : ℕ} {t : List ℕ} {r : Option ℕ} {f : Option ℕ} → f ≡ None → r ≡ expression_at n S (memory_of n S t) (key word 0) → Known n S t word f r t
 known_of_expression e w =
     record { constant = λ u z. let y : ◌≡◌ {A = ℕ} 0 1 = cc in absurd (omega arith); expression = λ z. (refl, w) }
 
-module _ {n S word : ℕ} {t t₁ : List ℕ} {r : Found} where
+module _ {n S word : ℕ} {t t₁ : List ℕ} {r : Option ℕ} where
   -- it is in use
-  pub known_low : {f : Folded} (d : ℕ) → Ready n S t → Known n S t word f r t₁ → r ≡ At d → Ready n S t₁ × (d < limit n S (memory_of n S t₁))
+  pub known_low : {f : Option ℕ} (d : ℕ) → Ready n S t → Known n S t word f r t₁ → r ≡ Some d → Ready n S t₁ × (d < limit n S (memory_of n S t₁))
   known_low {f} d g k q = go f refl
     where
-      go : (f' : Folded) → f ≡ f' → Ready n S t₁ × (d < limit n S (memory_of n S t₁))
-      go (Word v) e =
+      go : (f' : Option ℕ) → f ≡ f' → Ready n S t₁ × (d < limit n S (memory_of n S t₁))
+      go (Some v) e =
           let w = k.constant v e in
           let same : w.number ≡ d = cc in
           (w.interns.kept.ready, rw (← same) w.interns.low)
-      go Not e =
+      go None e =
           let w = k.expression e in
           rw w.0 (g, found_low g _ d w.1 q)
 
   -- there is none of an expression alone, and then the memory is as it was
-  pub known_none : {f : Folded} → Known n S t word f r t₁ → r ≡ Nothing → (f ≡ Not) × (t₁ ≡ t) × (r ≡ expression_at n S (memory_of n S t) (key word 0))
+  pub known_none : {f : Option ℕ} → Known n S t word f r t₁ → r ≡ None → (f ≡ None) × (t₁ ≡ t) × (r ≡ expression_at n S (memory_of n S t) (key word 0))
   known_none {f} k q = go f refl
     where
-      go : (f' : Folded) → f ≡ f' → (f ≡ Not) × (t₁ ≡ t) × (r ≡ expression_at n S (memory_of n S t) (key word 0))
-      go (Word v) e =
+      go : (f' : Option ℕ) → f ≡ f' → (f ≡ None) × (t₁ ≡ t) × (r ≡ expression_at n S (memory_of n S t) (key word 0))
+      go (Some v) e =
           let w = k.constant v e in
           let z : ◌≡◌ {A = ℕ} 0 1 = cc in
           absurd (omega arith)
-      go Not e = let w = k.expression e in (e, w.0, w.1)
+      go None e = let w = k.expression e in (e, w.0, w.1)
 
-module _ {n word : ℕ} {types t t₁ t' : List ℕ} {r : Found} {f : Folded} (i : Instruction) (p left right : ℕ) {x : Instruction} (lowl : left < limit n (length types) (memory_of n (length types) t)) (lowr : right < limit n (length types) (memory_of n (length types) t)) (q : key word 0 ≡ expression_key i.op i.flags left right) (k : Known n (length types) t word f r t₁) where
+module _ {n word : ℕ} {types t t₁ t' : List ℕ} {r : Option ℕ} {f : Option ℕ} (i : Instruction) (p left right : ℕ) {x : Instruction} (lowl : left < limit n (length types) (memory_of n (length types) t)) (lowr : right < limit n (length types) (memory_of n (length types) t)) (q : key word 0 ≡ expression_key i.op i.flags left right) (k : Known n (length types) t word f r t₁) where
   -- "becomes Copy from" the slot that holds the value, or stays
-  pub known_found : ((v : ℕ) → f ≡ Word v → fits_imm32 v ≡ false) → (d : ℕ) → r ≡ At d
+  pub known_found : ((v : ℕ) → f ≡ Some v → fits_imm32 v ≡ false) → (d : ℕ) → r ≡ Some d
       → Becomes n types 0 0 0 t₁ x t' (λ dest z. Unit {0}) (λ dest S v. storedBy S (copied S i v (value_at n types t₁ dest d)) v (value_at n types t₁ dest d))
       → Valued n types t i p left right f x t'
   known_found wide d e b = go f refl
     where
-      go : (f' : Folded) → f ≡ f' → Valued n types t i p left right f x t'
-      go (Word v) z =
+      go : (f' : Option ℕ) → f ≡ f' → Valued n types t i p left right f x t'
+      go (Some v) z =
           let w = k.constant v z in
           let same : w.number ≡ d = cc in
           folded_word i p _ z (word_wide i v (wide v z) w.interns (rw same b))
-      go Not z =
+      go None z =
           let w = k.expression z in
           folded_not i p _ z (expression_found i p left right lowl lowr q d w.1 e (rw (← w.0) b))
 
   -- a new expression
-  pub known_new : r ≡ Nothing → i.op < 256 → i.flags < 256
+  pub known_new : r ≡ None → i.op < 256 → i.flags < 256
       → ((op flags left right : ℕ) → op < 256 → flags < 256 → left < limit n (length types) (memory_of n (length types) t₁) → right < limit n (length types) (memory_of n (length types) t₁) → key word 0 ≡ expression_key op flags left right
       → Becomes n types 0 0 1 t₁ x t' (λ dest z. Stands n p i dest)
       (λ dest S v. storedBy S i (learn v (expression_of op flags (value_at n types t₁ dest left) (value_at n types t₁ dest right)) (Definition p i.a)) (Definition p i.a)))
@@ -263,10 +257,10 @@ module _ {n word : ℕ} {types t t₁ t' : List ℕ} {r : Found} {f : Folded} (i
       folded_not i p _ w.0 (expression_none i p left right lowl lowr q w.2 e a c (rw (← w.1) b))
 
 -- a word outside 32 bits, and no word
-pub wide_word : {f : Folded} {b : Bool} {w : ℕ} → f ≡ Word w → b ≡ fits_imm32 w → b ≡ false → (v : ℕ) → f ≡ Word v → fits_imm32 v ≡ false
+pub wide_word : {f : Option ℕ} {b : Bool} {w : ℕ} → f ≡ Some w → b ≡ fits_imm32 w → b ≡ false → (v : ℕ) → f ≡ Some v → fits_imm32 v ≡ false
 wide_word {w = w} e r l v z = let same : w ≡ v = cc in rw (← same) (sym r ∙ l)
 
-pub no_word : {f : Folded} → f ≡ Not → (v : ℕ) → f ≡ Word v → fits_imm32 v ≡ false
+pub no_word : {f : Option ℕ} → f ≡ None → (v : ℕ) → f ≡ Some v → fits_imm32 v ≡ false
 no_word e v z = let y : ◌≡◌ {A = ℕ} 0 1 = cc in absurd (omega arith)
 
 -- other operands, the same destination
@@ -274,20 +268,20 @@ other_operands : {n p : ℕ} {i : Instruction} {dest : ℕ → ℕ} (b c : ℕ) 
 other_operands b c y = record { op = y.op; flags = y.flags; a = y.a; place = y.place; own = y.own }
 
 -- a known integer, or none
-is_integer : (w : Atom) (x : ℕ) → integer_of w ≡ some x → w ≡ Integer x
+is_integer : (w : Atom) (x : ℕ) → integer_of w ≡ Some x → w ≡ Integer x
 unfolding integer_of
 is_integer (Integer y) x e = cc
 is_integer (Float y) x e = let z : ◌≡◌ {A = ℕ} 0 1 = cc in absurd (omega arith)
 is_integer (Definition p s) x e = let z : ◌≡◌ {A = ℕ} 0 1 = cc in absurd (omega arith)
 
 -- what the `else` of a `let Atom::Integer(x) = ..` knows is the tag alone
-no_integer : (w : Atom) → OneOf (1 ∷ 2 ∷ []) (variant_of the_type w) → integer_of w ≡ none
+no_integer : (w : Atom) → OneOf (1 ∷ 2 ∷ []) (variant_of the_type w) → integer_of w ≡ None
 unfolding integer_of
 no_integer (Integer x) k = absurd (miss (1 ∷ 2 ∷ []) 0 tt k)
 no_integer (Float x) k = refl
 no_integer (Definition p s) k = refl
 
-not_integer : (S : Sections) (f : ℕ → Bool) (i : Instruction) (v : Values) (w : Atom) → integer_of w ≡ none → undecided_by S i v ≡ number_jump S f i v w
+not_integer : (S : Sections) (f : ℕ → Bool) (i : Instruction) (v : Values) (w : Atom) → integer_of w ≡ None → undecided_by S i v ≡ number_jump S f i v w
 unfolding undecided_by number_jump integer_of
 not_integer S f i v (Integer x) e = let z : ◌≡◌ {A = ℕ} 0 1 = cc in absurd (omega arith)
 not_integer S f i v (Float x) e = refl
@@ -312,16 +306,15 @@ other_cleared types i p k e q z l T v =
     rw known
 
 -- no constant is known
-pub constant_unknown : (types : List ℕ) (i : Instruction) {f : Loaded} {o : Option Atom} → atom_of f ≡ o → f ≡ Unknown → (z : List ℕ) (l : ℕ) (T : Tables) (v : Values)
+pub constant_unknown : (types : List ℕ) (i : Instruction) {f : Option (ℕ × ℕ)} {o : Option Atom} → atom_of f ≡ o → f ≡ None → (z : List ℕ) (l : ℕ) (T : Tables) (v : Values)
     → number_constant (sections_with types z l T) i v o ≡ clearedBy (sections_with types z l T) i
-unfolding number_constant atom_of
+unfolding number_constant
 constant_unknown types i {f} {o} e q z l T v =
-    let known : o ≡ none = sym e ∙ ap atom_of q in
+    let known : o ≡ None = sym e ∙ ap atom_of q in
     rw known
 
 -- the kind of a constant that is known
-pub kind_known : {f : Loaded} {kind bits : ℕ} → KindOf f → f ≡ Value kind bits → kind ≤ 1
-unfolding KindOf
+pub kind_known : {f : Option (ℕ × ℕ)} {kind bits : ℕ} → KindOf f → f ≡ Some (kind, bits) → kind ≤ 1
 kind_known h e = rw e at h
 
 -- the second operand of a binary opcode; a unary one has none
@@ -342,13 +335,13 @@ module _ {n S : ℕ} (types : List ℕ) {t : List ℕ} where
   second_value {s} {d} false {t₁} {dest} l e w h = ap (atom_in n S dest (memory_of n S t₁)) e ∙ atom_zero n S dest (memory_of n S t₁).constant_table
 
 module _ {n : ℕ} {types : List ℕ} {t : List ℕ} where
-  pub operator_becomes : (i : Instruction) (p : ℕ) (b : Bool) {left right slot slot₂ : ℕ} {t₁ t₂ : List ℕ} (f : Folded) {x : Instruction} {t' : List ℕ}
+  pub operator_becomes : (i : Instruction) (p : ℕ) (b : Bool) {left right slot slot₂ : ℕ} {t₁ t₂ : List ℕ} (f : Option ℕ) {x : Instruction} {t' : List ℕ}
       → i.b < length types → (b ≡ true → i.c < length types) → left ≡ number_at (memory_of n (length types) t) i.b
       → Represents n (length types) types t i.b left slot t₁ → right ≡ second_number n (length types) (memory_of n (length types) t₁) i.c b
       → Second n (length types) types t₁ i.c b slot₂ t₂
-      → ((dest : ℕ → ℕ) → word_of f ≡ fold_by b (expression_of i.op i.flags (value_at n types t₂ dest left) (value_at n types t₂ dest right)))
+      → ((dest : ℕ → ℕ) → f ≡ fold_by b (expression_of i.op i.flags (value_at n types t₂ dest left) (value_at n types t₂ dest right)))
       → Becomes n types 0 1 1 t₂ x t' (λ dest z. Stands n p (set_bc i slot slot₂) dest)
-      (λ dest S v. by_value S p (set_bc i slot slot₂) v (expression_of i.op i.flags (value_at n types t₂ dest left) (value_at n types t₂ dest right)) (word_of f))
+      (λ dest S v. by_value S p (set_bc i slot slot₂) v (expression_of i.op i.flags (value_at n types t₂ dest left) (value_at n types t₂ dest right)) f)
       → Becomes n types 0 1 1 t x t' (λ dest z. Stands n p i dest) (λ dest S v. operated S b p i v)
   unfolding operated
   operator_becomes i p b {left} {right} {slot} {slot₂} {t₁} {t₂} f lb lc is d e d₂ g w =
@@ -374,12 +367,12 @@ module _ {n : ℕ} {types : List ℕ} {t : List ℕ} where
       (tt, rw (known, q.0)))
       b
 
-  pub constant_becomes : (i : Instruction) {f : Loaded} {o : Option Atom} {kind bits : ℕ} {x : Instruction} {t' : List ℕ} → atom_of f ≡ o → f ≡ Value kind bits
+  pub constant_becomes : (i : Instruction) {f : Option (ℕ × ℕ)} {o : Option Atom} {kind bits : ℕ} {x : Instruction} {t' : List ℕ} → atom_of f ≡ o → f ≡ Some (kind, bits)
       → Becomes n types 0 1 0 t x t' (λ dest z. Unit {0}) (λ dest S v. storedBy S i v (key_atom (constant_key kind bits)))
       → Becomes n types 1 1 0 t x t' (λ dest z. Unit {0}) (λ dest S v. number_constant S i v o)
-  unfolding number_constant atom_of
+  unfolding number_constant
   constant_becomes i {f} {o} {kind} {bits} e q b =
-      let known : o ≡ some (key_atom (constant_key kind bits)) = sym e ∙ ap atom_of q in
+      let known : o ≡ Some (key_atom (constant_key kind bits)) = sym e ∙ ap atom_of q in
       as_becomes (omega arith) (omega arith) (omega arith) (λ dest z l T v y h. (tt, rw known)) b
 
   pub read_becomes : (i : Instruction) {d slot : ℕ} {t₁ : List ℕ} {x : Instruction} → Represents n (length types) types t i.a d slot t₁

@@ -1,5 +1,5 @@
 // The walk over the function: each instruction rewritten by the values known before it.
-ghost use Rattle.std.specs.Prelude.{◌≡◌, true, false, List, map, ℕ, ◌+◌, ◌≤◌, ◌<◌, length};
+ghost use Rattle.std.specs.Prelude.{◌≡◌, true, false, Some, None, List, map, ℕ, ◌+◌, ◌≤◌, ◌<◌, length};
 ghost use borrow.Rule.Slice.PartMut.{mid_of};
 ghost use Rattle.instruction.specs.Instruction.{class, of_word, to_word};
 ghost use Rattle.effects.specs.Shape.{Cell, Tables};
@@ -11,17 +11,14 @@ ghost use Rattle.values.specs.laws.Folded.{expression_of};
 ghost use Rattle.values.specs.laws.Memory.{memory_of, key_atom, constant_key, expression_key, limit, expression_at, atom_in, end_at, Ready};
 ghost use Rattle.values.specs.laws.Entries.{key, bucket_of, head_at};
 ghost use Rattle.values.specs.laws.Promises.{Clears};
-ghost use Rattle.numbering.specs.laws.Walk.{load_of, word_of, Stands, Becomes, Room, Coded, Known, Valued, Second, second_number, fold_by, binary_class, operator_class, on_zero, atom_of, KindOf, operated, scalar_in, pure_by, undecided_by, takes, other_by, sections_with, Begins, Enters, Turns, Numberable, limit_at, expression_with};
+ghost use Rattle.numbering.specs.laws.Walk.{load_of, Stands, Becomes, Room, Coded, Known, Valued, Second, second_number, fold_by, binary_class, operator_class, on_zero, atom_of, KindOf, operated, scalar_in, pure_by, undecided_by, takes, other_by, sections_with, Begins, Enters, Turns, Numberable, limit_at, expression_with};
 ghost use Rattle.values.specs.laws.Named.{Named};
 ghost use Rattle.instruction.specs.declared.Class.TheVariants.{Return};
 ghost use Rattle.values.specs.declared.Atom.TheVariants.{Definition};
-ghost use Rattle.values.specs.declared.Found.TheVariants.{Nothing};
-ghost use Rattle.values.specs.declared.Folded.TheVariants.{Word};
 
-use crate::Loaded;
 use instruction::{Class, Instruction, opcode};
 use unit::Constant;
-use values::{Atom, Folded, Found, entries, fold, region, table};
+use values::{Atom, entries, fold, region, table};
 
 // LoadInt of a word that fits 32 bits.
 fn load(i: Instruction, v: u64) -> Instruction
@@ -71,11 +68,10 @@ fn copy_or_stay(t: &mut [u64], types: &[u8], n: usize, i: Instruction, d: u64) -
     ensures { Becomes n types.now 0 0 0 t.old result t.new (λ dest constants. Unit {0}) (λ dest S x. storedBy S (copied S i x (atom_in n (length types.now) dest (memory_of n (length types.now) t.old) d)) x (atom_in n (length types.now) dest (memory_of n (length types.now) t.old) d)) }
 {
     let a = i.a;
-    let r = table::share(t, types, n, a, d);
-    if r < types.len() {
-        return Instruction::new(opcode::COPY, i.a, r as u16, 0);
+    match table::share(t, types, n, a, d) {
+        Some(r) => Instruction::new(opcode::COPY, a, r, 0),
+        None => i,
     }
-    i
 }
 
 // A new expression: its value is what this place defines.
@@ -89,7 +85,7 @@ fn define(
     first: u64,
     word: u64,
 ) -> Instruction
-    requires { Room n (length types.now) t.old × (i.a < length types.now) × (p < n) × (b ≡ bucket_of n (key word 0)) × (b < n) × (first ≡ head_at (memory_of n (length types.now) t.old).expression_table (memory_of n (length types.now) t.old).epoch b) × Coded n (length types.now) (memory_of n (length types.now) t.old) word × (expression_at n (length types.now) (memory_of n (length types.now) t.old) (key word 0) ≡ Nothing) }
+    requires { Room n (length types.now) t.old × (i.a < length types.now) × (p < n) × (b ≡ bucket_of n (key word 0)) × (b < n) × (first ≡ head_at (memory_of n (length types.now) t.old).expression_table (memory_of n (length types.now) t.old).epoch b) × Coded n (length types.now) (memory_of n (length types.now) t.old) word × (expression_at n (length types.now) (memory_of n (length types.now) t.old) (key word 0) ≡ None) }
     ensures { (op flags left right : ℕ) → op < 256 → flags < 256 → left < limit_at n types.now t.old → right < limit_at n types.now t.old → key word 0 ≡ expression_key op flags left right → Becomes n types.now 0 0 1 t.old result t.new (λ dest constants. Stands n p i dest) (λ dest S x. storedBy S i (learn x (expression_with n types.now t.old dest op flags left right) (Definition p i.a)) (Definition p i.a)) }
 {
     let locals = types.len();
@@ -99,13 +95,20 @@ fn define(
 }
 
 // The number of a value that is known: that of a folded word, a new one where it has none, or that of an equal expression.
-fn known(t: &mut [u64], n: usize, locals: usize, folded: Folded, first: u64, word: u64) -> Found
+fn known(
+    t: &mut [u64],
+    n: usize,
+    locals: usize,
+    folded: Option<u64>,
+    first: u64,
+    word: u64,
+) -> Option<u64>
     requires { Room n locals t.old × (first ≡ head_at (memory_of n locals t.old).expression_table (memory_of n locals t.old).epoch (bucket_of n (key word 0))) }
     ensures { Known n locals t.old word folded result t.new }
 {
     match folded {
-        Folded::Word(v) => Found::At(table::constant(t, n, locals, 0, v)),
-        Folded::Not => table::find_expression(&t[..], n, locals, first, word),
+        Some(v) => Some(table::constant(t, n, locals, 0, v)),
+        None => table::find_expression(&t[..], n, locals, first, word),
     }
 }
 
@@ -119,9 +122,9 @@ fn by_number(
     p: u32,
     left: u64,
     right: u64,
-    folded: Folded,
+    folded: Option<u64>,
 ) -> Instruction
-    requires { Room n (length types.now) t.old × (i.a < length types.now) × (p < n) × (left < limit n (length types.now) (memory_of n (length types.now) t.old)) × (right < limit n (length types.now) (memory_of n (length types.now) t.old)) × ((v : ℕ) → folded ≡ Word v → fits_imm32 v ≡ false) }
+    requires { Room n (length types.now) t.old × (i.a < length types.now) × (p < n) × (left < limit n (length types.now) (memory_of n (length types.now) t.old)) × (right < limit n (length types.now) (memory_of n (length types.now) t.old)) × ((v : ℕ) → folded ≡ Some v → fits_imm32 v ≡ false) }
     ensures { Valued n types.now t.old i p left right folded result t.new }
 {
     let locals = types.len();
@@ -129,8 +132,8 @@ fn by_number(
     let b = entries::bucket(n, word, 0);
     let first = table::first_expression(&t[..], n, locals, b);
     match known(t, n, locals, folded, first, word) {
-        Found::At(d) => copy_or_stay(t, types, n, i, d),
-        Found::Nothing => define(t, types, n, i, p, b, first, word),
+        Some(d) => copy_or_stay(t, types, n, i, d),
+        None => define(t, types, n, i, p, b, first, word),
     }
 }
 
@@ -143,12 +146,12 @@ fn by_value(
     p: u32,
     left: u64,
     right: u64,
-    folded: Folded,
+    folded: Option<u64>,
 ) -> Instruction
     requires { Room n (length types.now) t.old × (i.a < length types.now) × (p < n) × (left < limit n (length types.now) (memory_of n (length types.now) t.old)) × (right < limit n (length types.now) (memory_of n (length types.now) t.old)) }
     ensures { Valued n types.now t.old i p left right folded result t.new }
 {
-    if let Folded::Word(v) = folded {
+    if let Some(v) = folded {
         if fold::fits_imm32(v) {
             return store_constant(t, types, n, load(i, v), 0, v);
         }
@@ -189,14 +192,14 @@ fn fold_numbers(
     left: u64,
     right: u64,
     binary: bool,
-) -> Folded
+) -> Option<u64>
     requires { Ready n locals t.now × (left < limit n locals (memory_of n locals t.now)) × (right < limit n locals (memory_of n locals t.now)) }
-    ensures { (dest : ℕ → ℕ) → word_of result ≡ fold_by binary (expression_of op flags (atom_in n locals dest (memory_of n locals t.now) left) (atom_in n locals dest (memory_of n locals t.now) right)) }
+    ensures { (dest : ℕ → ℕ) → result ≡ fold_by binary (expression_of op flags (atom_in n locals dest (memory_of n locals t.now) left) (atom_in n locals dest (memory_of n locals t.now) right)) }
 {
     if binary {
         let zero = (locals + n) as u64;
         if (left < zero) | (right < zero) {
-            return Folded::Not;
+            return None;
         }
         let x = table::atom(t, n, locals, left);
         let y = table::atom(t, n, locals, right);
@@ -223,13 +226,7 @@ fn number_operator(
     let right = second_number(&t[..], n, locals, i.c, binary);
     let c = second(t, types, n, i.c, right, binary);
     let folded = fold_numbers(&t[..], n, locals, i.op, i.flags, left, right, binary);
-    let named = Instruction {
-        op: i.op,
-        flags: i.flags,
-        a: i.a,
-        b,
-        c,
-    };
+    let named = Instruction { b, c, ..i };
     by_value(t, types, n, named, p, left, right, folded)
 }
 
@@ -240,13 +237,7 @@ fn number_copy(t: &mut [u64], types: &[u8], n: usize, i: Instruction) -> Instruc
 {
     let d = table::number(&t[..], n, types.len(), i.b);
     let b = table::representative(t, types, n, i.b, d);
-    let named = Instruction {
-        op: i.op,
-        flags: i.flags,
-        a: i.a,
-        b,
-        c: i.c,
-    };
+    let named = Instruction { b, ..i };
     store(t, types, n, named, d)
 }
 
@@ -259,17 +250,17 @@ fn forget(t: &mut [u64], n: usize, locals: usize, i: Instruction) -> Instruction
     i
 }
 
-// The value of a constant; a String or a missing one has none.
-fn loaded(constant: Constant) -> Loaded
+// The kind and the bits of a constant's value; a String or a missing one has none.
+#[tactic(auto, unfolding(values::specs::Number::constant_atom, values::specs::laws::Memory::key_atom))]
+fn loaded(constant: Option<Constant>) -> Option<(u64, u64)>
     ensures { (atom_of result ≡ constant_atom constant) × KindOf result }
 {
-    match constant {
-        Constant::Nil => Loaded::Value(0, 0),
-        Constant::Bool(v) => Loaded::Value(0, v),
-        Constant::Int(v) => Loaded::Value(0, v),
-        Constant::Float(v) => Loaded::Value(1, v),
-        Constant::String => Loaded::Unknown,
-        Constant::Missing => Loaded::Unknown,
+    match constant? {
+        Constant::Nil => Some((0, 0)),
+        Constant::Bool(v) => Some((0, v)),
+        Constant::Int(v) => Some((0, v)),
+        Constant::Float(v) => Some((1, v)),
+        Constant::String => None,
     }
 }
 
@@ -279,14 +270,14 @@ fn number_constant(
     types: &[u8],
     n: usize,
     i: Instruction,
-    constant: Constant,
+    constant: Option<Constant>,
 ) -> Instruction
     requires { Room n (length types.now) t.old × (i.a < length types.now) }
     ensures { Becomes n types.now 1 1 0 t.old result t.new (λ dest constants. Unit {0}) (λ dest S x. number_constant S i x (constant_atom constant)) }
 {
     match loaded(constant) {
-        Loaded::Value(kind, bits) => store_constant(t, types, n, i, kind, bits),
-        Loaded::Unknown => forget(t, n, types.len(), i),
+        Some((kind, bits)) => store_constant(t, types, n, i, kind, bits),
+        None => forget(t, n, types.len(), i),
     }
 }
 
@@ -304,20 +295,19 @@ fn scalar(types: &[u8], s: u16) -> bool
 }
 
 // Two operands or one?
+#[tactic(auto, unfolding(instruction::specs::Class::number_of))]
 fn is_binary(k: Class) -> bool
     ensures { result ≡ binary_class k }
 {
-    if let Class::Binary = k { true } else { false }
+    matches!(k, Class::Binary)
 }
 
 // Of one operand or of two?
+#[tactic(auto, unfolding(instruction::specs::Class::number_of))]
 fn is_operator(k: Class) -> bool
     ensures { result ≡ operator_class k }
 {
-    match k {
-        Class::Unary | Class::Binary => true,
-        _ => false,
-    }
+    matches!(k, Class::Unary | Class::Binary)
 }
 
 // The pure opcodes, of a scalar destination. Most are operators.
@@ -354,13 +344,7 @@ fn number_read(t: &mut [u64], types: &[u8], n: usize, i: Instruction) -> Instruc
 {
     let d = table::number(&t[..], n, types.len(), i.a);
     let a = table::representative(t, types, n, i.a, d);
-    Instruction {
-        op: i.op,
-        flags: i.flags,
-        a,
-        b: i.b,
-        c: i.c,
-    }
+    Instruction { a, ..i }
 }
 
 // "an undecided conditional jump on a scalar"
@@ -435,14 +419,11 @@ fn number_other(
 }
 
 // JumpIfNot or JumpIf?
+#[tactic(auto, unfolding(instruction::specs::Class::number_of))]
 fn jumps_on_zero(k: Class) -> bool
     ensures { result ≡ on_zero k }
 {
-    if let Class::JumpIfNot = k {
-        true
-    } else {
-        false
-    }
+    matches!(k, Class::JumpIfNot)
 }
 
 // An instruction rewritten by the values known before it.
@@ -471,9 +452,9 @@ fn begin(t: &mut [u64], n: usize, locals: usize)
     ensures { Begins n locals t.old t.new }
 {
     let heads = region::constants_at(n, locals) + n;
-    words::fill::zero_u64(&mut t[0..heads]);
+    t[0..heads].fill(0);
     let expressions = region::expressions_at(n, locals);
-    words::fill::zero_u64(&mut t[expressions..expressions + n]);
+    t[expressions..expressions + n].fill(0);
     t[region::EPOCH] = 1;
 }
 
@@ -510,11 +491,9 @@ pub fn number_code(memory: &mut [u64], leaders: &[u32], types: &[u8], constants:
         return;
     }
     begin(&mut memory[n..], n, types.len());
-    let mut p = 0;
-    while p < n {
+    for p in 0..n {
         let w = memory[p];
         let leader = leaders[p];
         memory[p] = turn(&mut memory[n..], types, constants, n, leader, w, p as u32);
-        p += 1;
     }
 }

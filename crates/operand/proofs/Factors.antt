@@ -8,7 +8,7 @@ use lib.Count.{count_trailing_zeros, trailing_le, trailing_of_zero}
 use Rattle.instruction.specs.Opcode as op
 use Rattle.values.specs.Fold.{fold_word}
 use Rattle.operand.specs.Operand.{RightOperand}
-use Rattle.operand.specs.declared.Operand.TheVariants.{Word, None}
+use Rattle.std.specs.Prelude.{Ok, Some, None}
 use Rattle.operand.proofs.Testing.{gives_it}
 use Rattle.operand.specs.laws.Congruent.{Congruent, Inverse, equal, reduced, swap, then, times, fewer}
 use Rattle.operand.proofs.Zeros.{zeros_rest, zeros_most, zeros_all}
@@ -83,7 +83,7 @@ module _ (l w i : ℕ) (fits : w < 2 ^ 64) (zeros : count_trailing_zeros 64 l �
       let there : Congruent 64 (l * r) w = then (swap (reduced (l * r))) (equal e) in
       factor_least (64 - k) k sum (l / 2 ^ k) (w / 2 ^ k) i inverse r (then (equal (ap (λ (x : ℕ). x * r) left)) (then there (equal (sym wanted))))
 
-  pub factor_right : {x : ℕ} → x ≡ w / 2 ^ count_trailing_zeros 64 l * i % 2 ^ 64 → RightOperand op.MulI l w (Word (bit_and x ((2 ^ 64 - 1) / 2 ^ count_trailing_zeros 64 l)))
+  pub factor_right : {x : ℕ} → x ≡ w / 2 ^ count_trailing_zeros 64 l * i % 2 ^ 64 → RightOperand op.MulI l w (Ok (Some (bit_and x ((2 ^ 64 - 1) / 2 ^ count_trailing_zeros 64 l))))
   factor_right {x} e =
       let k = count_trailing_zeros 64 l in
       let low : bit_and x ((2 ^ 64 - 1) / 2 ^ k) ≡ factor_of l w i = rw e (kept (w / 2 ^ k * i) k (trailing_le 64 l)) in
@@ -91,7 +91,7 @@ module _ (l w i : ℕ) (fits : w < 2 ^ 64) (zeros : count_trailing_zeros 64 l �
       rw low (gives_it op.MulI l refl (λ r h d. (least r d, gives)) word gives)
 
 -- 0 gives 0 alone
-pub zero_right : (l w : ℕ) → l ≡ 0 → w < 2 ^ 64 → count_trailing_zeros 64 l ≤ count_trailing_zeros 64 w → RightOperand op.MulI l w (Word 0)
+pub zero_right : (l w : ℕ) → l ≡ 0 → w < 2 ^ 64 → count_trailing_zeros 64 l ≤ count_trailing_zeros 64 w → RightOperand op.MulI l w (Ok (Some 0))
 unfolding RightOperand fold_word
 zero_right l w z fits zeros =
     let all : 64 ≤ count_trailing_zeros 64 w = rw (z, trailing_of_zero 64) at zeros in
@@ -99,6 +99,6 @@ zero_right l w z fits zeros =
     (refl, record { word = omega arith; gives = rw (z, wanted); least = λ s less d. omega arith })
 
 -- "none otherwise"
-pub none_right : (l w : ℕ) → count_trailing_zeros 64 w < count_trailing_zeros 64 l → RightOperand op.MulI l w None
+pub none_right : (l w : ℕ) → count_trailing_zeros 64 w < count_trailing_zeros 64 l → RightOperand op.MulI l w (Ok None)
 unfolding RightOperand fold_word
 none_right l w zeros = (refl, λ s h d. omega (arith, zeros_decide l w s d))

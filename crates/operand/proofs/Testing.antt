@@ -5,10 +5,10 @@ use Rattle.words.specs.Lists.{is_in}
 use Rattle.values.specs.Fold.{fold_word, folding_binary}
 use Rattle.operand.specs.Operand.{RightOperand}
 use Rattle.operand.specs.laws.Candidate.{Candidate}
-use Rattle.operand.specs.declared.Operand.TheVariants.{Word, None}
+use Rattle.std.specs.Prelude.{Ok, Some, None}
 
 module _ (o l : ℕ) {w c : ℕ} (covered : is_in o folding_binary ≡ true) (candidate : Candidate (fold_word o 0 l) w c) where
-  pub gives_it : c < 2 ^ 64 → fold_word o 0 l c ≡ w → RightOperand o l w (Word c)
+  pub gives_it : c < 2 ^ 64 → fold_word o 0 l c ≡ w → RightOperand o l w (Ok (Some c))
   unfolding RightOperand
   gives_it h e = (
     covered,
@@ -19,6 +19,6 @@ module _ (o l : ℕ) {w c : ℕ} (covered : is_in o folding_binary ≡ true) (ca
     },
   )
 
-  pub gives_none : (fold_word o 0 l c ≡ w → ⊥) → RightOperand o l w None
+  pub gives_none : (fold_word o 0 l c ≡ w → ⊥) → RightOperand o l w (Ok None)
   unfolding RightOperand
   gives_none n = (covered, λ s h d. n (candidate s h d).1)

@@ -18,7 +18,7 @@ pub fn less(left: u64, holds: bool) -> u64
     ensures { Tips (λ r. nat_lt left r) holds result }
 {
     if holds {
-        return std::num::wrapping_add_u64(left, 1);
+        return left.wrapping_add(1);
     }
     0
 }

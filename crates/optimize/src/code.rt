@@ -8,10 +8,8 @@ pub fn load(code: &[u8], words: &mut [u64])
     requires { instruction_size * length words.old ≤ length code.now }
     ensures { words.new ≡ words_in (length words.old) code.now }
 {
-    let mut p: usize = 0;
-    while p < words.len() {
-        words[p] = instruction::read(code, p).word();
-        p += 1;
+    for (p, word) in words.iter_mut().enumerate() {
+        *word = instruction::read(code, p).word();
     }
 }
 
@@ -20,12 +18,10 @@ fn is_same(code: &[u8], words: &[u64]) -> bool
     requires { instruction_size * length words.now ≤ length code.now }
     ensures { result ≡ same_words (words_in (length words.now) code.now) words.now }
 {
-    let mut p: usize = 0;
-    while p < words.len() {
-        if instruction::read(code, p).word() != words[p] {
+    for (p, word) in words.iter().enumerate() {
+        if instruction::read(code, p).word() != *word {
             return false;
         }
-        p += 1;
     }
     true
 }

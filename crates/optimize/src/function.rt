@@ -1,14 +1,13 @@
 // One pass over a function that was admitted: refusals 5 to 10, unchanged, or rewritten. The n instructions stand in
 // `code` and `metadata`, which may be those of a result; the other sections are the unit's. In the 64-bit work, behind
 // what numbering and liveness take, stands the list of the control places: `count` of them from `at` on.
-ghost use Rattle.std.specs.Prelude.{◌≡◌, true, List, [], ℕ, ◌+◌, ◌*◌, ◌≤◌, ◌<◌, length, drop};
+ghost use Rattle.std.specs.Prelude.{Ok, ◌≡◌, true, List, [], ℕ, ◌+◌, ◌*◌, ◌≤◌, ◌<◌, length, drop};
 ghost use borrow.Rule.Slice.PartMut.{mid_of};
 ghost use Rattle.unit.specs.Layout.{is_unit};
 ghost use Rattle.unit.specs.Result.{Retained};
 ghost use Rattle.unit.specs.Size.{instruction_size, metadata_size, result_size, work32_room, work64_room, max_instructions};
 ghost use Rattle.effects.specs.Check.{operand_check};
 ghost use Rattle.effects.specs.laws.Cells.{cells_by};
-ghost use Rattle.flow.specs.declared.Listing.TheVariants.{Listed};
 ghost use Rattle.flow.specs.laws.Control.{Controls};
 ghost use Rattle.flow.specs.laws.Listing.{check_of};
 ghost use Rattle.answer.specs.Pass.{rewritten, output_after};
@@ -19,11 +18,12 @@ ghost use Rattle.optimize.specs.laws.Steps.{controls_at, Loaded, ListedControls,
 ghost use Rattle.optimize.specs.laws.Decided.{Finished, Relocatable, Holds, concluded, retained_in};
 
 use crate::{Answer, code};
-use effects::Check;
-use flow::{Listing, block, branch, control, hint, reach};
+use effects::Tables;
+use flow::{block, branch, control, hint, reach};
 use numbering::walk;
 use pc_map::{boundary, relocation, retained};
 use removal::retain;
+use unit::refusal::Refusal;
 use unit::{region, section, size};
 
 // The code goes into the work, and the control places are listed. Refusals 5, 6 and 7.
@@ -34,14 +34,14 @@ fn load(
     work64: &mut [u64],
     n: usize,
     at: usize,
-) -> Listing
+) -> Result<usize, Refusal>
     requires laid { is_unit unit.now ≡ true }
     requires given { Given n code.now metadata.now (sections_of unit.now) }
     requires list { at ≡ controls_at n (sections_of unit.now).locals }
     requires room { work64_room n (sections_of unit.now).locals ≤ length work64.old }
     ensures answer { check_of result ≡ operand_check (sections_of unit.now).locals
         (sections_of unit.now).tables (cells_in n code.now metadata.now) }
-    ensures loaded { (count : ℕ) → result ≡ Listed count
+    ensures loaded { (count : ℕ) → result ≡ Ok count
         → Loaded n (sections_of unit.now).locals at count code.now work64.new }
 {
     code::load(code, &mut work64[0..n]);
@@ -51,9 +51,7 @@ fn load(
         at,
         metadata,
         section::types(unit).len(),
-        section::functions(unit),
-        section::externs(unit),
-        section::cases(unit),
+        Tables::of_unit(unit),
     )
 }
 
@@ -77,7 +75,13 @@ fn number(unit: &[u8], work32: &mut [u32], work64: &mut [u64], n: usize, at: usi
 }
 
 // Marks the reached places. Refusal 9.
-fn reach(metadata: &[u8], work32: &mut [u32], words: &[u64], list: &[u64], n: usize) -> Check
+fn reach(
+    metadata: &[u8],
+    work32: &mut [u32],
+    words: &[u64],
+    list: &[u64],
+    n: usize,
+) -> Result<(), Refusal>
     requires { (1 < n) × (length words.now ≡ n) × (n ≤ max_instructions)
         × (length metadata.now ≡ metadata_size * n) × (work32_room n ≤ length work32.old)
         × Controls words.now list.now (length words.now) }
@@ -98,7 +102,7 @@ fn conclude(
     n: usize,
     at: usize,
     count: usize,
-) -> Answer
+) -> Result<Answer, Refusal>
     requires finished { Finished n metadata.now work32.now work64.now }
     requires code { instruction_size * n ≤ length code.now }
     requires within { at + count ≤ length work64.now }
@@ -110,17 +114,15 @@ fn conclude(
     let end = keep + n;
     let retained = work32[end + n];
     if code::is_unchanged(code, &work64[0..n], retained as usize) {
-        return Answer::Unchanged;
+        return Ok(Answer::Unchanged);
     }
-    match relocation::check_relocation(
+    relocation::check_relocation(
         &work64[0..n],
         &work64[at..at + count],
         metadata,
         &work32[keep..end],
-    ) {
-        Check::Refused(k, p) => Answer::Refused(k, p),
-        Check::Passed => Answer::Rewritten(retained),
-    }
+    )?;
+    Ok(Answer::Rewritten(retained))
 }
 
 // What one pass makes of the function. Where it is rewritten, the work holds what is retained; else it is free.
@@ -131,7 +133,7 @@ pub fn decide(
     work32: &mut [u32],
     work64: &mut [u64],
     n: usize,
-) -> Answer
+) -> Result<Answer, Refusal>
     requires given { Workable n unit.now code.now metadata.now (length work32.old) (length work64.old) }
     ensures answer { result ≡ answer_of (outcome_in n unit.now code.now
         metadata.now) }
@@ -139,24 +141,12 @@ pub fn decide(
         metadata.now work32.new work64.new }
 {
     let at = size::work64_room(n, section::types(unit).len()) - n;
-    match load(unit, code, metadata, work64, n, at) {
-        Listing::Refused(k, p) => Answer::Refused(k, p),
-        Listing::Listed(count) => {
-            match branch::check_branches(&work64[0..n], &work64[at..at + count]) {
-                Check::Refused(k, p) => Answer::Refused(k, p),
-                Check::Passed => {
-                    number(unit, work32, work64, n, at, count);
-                    match reach(metadata, work32, &work64[0..n], &work64[at..at + count], n) {
-                        Check::Refused(k, p) => Answer::Refused(k, p),
-                        Check::Passed => {
-                            retain::retain(unit, metadata, work32, work64, n, at, count);
-                            conclude(code, metadata, &work32[..], &work64[..], n, at, count)
-                        }
-                    }
-                }
-            }
-        }
-    }
+    let count = load(unit, code, metadata, work64, n, at)?;
+    branch::check_branches(&work64[0..n], &work64[at..at + count])?;
+    number(unit, work32, work64, n, at, count);
+    reach(metadata, work32, &work64[0..n], &work64[at..at + count], n)?;
+    retain::retain(unit, metadata, work32, work64, n, at, count);
+    conclude(code, metadata, &work32[..], &work64[..], n, at, count)
 }
 
 // The result, without lines, of what the work holds.
@@ -190,18 +180,15 @@ pub fn optimize(
     work32: &mut [u32],
     work64: &mut [u64],
     n: usize,
-) -> Answer
+) -> Result<Answer, Refusal>
     requires given { Workable n unit.now code.now metadata.now (length work32.old) (length work64.old) }
     requires room { result_size n 0 ≤ length out.old }
     ensures answers { Answers (outcome_in n unit.now code.now metadata.now) result
         out.old out.new }
 {
-    match decide(unit, code, metadata, work32, work64, n) {
-        Answer::Unchanged => Answer::Unchanged,
-        Answer::Refused(k, p) => Answer::Refused(k, p),
-        Answer::Rewritten(k) => {
-            write(metadata, out, work32, &work64[..], n);
-            Answer::Rewritten(k)
-        }
+    let answer = decide(unit, code, metadata, work32, work64, n)?;
+    if let Answer::Rewritten(_) = answer {
+        write(metadata, out, work32, &work64[..], n);
     }
+    Ok(answer)
 }

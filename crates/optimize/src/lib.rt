@@ -5,10 +5,9 @@ mod code;
 pub mod function;
 pub mod pass;
 
-// What a pass answers: unchanged, refused with number and place, or rewritten to so many instructions.
+// What a pass answers where it does not refuse: unchanged, or rewritten to so many instructions.
 #[derive(Clone, Copy)]
 pub enum Answer {
     Unchanged,
-    Refused(u32, u32),
     Rewritten(u32),
 }

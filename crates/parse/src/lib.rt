@@ -9,19 +9,20 @@ ghost use Rattle.unit.specs.Entry.{metadata_at, good_metadata, is_wide_select, t
 ghost use Rattle.unit.specs.Layout.{header_of, sections_follow, good_counts, good_entries, has_sections, lines_rise, wide_select, layout_of};
 ghost use Rattle.unit.specs.laws.UnitLaws.{Sections};
 
-use unit::{
-    Counts, Header, Layout, Metadata, Offsets, SelectCase, entry, field, refusal, section, size,
-};
+use unit::refusal::{Reason, Refusal};
+use unit::section::Section;
+use unit::{Counts, Header, Metadata, Offsets, SelectCase, entry, field, kind, section, size};
 use words::le;
 
 // What the sweep over the entries finds: is each as "Entries" says, and the lowest metadata entry that is a select of too many
-// cases, or the number of entries.
+// cases, or the number of entries, which is what the definition `lowest_below` gives where there is none.
 #[derive(Clone, Copy)]
 struct Entries {
     good: bool,
     wide: usize,
 }
 
+#[tactic(auto, unfolding(unit::specs::Layout::header_of))]
 fn counts(unit: &[u8]) -> Counts
     requires { header_size ≤ length unit.now }
     ensures { result ≡ (header_of unit.now).counts }
@@ -40,6 +41,7 @@ fn counts(unit: &[u8]) -> Counts
     }
 }
 
+#[tactic(auto, unfolding(unit::specs::Layout::header_of))]
 fn offsets(unit: &[u8]) -> Offsets
     requires { header_size ≤ length unit.now }
     ensures { result ≡ (header_of unit.now).offsets }
@@ -65,12 +67,12 @@ pub fn header(unit: &[u8]) -> Header
     Header { counts, offsets }
 }
 
-// Does the section whose start stands at byte `next` follow the one of `offset`, `count` and `size`?
-fn meets(unit: &[u8], offset: usize, count: usize, size: usize, next: usize) -> bool
-    requires { (header_size ≤ length unit.now) × (offset ≤ 68) × (count ≤ 68) × (size ≤ 16) × (next ≤ 68) }
-    ensures { result ≡ eqb (u32_at unit.now next) (u32_at unit.now offset + size * u32_at unit.now count) }
+// Does the section `next` start at the byte past the section `s`?
+fn meets(unit: &[u8], s: Section, next: Section) -> bool
+    requires { header_size ≤ length unit.now }
+    ensures { result ≡ eqb (u32_at unit.now next.offset) (u32_at unit.now s.offset + s.size * u32_at unit.now s.count) }
 {
-    section::word(unit, next) == section::past(unit, offset, count, size)
+    section::word(unit, next.offset) == section::past(unit, s)
 }
 
 // The tests are cheap, so that all are made.
@@ -78,59 +80,18 @@ fn sections_follow(unit: &[u8]) -> bool
     requires { header_size ≤ length unit.now }
     ensures { result ≡ sections_follow (header_of unit.now) (length unit.now) }
 {
-    (section::word(unit, field::CODE_AT) == size::HEADER)
-        & meets(
-            unit,
-            field::CODE_AT,
-            field::INSTRUCTIONS,
-            size::INSTRUCTION,
-            field::METADATA_AT,
-        )
-        & meets(
-            unit,
-            field::METADATA_AT,
-            field::METADATA,
-            size::METADATA,
-            field::TYPES_AT,
-        )
-        & meets(
-            unit,
-            field::TYPES_AT,
-            field::TYPES,
-            size::TYPE,
-            field::CONSTANTS_AT,
-        )
-        & meets(
-            unit,
-            field::CONSTANTS_AT,
-            field::CONSTANTS,
-            size::CONSTANT,
-            field::FUNCTIONS_AT,
-        )
-        & meets(
-            unit,
-            field::FUNCTIONS_AT,
-            field::FUNCTIONS,
-            size::FUNCTION,
-            field::EXTERNS_AT,
-        )
-        & meets(
-            unit,
-            field::EXTERNS_AT,
-            field::EXTERNS,
-            size::EXTERN,
-            field::CASES_AT,
-        )
-        & meets(
-            unit,
-            field::CASES_AT,
-            field::CASES,
-            size::CASE,
-            field::LINES_AT,
-        )
-        & (unit.len() == section::past(unit, field::LINES_AT, field::LINES, size::LINE))
+    (section::word(unit, section::CODE.offset) == size::HEADER)
+        & meets(unit, section::CODE, section::METADATA)
+        & meets(unit, section::METADATA, section::TYPES)
+        & meets(unit, section::TYPES, section::CONSTANTS)
+        & meets(unit, section::CONSTANTS, section::FUNCTIONS)
+        & meets(unit, section::FUNCTIONS, section::EXTERNS)
+        & meets(unit, section::EXTERNS, section::CASES)
+        & meets(unit, section::CASES, section::LINES)
+        & (unit.len() == section::past(unit, section::LINES))
 }
 
+#[tactic(auto, unfolding(unit::specs::Layout::good_counts, unit::specs::Layout::header_of))]
 fn good_counts(unit: &[u8]) -> bool
     requires { header_size ≤ length unit.now }
     ensures { result ≡ good_counts (header_of unit.now) }
@@ -140,16 +101,17 @@ fn good_counts(unit: &[u8]) -> bool
 }
 
 // A kind of 0 to 15, an ok flag, and a select's cases within the section of cases.
+#[tactic(auto, unfolding(unit::specs::Entry::good_metadata))]
 fn good_metadata(d: Metadata, cases: usize) -> bool
     ensures { result ≡ good_metadata cases d }
 {
-    if d.kind > 15 {
+    if d.kind > kind::LOOP_END {
         return false;
     }
     if d.ok > 1 {
         return false;
     }
-    if d.kind == 12 {
+    if d.kind == kind::SELECT_EXEC_LAYOUT {
         (d.first as usize) + (d.second as usize) <= cases
     } else {
         true
@@ -157,10 +119,11 @@ fn good_metadata(d: Metadata, cases: usize) -> bool
 }
 
 // A select of more cases than the limit.
+#[tactic(auto, unfolding(unit::specs::Entry::is_wide_select))]
 fn is_wide_select(d: Metadata) -> bool
     ensures { result ≡ is_wide_select d }
 {
-    (d.kind == 12) & (d.second > size::MAX_SELECT_CASES)
+    (d.kind == kind::SELECT_EXEC_LAYOUT) & (d.second > size::MAX_SELECT_CASES)
 }
 
 // The lowest number up to k that passes, or the next, where `found` is the lowest below k, or k.
@@ -181,15 +144,13 @@ fn lowest(found: usize, k: usize, passes: bool) -> usize
 fn sweep_metadata(section: &[u8], cases: usize) -> Entries
     ensures { (result.good ≡ every (length section.now / metadata_size) (λ k. good_metadata cases (metadata_at section.now k))) × (result.wide ≡ lowest_below (length section.now / metadata_size) (λ k. is_wide_select (metadata_at section.now k))) }
 {
-    let n = section.len() / 16;
+    let n = section.len() / size::METADATA;
     let mut good = true;
     let mut wide = 0;
-    let mut k = 0;
-    while k < n {
+    for k in 0..n {
         let d = entry::metadata(section, k);
-        good = good & good_metadata(d, cases);
+        good &= good_metadata(d, cases);
         wide = lowest(wide, k, is_wide_select(d));
-        k += 1;
     }
     Entries { good, wide }
 }
@@ -199,24 +160,23 @@ fn every_type(section: &[u8]) -> bool
     ensures { result ≡ every (length section.now) (λ k. good_type (type_at section.now k)) }
 {
     let mut good = true;
-    let mut k = 0;
-    while k < section.len() {
-        good = good & (section[k] <= 5);
-        k += 1;
+    for it in section {
+        good &= *it <= kind::FLOAT_SLOT;
     }
     good
 }
 
 // A kind of 0 to 4, and a Bool of 0 or 1.
+#[tactic(auto, unfolding(unit::specs::Entry::good_constant))]
 fn good_constant(section: &[u8], k: usize) -> bool
     requires { constant_size * k + constant_size ≤ length section.now }
     ensures { result ≡ good_constant section.now k }
 {
-    let at = 16 * k;
-    if section[at] > 4 {
+    let at = size::CONSTANT * k;
+    if section[at] > kind::STRING {
         return false;
     }
-    if section[at] == 1 {
+    if section[at] == kind::BOOL {
         le::read_u64(section, at + 8) <= 1
     } else {
         true
@@ -226,38 +186,22 @@ fn good_constant(section: &[u8], k: usize) -> bool
 fn every_constant(section: &[u8]) -> bool
     ensures { result ≡ every (length section.now / constant_size) (λ k. good_constant section.now k) }
 {
-    let n = section.len() / 16;
-    let mut k = 0;
-    while k < n {
-        if !good_constant(section, k) {
-            return false;
-        }
-        k += 1;
-    }
-    true
+    let n = section.len() / size::CONSTANT;
+    (0..n).all(|k| good_constant(section, k))
 }
 
+#[tactic(auto, unfolding(unit::specs::Entry::good_case))]
 fn good_case(x: SelectCase) -> bool
     ensures { result ≡ good_case x }
 {
-    if x.kind > 1 {
-        return false;
-    }
-    x.ok <= 1
+    (x.kind <= kind::RECEIVE) & (x.ok <= 1)
 }
 
 fn every_case(section: &[u8]) -> bool
     ensures { result ≡ every (length section.now / case_size) (λ k. good_case (case_at section.now k)) }
 {
-    let n = section.len() / 8;
-    let mut k = 0;
-    while k < n {
-        if !good_case(entry::select_case(section, k)) {
-            return false;
-        }
-        k += 1;
-    }
-    true
+    let n = section.len() / size::CASE;
+    (0..n).all(|k| good_case(entry::select_case(section, k)))
 }
 
 fn sweep(unit: &[u8]) -> Entries
@@ -265,13 +209,13 @@ fn sweep(unit: &[u8]) -> Entries
     ensures { (result.good ≡ good_entries unit.now) × (result.wide ≡ wide_select unit.now) }
 {
     let metadata = sweep_metadata(
-        section::part(unit, field::METADATA_AT, field::METADATA, size::METADATA),
+        section::part(unit, section::METADATA),
         section::word(unit, field::CASES),
     );
     let good = metadata.good
-        & every_type(section::part(unit, field::TYPES_AT, field::TYPES, size::TYPE))
-        & every_constant(section::part(unit, field::CONSTANTS_AT, field::CONSTANTS, size::CONSTANT))
-        & every_case(section::part(unit, field::CASES_AT, field::CASES, size::CASE));
+        & every_type(section::part(unit, section::TYPES))
+        & every_constant(section::part(unit, section::CONSTANTS))
+        & every_case(section::part(unit, section::CASES));
     Entries {
         good,
         wide: metadata.wide,
@@ -295,14 +239,7 @@ fn every_line(section: &[u8], n: usize) -> bool
     ensures { result ≡ every (length section.now / line_size) (λ k. good_line n section.now k) }
 {
     let l = section.len() / size::LINE;
-    let mut k = 0;
-    while k < l {
-        if !good_line(section, k, l, n) {
-            return false;
-        }
-        k += 1;
-    }
-    true
+    (0..l).all(|k| good_line(section, k, l, n))
 }
 
 fn lines_rise(unit: &[u8]) -> bool
@@ -310,12 +247,10 @@ fn lines_rise(unit: &[u8]) -> bool
     ensures { result ≡ lines_rise unit.now }
 {
     let n = section::word(unit, field::INSTRUCTIONS);
-    every_line(
-        section::part(unit, field::LINES_AT, field::LINES, size::LINE),
-        n,
-    )
+    every_line(section::part(unit, section::LINES), n)
 }
 
+#[tactic(auto, unfolding(unit::specs::Layout::has_sections))]
 fn has_sections(unit: &[u8]) -> bool
     ensures { result ≡ has_sections unit.now }
 {
@@ -326,22 +261,22 @@ fn has_sections(unit: &[u8]) -> bool
 }
 
 // The header of a unit, or the refusal of its bytes: 1 or 11 at place 0, or 13 at the lowest select of too many cases.
-pub fn check(unit: &[u8]) -> Layout
+pub fn check(unit: &[u8]) -> Result<Header, Refusal>
     ensures { result ≡ layout_of unit.now }
 {
     if !has_sections(unit) {
-        return Layout::Refused(refusal::NOT_UNIT, 0);
+        return Err(Reason::NotUnit.at(0));
     }
     let entries = sweep(unit);
     if !entries.good {
-        return Layout::Refused(refusal::NOT_UNIT, 0);
+        return Err(Reason::NotUnit.at(0));
     }
     if !lines_rise(unit) {
-        return Layout::Refused(refusal::LINE_PLACES, 0);
+        return Err(Reason::LinePlaces.at(0));
     }
     let wide = entries.wide;
     if wide < section::word(unit, field::METADATA) {
-        return Layout::Refused(refusal::TOO_MANY_CASES, wide as u32);
+        return Err(Reason::TooManyCases.at(wide as u32));
     }
-    Layout::Unit(header(unit))
+    Ok(header(unit))
 }

@@ -1,6 +1,6 @@
 -- Relocation by the numbers in lent memory.
 -- Assumes nothing.
-use Rattle.std.proofs.Common.{◌≡◌, ℕ, suc, ◌+◌, ◌-◌, ◌%◌, ◌^◌, ◌<◌, ◌≤◌, Bool, true, false, ltb, List, length, get_or, sym, refl, ap, ◌∙◌, arith, ltb-false, ltb-true}
+use Rattle.std.proofs.Common.{◌≡◌, ℕ, suc, ◌+◌, ◌-◌, ◌%◌, ◌^◌, ◌<◌, ◌≤◌, Bool, true, false, ltb, List, length, get_or, Some, sym, refl, ap, ◌∙◌, arith, ltb-false, ltb-true}
 use Rattle.instruction.specs.declared.Instruction.{Instruction}
 use Rattle.instruction.specs.declared.Class.{Class}
 use Rattle.instruction.specs.Instruction.{imm32_unsigned, with_imm32, class}
@@ -13,7 +13,6 @@ use Rattle.pc_map.specs.laws.Boundaries.{Mapped, mapped_long, mapped_at, boundar
 use Rattle.pc_map.specs.Relocate.{moved_jump, moved_for_loop, relocate_by, relocate}
 use Rattle.pc_map.specs.laws.Relocated.{cell, moved_exit, moved_metadata}
 use Rattle.pc_map.specs.laws.View.{instruction_in, moved_boundary}
-use Rattle.pc_map.specs.declared.view.Moved.TheVariants.{To}
 
 -- the low 16 bits of a difference modulo 2 ^ 32
 low : (a b r : ℕ) → a ≤ 65536 → b < 65536 → r < 2 ^ 32 → (r + (b + 1)) % 2 ^ 32 ≡ a → r % 65536 ≡ (a + (65536 - suc b) % 65536) % 65536
@@ -47,23 +46,20 @@ module _ (keep bounds : List ℕ) (m : Mapped keep bounds) where
   number p h = (mapped_at keep bounds m p (omega (arith, mapped_long keep bounds m)), boundary_most keep m.flags p)
 
   module _ (p : ℕ) (i : Instruction) (t : ℕ) (goal : t ≡ target p i) (near : t < length bounds) (small : length bounds ≤ 65537) where
-    pub jump_moved : (u w r : ℕ) (j : Instruction) → p < length bounds → u ≡ get_or bounds p 0 → w ≡ get_or bounds t 0 → r < 2 ^ 32 → (r + u) % 2 ^ 32 ≡ w → j ≡ with_imm32 i r
-        → j ≡ moved_jump keep p i
+    pub jump_moved : (u w : ℕ) (j : Instruction) → p < length bounds → u ≡ get_or bounds p 0 → w ≡ get_or bounds t 0 → j ≡ with_imm32 i ((w + (2 ^ 32 - u)) % 2 ^ 32) → j ≡ moved_jump keep p i
     unfolding moved_jump
-    jump_moved u w r j h here there fits e same =
+    jump_moved u w j h here there same =
         let bp = number p h in
         let bt = number t near in
-        let v : (boundary keep t + (2 ^ 32 - boundary keep p)) % 2 ^ 32 ≡ r = omega arith in
-        same ∙ ap (with_imm32 i) (sym v) ∙ rw goal
+        same ∙ rw (here, there, bp.0, bt.0, goal)
 
-    pub for_loop_moved : (u w s r : ℕ) → p + 1 < length bounds → u ≡ get_or bounds p 0 → w ≡ get_or bounds t 0 → r < 2 ^ 32 → s ≡ (u + 1) % 2 ^ 32 → (r + s) % 2 ^ 32 ≡ w
+    pub for_loop_moved : (u w r : ℕ) → p + 1 < length bounds → u ≡ get_or bounds p 0 → w ≡ get_or bounds t 0 → r ≡ (w + (2 ^ 32 - (u + 1) % 2 ^ 32)) % 2 ^ 32
         → record { op = i.op; flags = i.flags; a = i.a; b = i.b; c = r % 65536 } ≡ moved_for_loop keep p i
     unfolding moved_for_loop
-    for_loop_moved u w s r h here there fits from e =
+    for_loop_moved u w r h here there e =
         let bp = number p (omega arith) in
         let bt = number t near in
-        let one : s ≡ boundary keep p + 1 = omega arith in
-        let v = low (boundary keep t) (boundary keep p) r (omega arith) (omega arith) fits (rw (← one, ← bt.0, ← there) e) in
+        let v = low (boundary keep t) (boundary keep p) r (omega arith) (omega arith) (omega arith) (omega arith) in
         rw (← goal, v)
 
   module _ (i : Instruction) (h : Bool) (hint : h ≡ is_loop_hint i) where
@@ -77,7 +73,7 @@ module _ (keep bounds : List ℕ) (m : Mapped keep bounds) where
     exit_none e = let t : is_loop_hint i ≡ false = cc in rw t
 
     module _ (d : Metadata) (p : ℕ) where
-      pub end_moved : (v : ℕ) → h ≡ true → To v ≡ instruction_in bounds d.end
+      pub end_moved : (v : ℕ) → h ≡ true → Some v ≡ instruction_in bounds d.end
           → record { kind = d.kind; ok = d.ok; array = d.array; first = d.first; second = d.second; end = v } ≡ (relocate keep p (cell i d)).metadata
       end_moved v e found =
           let t : is_loop_hint i ≡ true = cc in

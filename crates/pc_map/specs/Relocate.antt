@@ -7,7 +7,7 @@ use Rattle.instruction.specs.declared.Class.TheVariants.{Hint, LoadInt, LoadCons
 use Rattle.instruction.specs.Instruction.{with_imm32, class}
 use Rattle.unit.specs.Refusal.{lost_loop}
 use Rattle.unit.specs.Result.{Retained}
-use Rattle.effects.specs.declared.Check.{Check}
+use Rattle.effects.specs.Check.{Check}
 use Rattle.effects.specs.Shape.{Cell}
 use Rattle.effects.specs.Check.{lowest}
 use Rattle.flow.specs.Branch.{target}

@@ -14,11 +14,9 @@ pub fn boundaries(work: &mut [u32], n: usize) -> u32
     ensures { (work.new ≡ put_mid n (n + 1) work.old (tabulate (n + 1) (boundary (mid_of 0 n work.old)))) × (result ≡ boundary (mid_of 0 n work.old) n) }
 {
     let mut next: u32 = 0;
-    let mut p: usize = 0;
-    while p < n {
+    for p in 0..n {
         work[n + p] = next;
         next += work[p];
-        p += 1;
     }
     work[n + n] = next;
     next
@@ -31,10 +29,8 @@ pub fn list_kept(work: &mut [u32], n: usize, at: usize)
     ensures { (mid_of at (boundary (mid_of 0 n work.old) n) work.new ≡ kept_list (mid_of 0 n work.old)) × Outside at n work.old work.new }
 {
     let mut next: usize = 0;
-    let mut p: usize = 0;
-    while p < n {
+    for p in 0..n {
         work[at + next] = p as u32;
         next += work[p] as usize;
-        p += 1;
     }
 }

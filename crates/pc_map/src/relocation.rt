@@ -2,6 +2,7 @@
 ghost use Rattle.std.specs.Prelude.{◌≡◌, ℕ, ◌+◌, ◌*◌, ◌<◌, ◌≤◌, true, List, length, slice_index};
 ghost use Rattle.instruction.specs.Instruction.{class, imm32_unsigned};
 ghost use Rattle.unit.specs.declared.Metadata.{Metadata};
+ghost use Rattle.unit.specs.Refusal.{test_number};
 ghost use Rattle.unit.specs.Size.{max_instructions, metadata_size};
 ghost use Rattle.effects.specs.laws.Cells.{cell_of, cells_by};
 ghost use Rattle.flow.specs.Branch.{branches, target};
@@ -13,87 +14,74 @@ ghost use Rattle.pc_map.specs.Relocate.{moved_jump, moved_for_loop, relocate, re
 ghost use Rattle.pc_map.specs.laws.Relocated.{cell, moved_exit, relocation_test};
 ghost use Rattle.pc_map.specs.laws.View.{is_retained};
 
-use crate::view;
-use crate::view::Moved;
-use effects::Check;
+use crate::view::PcMap;
 use flow::{branch, hint};
 use instruction::{Class, Instruction};
-use unit::{Metadata, entry, refusal};
+use unit::refusal::{Reason, Refusal};
+use unit::{Metadata, entry};
 
 // A jump goes to the boundary of its old target.
-fn moved_jump(p: usize, i: Instruction, bounds: &[u32]) -> Instruction
-    requires { (p < length bounds.now) × (length bounds.now ≤ max_instructions + 1) × (target p i < length bounds.now) }
-    ensures { (keep : List ℕ) → Mapped keep bounds.now → result ≡ moved_jump keep p i }
+fn moved_jump(p: usize, i: Instruction, map: PcMap) -> Instruction
+    requires { (p < length map.boundaries.now) × (length map.boundaries.now ≤ max_instructions + 1) × (target p i < length map.boundaries.now) }
+    ensures { (keep : List ℕ) → Mapped keep map.entry.boundaries.now → result ≡ moved_jump keep p i }
 {
     let t = branch::target(p, i) as usize;
-    let to = view::boundary_of(bounds, t);
-    let from = view::boundary_of(bounds, p);
-    i.with_imm32(std::num::wrapping_sub_u32(to, from))
+    let to = map.boundary(t);
+    let from = map.boundary(p);
+    i.with_imm32(to.wrapping_sub(from))
 }
 
 // ForLoop too, from the next place. Distances never grow, so that 16 bits are enough.
-fn moved_for_loop(p: usize, i: Instruction, bounds: &[u32]) -> Instruction
-    requires { (p + 1 < length bounds.now) × (length bounds.now ≤ max_instructions + 1) × (target p i < length bounds.now) }
-    ensures { (keep : List ℕ) → Mapped keep bounds.now → result ≡ moved_for_loop keep p i }
+fn moved_for_loop(p: usize, i: Instruction, map: PcMap) -> Instruction
+    requires { (p + 1 < length map.boundaries.now) × (length map.boundaries.now ≤ max_instructions + 1) × (target p i < length map.boundaries.now) }
+    ensures { (keep : List ℕ) → Mapped keep map.entry.boundaries.now → result ≡ moved_for_loop keep p i }
 {
     let t = branch::target(p, i) as usize;
-    let from = std::num::wrapping_add_u32(view::boundary_of(bounds, p), 1);
-    let distance = std::num::wrapping_sub_u32(view::boundary_of(bounds, t), from);
-    Instruction {
-        op: i.op,
-        flags: i.flags,
-        a: i.a,
-        b: i.b,
-        c: (distance % 65536) as u16,
-    }
+    let from = map.boundary(p).wrapping_add(1);
+    let distance = map.boundary(t).wrapping_sub(from);
+    let c = (distance % 65536) as u16;
+    Instruction { c, ..i }
 }
 
 // A loop hint's exit goes to its boundary; a plain hint stays.
-fn moved_hint(i: Instruction, bounds: &[u32]) -> Instruction
-    requires { is_loop_hint i ≡ true → imm32_unsigned i < length bounds.now }
-    ensures { (keep : List ℕ) → Mapped keep bounds.now → result ≡ moved_exit keep i }
+fn moved_hint(i: Instruction, map: PcMap) -> Instruction
+    requires { is_loop_hint i ≡ true → imm32_unsigned i < length map.boundaries.now }
+    ensures { (keep : List ℕ) → Mapped keep map.entry.boundaries.now → result ≡ moved_exit keep i }
 {
     if hint::is_loop_hint(i) {
         let exit = i.imm32_unsigned() as usize;
-        return i.with_imm32(view::boundary_of(bounds, exit));
+        return i.with_imm32(map.boundary(exit));
     }
     i
 }
 
 // The instruction of place p, relocated.
-pub fn relocate(p: usize, i: Instruction, bounds: &[u32]) -> Instruction
-    requires { (p + 1 < length bounds.now) × (length bounds.now ≤ max_instructions + 1) × (branches (class i) ≡ true → target p i < length bounds.now) × (is_loop_hint i ≡ true → imm32_unsigned i < length bounds.now) }
-    ensures { (keep : List ℕ) → Mapped keep bounds.now → (d : Metadata) → result ≡ (relocate keep p (cell i d)).instruction }
+pub fn relocate(p: usize, i: Instruction, map: PcMap) -> Instruction
+    requires { (p + 1 < length map.boundaries.now) × (length map.boundaries.now ≤ max_instructions + 1) × (branches (class i) ≡ true → target p i < length map.boundaries.now) × (is_loop_hint i ≡ true → imm32_unsigned i < length map.boundaries.now) }
+    ensures { (keep : List ℕ) → Mapped keep map.entry.boundaries.now → (d : Metadata) → result ≡ (relocate keep p (cell i d)).instruction }
 {
     if !branch::ends_block(i.op) {
-        return moved_hint(i, bounds);
+        return moved_hint(i, map);
     }
     let c = i.class();
     match c {
-        Class::Jump | Class::JumpIf | Class::JumpIfNot => moved_jump(p, i, bounds),
-        Class::ForLoop => moved_for_loop(p, i, bounds),
+        Class::Jump | Class::JumpIf | Class::JumpIfNot => moved_jump(p, i, map),
+        Class::ForLoop => moved_for_loop(p, i, map),
         _ => i,
     }
 }
 
 // Its metadata: a loop hint's end is an instruction that was retained, and goes with it.
-pub fn relocate_metadata(i: Instruction, d: Metadata, bounds: &[u32]) -> Metadata
-    requires { is_loop_hint i ≡ true → is_retained bounds.now d.end ≡ true }
-    ensures { (keep : List ℕ) → Mapped keep bounds.now → (p : ℕ) → result ≡ (relocate keep p (cell i d)).metadata }
+pub fn relocate_metadata(i: Instruction, d: Metadata, map: PcMap) -> Metadata
+    requires { is_loop_hint i ≡ true → is_retained map.boundaries.now d.end ≡ true }
+    ensures { (keep : List ℕ) → Mapped keep map.entry.boundaries.now → (p : ℕ) → result ≡ (relocate keep p (cell i d)).metadata }
 {
     if !hint::is_loop_hint(i) {
         return d;
     }
-    match view::instruction_of(bounds, d.end as usize) {
-        Moved::To(q) => Metadata {
-            kind: d.kind,
-            ok: d.ok,
-            array: d.array,
-            first: d.first,
-            second: d.second,
-            end: q,
-        },
-        Moved::Removed => d,
+    match map.instruction(d.end as usize) {
+        Some(end) => Metadata { end, ..d },
+        None => d,
     }
 }
 
@@ -101,41 +89,43 @@ pub fn relocate_metadata(i: Instruction, d: Metadata, bounds: &[u32]) -> Metadat
 pub fn is_kept(keep: &[u32], q: usize) -> bool
     ensures { result ≡ is_kept keep.now q }
 {
-    if q < keep.len() { keep[q] == 1 } else { false }
+    q < keep.len() && keep[q] == 1
 }
 
-// The refusal of the instruction at place p, or 0.
-fn relocation_refusal(words: &[u64], metadata: &[u8], keep: &[u32], p: usize) -> u32
+// Why the instruction at place p is refused.
+fn relocation_refusal(words: &[u64], metadata: &[u8], keep: &[u32], p: usize) -> Option<Reason>
     requires { (p < length words.now) × (metadata_size * length words.now ≤ length metadata.now) × (length keep.now ≡ length words.now) }
-    ensures { result ≡ relocation_test keep.now (length words.now) p (cell_of metadata.now p (slice_index words.now p)) }
+    ensures { test_number result ≡ relocation_test keep.now (length words.now) p (cell_of metadata.now p (slice_index words.now p)) }
 {
     let i = Instruction::from_word(words[p]);
     if !hint::is_loop_hint(i) {
-        return 0;
+        return None;
     }
     if keep[p] == 1 {
         let d = entry::metadata(metadata, p);
         let near = (i.imm32_unsigned() as usize) <= words.len();
         if !(near & is_kept(keep, d.end as usize)) {
-            return refusal::LOST_LOOP;
+            return Some(Reason::LostLoop);
         }
     }
-    0
+    None
 }
 
 // Refusal 10, by the list of the control places.
-pub fn check_relocation(words: &[u64], list: &[u64], metadata: &[u8], keep: &[u32]) -> Check
+pub fn check_relocation(
+    words: &[u64],
+    list: &[u64],
+    metadata: &[u8],
+    keep: &[u32],
+) -> Result<(), Refusal>
     requires { (length words.now ≤ max_instructions) × (metadata_size * length words.now ≤ length metadata.now) × (length keep.now ≡ length words.now) × Controls words.now list.now (length words.now) }
     ensures { result ≡ relocation_check keep.now (cells_by words.now metadata.now) }
 {
-    let mut k: usize = 0;
-    while k < list.len() {
-        let p = list[k] as usize;
-        let r = relocation_refusal(words, metadata, keep, p);
-        if r != 0 {
-            return Check::Refused(r, p as u32);
+    for place in list {
+        let p = *place as usize;
+        if let Some(reason) = relocation_refusal(words, metadata, keep, p) {
+            return Err(reason.at(p as u32));
         }
-        k += 1;
     }
-    Check::Passed
+    Ok(())
 }

@@ -24,12 +24,10 @@ fn lowest_kept(work: &[u32], from: usize, to: usize, next: usize) -> usize
     requires { (from ≤ to) × (to ≤ length work.now) }
     ensures { (keep : List ℕ) → ((q : ℕ) → q < to → get_or work.now q 0 ≡ get_or keep q 0) → next ≡ kept_from keep to → result ≡ kept_from keep from }
 {
-    let mut p = from;
-    while p < to {
+    for p in from..to {
         if work[p] == 1 {
             return p;
         }
-        p += 1;
     }
     next
 }
@@ -64,10 +62,8 @@ fn drop_idle(words: &[u64], list: &[u64], work: &mut [u32]) -> bool
     let mut dropped = false;
     let mut next = words.len();
     let mut end = words.len();
-    let mut k = list.len();
-    while k > 0 {
-        k -= 1;
-        let p = list[k] as usize;
+    for place in list.iter().rev() {
+        let p = *place as usize;
         next = lowest_kept(&work[..], p + 1, end, next);
         let kept = work[p] == 1;
         let idle = is_idle(words, &work[..], p, kept, next);
@@ -88,12 +84,10 @@ fn drop_rounds(words: &[u64], list: &[u64], work: &mut [u32])
     requires { Rounds words.now (length work.old) × Controls words.now list.now (length words.now) × Flags (mid_of 0 (length words.now) work.old) }
     ensures { (metadata : List ℕ) → work.new ≡ put_mid 0 (length words.now) work.old (jump_rounds 16 (ends_in (length words.now) work.old) (cells_by words.now metadata) (mid_of 0 (length words.now) work.old)) }
 {
-    let mut k = ROUNDS;
-    while k > 0 {
+    for _ in 0..ROUNDS {
         if !drop_idle(words, list, work) {
             return;
         }
-        k -= 1;
     }
 }
 

@@ -20,12 +20,10 @@ pub fn drop_hints(words: &[u64], list: &[u64], keep: &mut [u32])
     requires { (length keep.old ≡ length words.now) × (length words.now ≤ max_instructions) × Controls words.now list.now (length words.now) }
     ensures { (metadata : List ℕ) → keep.new ≡ useful_places keep.old (cells_by words.now metadata) }
 {
-    let mut k: usize = 0;
-    while k < list.len() {
-        let p = list[k] as usize;
+    for place in list {
+        let p = *place as usize;
         if is_plain_hint(Instruction::from_word(words[p])) {
             keep[p] = 0;
         }
-        k += 1;
     }
 }

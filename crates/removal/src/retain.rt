@@ -11,6 +11,7 @@ ghost use Rattle.answer.specs.Answer.{sections_of};
 ghost use Rattle.removal.specs.laws.KeptWork.{Retainable, Retains, Useful, Stored};
 
 use crate::{jump, plain};
+use effects::Tables;
 use flow::{block, hint};
 use liveness::stores;
 use unit::{region, section};
@@ -40,9 +41,7 @@ fn drop_stores(unit: &[u8], metadata: &[u8], work32: &mut [u32], work64: &mut [u
         &mut work32[0..at + n],
         metadata,
         section::types(unit),
-        section::functions(unit),
-        section::externs(unit),
-        section::cases(unit),
+        Tables::of_unit(unit),
         n,
         count,
     );

@@ -1,6 +1,7 @@
 -- The steps by which the text is read.
-use Rattle.std.proofs.Common.{◌≡◌, ℕ, suc, ◌+◌, ◌-◌, ◌*◌, ◌%◌, ◌<◌, ◌≤◌, List, [], ◌∷◌, length, get_or, drop, refl, add-one, arith, length-drop, drop-cons, le-ltb, lt-ltb, ne_eqb, le-leb}
+use Rattle.std.proofs.Common.{◌≡◌, ℕ, suc, ◌+◌, ◌-◌, ◌*◌, ◌%◌, ◌<◌, ◌≤◌, List, [], ◌∷◌, Bool, true, false, max, nat_le, leb-true, leb-false, ◌∙◌, length, get_or, drop, refl, add-one, arith, length-drop, drop-cons, le-ltb, lt-ltb, ne_eqb, le-leb}
 use Rattle.std.proofs.lemmas.Bool.{lt-leb}
+use Rattle.replay.specs.declared.text.AnswerKind.TheVariants.{Unchanged, Refused, Rewritten}
 use Rattle.replay.specs.Recorded.{space, further, byte_at, word_length, skipped, kind_at, number_from}
 
 -- ---- a byte
@@ -22,6 +23,22 @@ skip_none text i last h = rw (nothing (drop i text) (length-drop i text)) (omega
     nothing : (l : List ℕ) → length l ≡ length text - i → word_length last l ≡ 0
     nothing [] e = refl
     nothing (x ∷ xs) e = absurd (omega arith)
+
+-- nothing ends the word: i is where a walk from `at` stops
+pub skip_end : (text : List ℕ) (at i m last : ℕ) → length text ≤ i → (at ≤ length text → i ≤ length text) → m ≡ max at (length text) → skipped text i last ≡ skipped text at last
+    → m ≡ skipped text at last
+skip_end text at i m last past near e same = go (nat_le at (length text)) refl
+  where
+    go : (b : Bool) → nat_le at (length text) ≡ b → m ≡ skipped text at last
+    go true l =
+        let h = near (leb-true at (length text) l) in
+        let k = leb-true at (length text) l in
+        let end : m ≡ i = omega arith in
+        end ∙ skip_none text i last past ∙ same
+    go false l =
+        let h = leb-false at (length text) l in
+        let end : m ≡ at = omega arith in
+        end ∙ skip_none text at last (omega arith)
 
 pub skip_found : (text : List ℕ) (i last : ℕ) → i < length text → get_or text i 0 ≤ last → i + 1 ≡ skipped text i last
 unfolding skipped word_length
@@ -52,14 +69,14 @@ number_full text i k v h = let none : 9 - k ≡ 0 = omega arith in rw none refl
 
 -- ---- an answer's kind
 
-pub kind_c : (text : List ℕ) (i : ℕ) → byte_at text (further i 2) ≡ 99 → 0 ≡ kind_at text i
+pub kind_c : (text : List ℕ) (i : ℕ) → byte_at text (further i 2) ≡ 99 → Unchanged ≡ kind_at text i
 unfolding kind_at
 kind_c text i e = rw e refl
 
-pub kind_f : (text : List ℕ) (i : ℕ) → byte_at text (further i 2) ≡ 102 → 1 ≡ kind_at text i
+pub kind_f : (text : List ℕ) (i : ℕ) → byte_at text (further i 2) ≡ 102 → Refused ≡ kind_at text i
 unfolding kind_at
 kind_f text i e = rw e refl
 
-pub kind_other : (text : List ℕ) (i : ℕ) → (byte_at text (further i 2) ≡ 99 → ⊥) → (byte_at text (further i 2) ≡ 102 → ⊥) → 2 ≡ kind_at text i
+pub kind_other : (text : List ℕ) (i : ℕ) → (byte_at text (further i 2) ≡ 99 → ⊥) → (byte_at text (further i 2) ≡ 102 → ⊥) → Rewritten ≡ kind_at text i
 unfolding kind_at
 kind_other text i f g = rw (ne_eqb (byte_at text (further i 2)) 99 f, ne_eqb (byte_at text (further i 2)) 102 g) refl

@@ -1,6 +1,8 @@
 -- What the recorded answers say, read from their text: from a place on, past the text's end as spaces.
 -- Assumes nothing.
 use Rattle.std.specs.Prelude.{ℕ, zero, suc, ◌+◌, ◌*◌, ◌%◌, ◌^◌, cond, List, [], ◌∷◌, length, drop, ◌==◌, nat_le, nat_lt, slice_index}
+use Rattle.replay.specs.declared.text.AnswerKind.{AnswerKind}
+use Rattle.replay.specs.declared.text.AnswerKind.TheVariants.{Unchanged, Refused, Rewritten}
 
 abbrev pub space : ℕ
 space = 32
@@ -22,8 +24,8 @@ abbrev pub further : ℕ → ℕ → ℕ
 further i k = (i + k) % 2 ^ 64
 
 -- by its third letter an answer's word is `unchanged`, `refused` or else `rewritten`
-unfoldable pub kind_at : List ℕ → ℕ → ℕ
-kind_at text i = let b = byte_at text (further i 2) in cond (b == 99) 0 (cond (b == 102) 1 2)
+unfoldable pub kind_at : List ℕ → ℕ → AnswerKind
+kind_at text i = let b = byte_at text (further i 2) in cond (b == 99) Unchanged (cond (b == 102) Refused Rewritten)
 
 -- v with up to `left` digits more, the first of them k after place i; only the last eight of v count
 unfoldable pub number_from : ℕ → List ℕ → ℕ → ℕ → ℕ → ℕ

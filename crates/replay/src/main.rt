@@ -8,13 +8,18 @@ use optimize::{Answer, pass};
 use std::fs::File;
 use std::io;
 use std::io::{Read, Seek, SeekFrom};
+use text::AnswerKind;
+use unit::refusal::Refusal;
 
 mod text;
 
-// What a line records of an answer: kind 0 unchanged, 1 refused, 2 rewritten. The text goes on at `next`.
+// No byte from here on is read.
+const FARTHEST: u64 = 1 << 40;
+
+// What a line records of an answer. The text goes on at `next`.
 #[derive(Clone, Copy)]
 struct Recorded {
-    kind: u32,
+    kind: AnswerKind,
     number: u32,
     place: u32,
     next: usize,
@@ -32,7 +37,7 @@ struct Tally {
 fn read_answer(text: &[u8], at: usize) -> Recorded {
     let kind = text::kind(text, at);
     let next = text::skip(text, at, b' ');
-    if kind == 0 {
+    if kind == AnswerKind::Unchanged {
         return Recorded {
             kind,
             number: 0,
@@ -42,7 +47,7 @@ fn read_answer(text: &[u8], at: usize) -> Recorded {
     }
     let number = text::number(text, next);
     let next = text::skip(text, next, b' ');
-    if kind == 2 {
+    if kind == AnswerKind::Rewritten {
         return Recorded {
             kind,
             number,
@@ -58,11 +63,13 @@ fn read_answer(text: &[u8], at: usize) -> Recorded {
     }
 }
 
-fn agrees(a: Answer, r: Recorded) -> bool {
+fn agrees(a: Result<Answer, Refusal>, r: Recorded) -> bool {
     match a {
-        Answer::Unchanged => r.kind == 0,
-        Answer::Refused(k, p) => (r.kind == 1) & (r.number == k) & (r.place == p),
-        Answer::Rewritten(n) => (r.kind == 2) & (r.number == n),
+        Ok(Answer::Unchanged) => r.kind == AnswerKind::Unchanged,
+        Ok(Answer::Rewritten(n)) => (r.kind == AnswerKind::Rewritten) & (r.number == n),
+        Err(Refusal { number, place }) => {
+            (r.kind == AnswerKind::Refused) & (r.number == number) & (r.place == place)
+        }
     }
 }
 
@@ -73,9 +80,13 @@ fn all_zero(work32: &[u32], work64: &[u64]) -> bool
 }
 
 // Does the output hold the result that is recorded, if one is, at a place of the text, and otherwise what it held before?
-fn output_agrees(out: &[u8], text: &[u8], kind: u32, at: usize) -> bool {
+fn output_agrees(out: &[u8], text: &[u8], kind: AnswerKind, at: usize) -> bool {
     let mut expected = [0xa5u8; 512];
-    let result = if kind == 2 { at } else { text.len() };
+    let result = if kind == AnswerKind::Rewritten {
+        at
+    } else {
+        text.len()
+    };
     text::hex(text, result, &mut expected);
     out == expected.as_slice()
 }
@@ -118,7 +129,7 @@ fn line_agrees(text: &[u8]) -> bool {
     let mut unit = [0u8; 512];
     let n = text::hex(text, 0, &mut unit);
     let p = read_answer(text, text::skip(text, 0, b' '));
-    let next = if p.kind == 2 {
+    let next = if p.kind == AnswerKind::Rewritten {
         text::skip(text, p.next, b' ')
     } else {
         p.next
@@ -148,12 +159,7 @@ fn after_line<F: Read + Seek>(rt: &impl Print, file: &mut F, t: Tally) -> io::Re
     let at = t.at.wrapping_add(text::skip(text, 0, b'\n') as u64);
     let lines = t.lines.wrapping_add(1);
     if text::byte(text, 0) == b'#' {
-        return Ok(Tally {
-            at,
-            lines,
-            units: t.units,
-            differ: t.differ,
-        });
+        return Ok(Tally { at, lines, ..t });
     }
     Ok(Tally {
         at,
@@ -170,7 +176,10 @@ fn replay<F: Read + Seek>(rt: &impl Print, file: &mut F) -> io::Result<Tally> {
         units: 0,
         differ: 0,
     };
-    while t.at < 0x10000000000 {
+    for _ in 0..FARTHEST {
+        if t.at >= FARTHEST {
+            return Ok(t);
+        }
         let next = after_line(rt, file, t)?;
         if next.at <= t.at {
             return Ok(t);

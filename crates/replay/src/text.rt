@@ -2,6 +2,13 @@
 ghost use Rattle.std.specs.Prelude.{◌≡◌, ◌<◌, ◌≤◌, length, take};
 ghost use Rattle.replay.specs.Recorded.{byte_at, skipped, kind_at, number_at};
 
+#[derive(Clone, Copy, PartialEq, Eq)]
+pub enum AnswerKind {
+    Unchanged,
+    Refused,
+    Rewritten,
+}
+
 pub fn byte(text: &[u8], at: usize) -> u8
     ensures { result ≡ byte_at text.now at }
 {
@@ -12,27 +19,22 @@ pub fn byte(text: &[u8], at: usize) -> u8
 pub fn skip(text: &[u8], at: usize, last: u8) -> usize
     ensures { result ≡ skipped text.now at last }
 {
-    let mut i = at;
-    while i < text.len() {
+    for i in at..text.len() {
         if text[i] <= last {
             return i + 1;
         }
-        i += 1;
     }
-    i
+    at.max(text.len())
 }
 
-// The answer's word, by its third letter: 0 unchanged, 1 refused, 2 rewritten.
-pub fn kind(text: &[u8], at: usize) -> u32
+// The answer's word, by its third letter.
+pub fn kind(text: &[u8], at: usize) -> AnswerKind
     ensures { result ≡ kind_at text.now at }
 {
-    let letter = byte(text, at.wrapping_add(2));
-    if letter == b'c' {
-        0
-    } else if letter == b'f' {
-        1
-    } else {
-        2
+    match byte(text, at.wrapping_add(2)) {
+        b'c' => AnswerKind::Unchanged,
+        b'f' => AnswerKind::Refused,
+        _ => AnswerKind::Rewritten,
     }
 }
 
@@ -41,14 +43,12 @@ pub fn number(text: &[u8], at: usize) -> u32
     ensures { result ≡ number_at text.now at }
 {
     let mut v: u32 = 0;
-    let mut k = 0;
-    while k < 9 {
+    for k in 0..9 {
         let b = byte(text, at.wrapping_add(k));
         if b <= b' ' {
             return v;
         }
         v = v % 100000000 * 10 + (b % 16) as u32;
-        k += 1;
     }
     v
 }
@@ -65,15 +65,13 @@ pub fn hex(text: &[u8], at: usize, to: &mut [u8]) -> usize
     ensures long { result ≡ length (take result to.new) }
 {
     let mut i = at;
-    let mut k = 0;
-    while k < to.len() {
+    for k in 0..to.len() {
         let b = byte(text, i);
         if b <= b' ' {
             return k;
         }
         to[k] = 16 * digit(b) + digit(byte(text, i.wrapping_add(1)));
         i = i.wrapping_add(2);
-        k += 1;
     }
-    k
+    to.len()
 }

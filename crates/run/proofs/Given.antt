@@ -2,9 +2,8 @@
 -- Assumes nothing.
 use Rattle.std.proofs.Math.Path.{◌≡◌, refl}
 use Rattle.std.proofs.Common.{ap, ◌∙◌, arith, eqb-true}
-use Rattle.std.specs.Prelude.{Bool, true, false, cond, not, ◌&&◌, ◌||◌, eqb, ltb, get_or, drop}
+use Rattle.std.specs.Prelude.{Option, Some, None, Ok, Err, Result, Bool, true, false, cond, not, ◌&&◌, ◌||◌, eqb, ltb, get_or, drop}
 use mathlib.Core.List.{List, [], ◌∷◌, ◌++◌}
-use Rattle.std.proofs.Math.Option.{some}
 use Prim.Native.Nat.{ℕ, zero, suc, ◌+◌, ◌*◌, ◌/◌, ◌^◌, ◌≤◌, ◌<◌}
 use Rattle.std.proofs.Math.ListN.{length, get_or-map}
 use Rattle.std.proofs.lemmas.List.{length-map}
@@ -14,7 +13,7 @@ use Rattle.words.specs.laws.Lists.{length_tabulate, get_d_tabulate}
 use Rattle.instruction.specs.Instruction.{instruction_at}
 use Rattle.instruction.specs.laws.Instruction.{Fields}
 use Rattle.unit.specs.declared.Constant.{Constant}
-use Rattle.unit.specs.declared.Constant.TheVariants.{Nil, Bool as BoolConstant, Int, Float as FloatConstant, String, Missing}
+use Rattle.unit.specs.declared.Constant.TheVariants.{Nil, Bool as BoolConstant, Int, Float as FloatConstant, String}
 use Rattle.unit.specs.declared.Line.{Line}
 use Rattle.lines.specs.Lines.{moved_lines, places_of}
 use Rattle.unit.specs.Entry.{metadata_at, lines_in, constant_of, constant_at, constant_kind, constant_value}
@@ -23,10 +22,11 @@ use Rattle.unit.specs.laws.UnitLaws.{MetadataFields, layout_unit}
 use Rattle.unit.proofs.laws.UnitLaws.{unit_laid}
 use Rattle.unit.specs.Result.{Retained, result_bytes, read_result}
 use Rattle.unit.specs.Size.{instruction_size, metadata_size, constant_size, result_size, max_instructions}
-use Rattle.unit.specs.declared.Layout.{Layout}
-use Rattle.unit.specs.declared.Layout.TheVariants.{Unit as LaidUnit, Refused as LaidRefused}
+use Rattle.unit.specs.declared.Header.{Header}
+use Rattle.unit.specs.declared.refusal.Refusal.{Refusal}
 use Rattle.unit.specs.Refusal.{short_buffer, metadata_count, type_count}
-use Rattle.effects.specs.declared.Check.TheVariants.{Passed, Refused}
+use Rattle.effects.specs.Check.{Passed}
+use Rattle.unit.specs.Refusal.{Refused}
 use Rattle.effects.specs.Shape.{Sections, Cell, cell_at, no_cell}
 use Rattle.values.specs.declared.Atom.{Atom}
 use Rattle.values.specs.declared.Atom.TheVariants.{Integer, Float}
@@ -34,7 +34,6 @@ use Rattle.values.specs.Number.{constant_atom}
 use Rattle.answer.specs.Pass.{Outcome, unchanged, refused, rewritten, output_after, is_worked_on, optimized, pass}
 use Rattle.answer.specs.declared.Admission.{Admission}
 use Rattle.answer.specs.declared.Admission.TheVariants.{Admitted, Unchanged}
-use Rattle.answer.specs.declared.Admission.TheVariants as variant
 use Rattle.answer.specs.Answer.{Lent, cells_of, sections_of, room_for, is_skipped, count_check, admitted_by, after_skipped, after_layout, laid_out, admission, after_admission, answer_with, pass_answer}
 use Rattle.answer.specs.Clean.{retained_cell, cells_after, placed_by, after_pass, clean_from, cleaned_first, spare_for, clean_answer, lines_past, lines_from, lines_first, clean_lines}
 use Rattle.run.specs.laws.Machine.{same_runs_refl}
@@ -71,32 +70,33 @@ unfolding header_of
 lines_fit u b = le_fits 4 u 64 b
 
 -- a constant's word is one of 64 bits
-unfoldable pub Small : Constant → Type 0
-Small Nil = Unit {0}
-Small (BoolConstant v) = v < 2 ^ 64
-Small (Int v) = v < 2 ^ 64
-Small (FloatConstant v) = Unit {0}
-Small String = Unit {0}
-Small Missing = Unit {0}
+unfoldable pub Small : Option Constant → Type 0
+Small (Some Nil) = Unit {0}
+Small (Some (BoolConstant v)) = v < 2 ^ 64
+Small (Some (Int v)) = v < 2 ^ 64
+Small (Some (FloatConstant v)) = Unit {0}
+Small (Some String) = Unit {0}
+Small None = Unit {0}
 
 constant_small : (l : List ℕ) (k : ℕ) → Bytes l → Small (constant_at l k)
 unfolding Small constant_at constant_of
 constant_small l k b =
     let h : constant_value l k < 2 ^ 64 = le_fits 8 l (constant_size * k + 8) b in
+    let found = λ (c : Constant). Small (Some c) in
     pick Small (ltb k (length l / constant_size))
-    (pick Small (eqb (constant_kind l k) 0) tt (pick Small (eqb (constant_kind l k) 1) h (pick Small (eqb (constant_kind l k) 2) h (pick Small (eqb (constant_kind l k) 3) tt tt)))) tt
+    (pick found (eqb (constant_kind l k) 0) tt (pick found (eqb (constant_kind l k) 1) h (pick found (eqb (constant_kind l k) 2) h (pick found (eqb (constant_kind l k) 3) tt tt)))) tt
 
-atom_below : (c : Constant) (v : Atom) → Small c → constant_atom c ≡ some v → (p : ℕ) → Below p v
+atom_below : (c : Option Constant) (v : Atom) → Small c → constant_atom c ≡ Some v → (p : ℕ) → Below p v
 unfolding Small constant_atom
-atom_below Nil v h e p = let q : v ≡ Integer 0 = cc in rw q (integer {v = 0} (omega arith))
-atom_below (BoolConstant w) v h e p = let q : v ≡ Integer w = cc in rw q (integer h)
-atom_below (Int w) v h e p = let q : v ≡ Integer w = cc in rw q (integer h)
-atom_below (FloatConstant w) v h e p = let q : v ≡ Float w = cc in rw q float
-atom_below String v h e p = let z : ◌≡◌ {A = ℕ} 0 1 = cc in absurd (omega arith)
-atom_below Missing v h e p = let z : ◌≡◌ {A = ℕ} 0 1 = cc in absurd (omega arith)
+atom_below (Some Nil) v h e p = let q : v ≡ Integer 0 = cc in rw q (integer {v = 0} (omega arith))
+atom_below (Some (BoolConstant w)) v h e p = let q : v ≡ Integer w = cc in rw q (integer h)
+atom_below (Some (Int w)) v h e p = let q : v ≡ Integer w = cc in rw q (integer h)
+atom_below (Some (FloatConstant w)) v h e p = let q : v ≡ Float w = cc in rw q float
+atom_below (Some String) v h e p = let z : ◌≡◌ {A = ℕ} 0 1 = cc in absurd (omega arith)
+atom_below None v h e p = let z : ◌≡◌ {A = ℕ} 0 1 = cc in absurd (omega arith)
 
 -- the constants of bytes are words of 64 bits
-pub constants_below : (l : List ℕ) → Bytes l → (k : ℕ) (v : Atom) → constant_atom (constant_at l k) ≡ some v → (p : ℕ) → Below p v
+pub constants_below : (l : List ℕ) → Bytes l → (k : ℕ) (v : Atom) → constant_atom (constant_at l k) ≡ Some v → (p : ℕ) → Below p v
 constants_below l b k v = atom_below (constant_at l k) v (constant_small l k b)
 
 pub cell_at_lem : (u : List ℕ) (p : ℕ) → p < (header_of u).counts.instructions → cell_at (cells_of u) p ≡ record { instruction = instruction_at (code_of u) p; metadata = metadata_at (metadata_of u) p }
@@ -166,33 +166,33 @@ module _ (F : Function) (cases : ℕ) where
 -- ---- one pass
 
 -- the rows that let it pass, one by one
-not_admitted : (k p : ℕ) → variant.Refused k p ≡ Admitted → ⊥
+not_admitted : (k p : ℕ) → Refused k p ≡ Ok Admitted → ⊥
 not_admitted k p e = let z : ◌≡◌ {A = ℕ} 0 1 = cc in omega arith
 
-laid_admitted : (u : List ℕ) (rest : Admission) → laid_out (layout_of u) rest ≡ Admitted → (is_unit u ≡ true) × (rest ≡ Admitted) × (lines_rise u ≡ true)
+laid_admitted : (u : List ℕ) (rest : Result Admission Refusal) → laid_out (layout_of u) rest ≡ Ok Admitted → (is_unit u ≡ true) × (rest ≡ Ok Admitted) × (lines_rise u ≡ true)
 unfolding laid_out
 laid_admitted u rest = go (layout_of u) refl
   where
-    go : (y : Layout) → layout_of u ≡ y → laid_out y rest ≡ Admitted → (is_unit u ≡ true) × (rest ≡ Admitted) × (lines_rise u ≡ true)
-    go (LaidUnit h) q e = let l = layout_unit u h q in (l.0, e, l.2)
-    go (LaidRefused k p) q e = absurd (not_admitted k p e)
+    go : (y : Result Header Refusal) → layout_of u ≡ y → laid_out y rest ≡ Ok Admitted → (is_unit u ≡ true) × (rest ≡ Ok Admitted) × (lines_rise u ≡ true)
+    go (Ok h) q e = let l = layout_unit u h q in (l.0, e, l.2)
+    go (Err r) q e = absurd (not_admitted r.number r.place e)
 
-worked_admitted : (s t : Bool) (rest : Admission) → cond (not s || t) Unchanged rest ≡ Admitted → (s ≡ true) × (rest ≡ Admitted)
+worked_admitted : (s t : Bool) (rest : Result Admission Refusal) → cond (not s || t) (Ok Unchanged) rest ≡ Ok Admitted → (s ≡ true) × (rest ≡ Ok Admitted)
 worked_admitted true true rest e = let z : ◌≡◌ {A = ℕ} 0 1 = cc in absurd (omega arith)
 worked_admitted true false rest e = (refl, e)
 worked_admitted false t rest e = let z : ◌≡◌ {A = ℕ} 0 1 = cc in absurd (omega arith)
 
-lent_admitted : (room : Bool) (rest : Admission) → cond room rest (variant.Refused short_buffer 0) ≡ Admitted → (room ≡ true) × (rest ≡ Admitted)
+lent_admitted : (room : Bool) (rest : Result Admission Refusal) → cond room rest (Refused short_buffer 0) ≡ Ok Admitted → (room ≡ true) × (rest ≡ Ok Admitted)
 lent_admitted true rest e = (refl, e)
 lent_admitted false rest e = absurd (not_admitted short_buffer 0 e)
 
-counts_admitted : (s t : Bool) → admitted_by (cond s (cond t Passed (Refused type_count 0)) (Refused metadata_count 0)) ≡ Admitted → (s ≡ true) × (t ≡ true)
+counts_admitted : (s t : Bool) → admitted_by (cond s (cond t Passed (Refused type_count 0)) (Refused metadata_count 0)) ≡ Ok Admitted → (s ≡ true) × (t ≡ true)
 unfolding admitted_by
 counts_admitted true true e = (refl, refl)
 counts_admitted true false e = absurd (not_admitted type_count 0 e)
 counts_admitted false t e = absurd (not_admitted metadata_count 0 e)
 
-pub admitted_worked : (u : List ℕ) (room : Bool) → admission room u ≡ Admitted → Worked u room
+pub admitted_worked : (u : List ℕ) (room : Bool) → admission room u ≡ Ok Admitted → Worked u room
 unfolding admission after_layout after_skipped count_check is_skipped
 admitted_worked u room e =
     let c = (header_of u).counts in
@@ -215,10 +215,10 @@ pub answer_optimized : (u : List ℕ) (room : Bool) (kept : List Retained) → a
 unfolding answer_with after_admission
 answer_optimized u room kept = go (admission room u) refl
   where
-    go : (a : Admission) → admission room u ≡ a → after_admission a (optimized (sections_of u) (cells_of u)) ≡ rewritten kept → Worked u room × (optimized (sections_of u) (cells_of u) ≡ rewritten kept)
-    go Admitted q e = (admitted_worked u room q, e)
-    go Unchanged q e = let z : ◌≡◌ {A = ℕ} 0 1 = cc in absurd (omega arith)
-    go (variant.Refused k p) q e = let z : ◌≡◌ {A = ℕ} 0 1 = cc in absurd (omega arith)
+    go : (a : Result Admission Refusal) → admission room u ≡ a → after_admission a (optimized (sections_of u) (cells_of u)) ≡ rewritten kept → Worked u room × (optimized (sections_of u) (cells_of u) ≡ rewritten kept)
+    go (Ok Admitted) q e = (admitted_worked u room q, e)
+    go (Ok Unchanged) q e = let z : ◌≡◌ {A = ℕ} 0 1 = cc in absurd (omega arith)
+    go (Err r) q e = let z : ◌≡◌ {A = ℕ} 0 1 = cc in absurd (omega arith)
 
 pub answer_worked : (u : List ℕ) (room : Bool) (kept : List Retained) → answer_with room u ≡ rewritten kept → Worked u room
 answer_worked u room kept e = (answer_optimized u room kept e).0

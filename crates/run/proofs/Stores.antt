@@ -2,9 +2,8 @@
 -- Assumes nothing.
 use Rattle.std.proofs.Math.Path.{◌≡◌, refl, sym}
 use Rattle.std.proofs.Common.{ap, ◌∙◌, arith}
-use Rattle.std.specs.Prelude.{Bool, ◌&&◌, List, ℕ, suc, ◌*◌, ◌-◌, ◌/◌, ◌<◌, eqb, leb, length, replicate}
+use Rattle.std.specs.Prelude.{Option, None, Some, Bool, ◌&&◌, List, ℕ, suc, ◌*◌, ◌-◌, ◌/◌, ◌<◌, eqb, leb, length, replicate}
 use Rattle.std.proofs.Math.Bool.{true, false, cond, not, false≢true}
-use Rattle.std.proofs.Math.Option.{Option, none, some}
 use Rattle.std.proofs.lemmas.List.{length-replicate}
 use Rattle.std.proofs.lemmas.Bool.{not-true}
 use Rattle.words.specs.Bytes.{Bytes}
@@ -23,7 +22,7 @@ use Rattle.effects.proofs.laws.Ranges.{writes_sure}
 use Rattle.unit.specs.Layout.{header_of}
 use Rattle.unit.specs.Result.{Retained}
 use Rattle.lines.specs.Lines.{places_of}
-use Rattle.effects.specs.declared.Check.TheVariants.{Passed}
+use Rattle.effects.specs.Check.{Passed}
 use Rattle.effects.specs.Check.{operand_check}
 use Rattle.flow.specs.Branch.{branch_check}
 use Rattle.flow.specs.Block.{block_count, leaders as leaders_of}
@@ -81,7 +80,7 @@ module _ (G : Function) (leaders : List ℕ) (N : Removing G leaders) where
   abbrev kept : List ℕ
   kept = dead_stores S leaders useful code
 
-  module _ (rows : List Row) (found : live_rows S leaders useful code ≡ some rows) where
+  module _ (rows : List Row) (found : live_rows S leaders useful code ≡ Some rows) where
     abbrev A : Analysed S leaders useful code rows
     A = analysed G leaders N rows found
 
@@ -94,7 +93,7 @@ module _ (G : Function) (leaders : List ℕ) (N : Removing G leaders) where
     rows_inside = go (eqb (set_words S.locals) 0) (leb (set_words S.locals * block_count leaders) max_set_words) found
       where
         go : (a b : Bool)
-            → cond a none (cond b (solve_in S n leaders useful (max_liveness_work / (set_words S.locals * block_count leaders)) code (replicate (block_count leaders) (no_row S n leaders useful))) none) ≡ some rows
+            → cond a None (cond b (solve_in S n leaders useful (max_liveness_work / (set_words S.locals * block_count leaders)) code (replicate (block_count leaders) (no_row S n leaders useful))) None) ≡ Some rows
             → Inside G leaders N kept rows
         go true b e = let z : ◌≡◌ {A = ℕ} 0 1 = cc in absurd (omega arith)
         go false true e =
@@ -173,8 +172,8 @@ unfolding kept_places dead_stores without_dead
 kept_long S leads cells = rounds_long (anchors (reached_places cells) cells) cells 16 _ (go (live_rows S leads (useful_places (reached_places cells) cells) cells))
   where
     go : (o : Option (List Row)) → length (without_dead S leads (useful_places (reached_places cells) cells) cells o) ≡ length cells
-    go none = useful_long (reached_places cells) cells
-    go (some rows) = sweep_long S leads (useful_places (reached_places cells) cells) cells rows 0 cells
+    go None = useful_long (reached_places cells) cells
+    go (Some rows) = sweep_long S leads (useful_places (reached_places cells) cells) cells rows 0 cells
 
 -- Of a function that the pass comes so far with, whatever its answer is then.
 module _ (F : Function) (w : Well F) (worked : is_worked_on (length F.cells) ≡ true) where

@@ -1,7 +1,6 @@
 -- Definitions. The machine of document 01's "How a function runs", over nodes: a node is what one instruction at its place does. Nothing here
 -- knows of opcodes. Assumes nothing.
-use Rattle.std.specs.Prelude.{◌≡◌, refl, Bool, true, false, cond, ◌&&◌, ◌||◌, List, [], ◌∷◌, ℕ, suc, ltb, eqb}
-use Rattle.std.proofs.Math.Option.{Option, none, some}
+use Rattle.std.specs.Prelude.{Option, None, Some, ◌≡◌, refl, Bool, true, false, cond, ◌&&◌, ◌||◌, List, [], ◌∷◌, ℕ, suc, ltb, eqb}
 use Rattle.std.proofs.Common.{arith}
 use Rattle.unit.specs.declared.Metadata.{Metadata}
 use Rattle.run.specs.System.{System, Same}
@@ -97,18 +96,18 @@ step W P (over w R) = over w R
 
 -- "place n ends the run"; a place outside 0 to n ends it as a reply does
 unfoldable pub way_of : Program → State → Option Way
-way_of P (at p σ R) = cond (ltb p P.size) none (some (cond (eqb p P.size) by_code by_reply))
-way_of P (over w R) = some w
+way_of P (at p σ R) = cond (ltb p P.size) None (Some (cond (eqb p P.size) by_code by_reply))
+way_of P (over w R) = Some w
 
 unfoldable pub log_of : State → List Event
 log_of (at p σ R) = R
 log_of (over w R) = R
 
-stays_at : (t : Bool) (x y : State) (v w : Way) → cond t none (some v) ≡ some w → cond t x y ≡ y
+stays_at : (t : Bool) (x y : State) (v w : Way) → cond t None (Some v) ≡ Some w → cond t x y ≡ y
 stays_at true x y v w e = let z : ◌≡◌ {A = ℕ} 0 1 = cc in absurd (omega arith)
 stays_at false x y v w e = refl
 
-pub step_stays : (W : World) (P : Program) (x : State) (w : Way) → way_of P x ≡ some w → step W P x ≡ x
+pub step_stays : (W : World) (P : Program) (x : State) (w : Way) → way_of P x ≡ Some w → step W P x ≡ x
 unfolding step way_of
 step_stays W P (at p σ R) w e = stays_at (ltb p P.size) _ _ _ w e
 step_stays W P (over v R) w e = refl

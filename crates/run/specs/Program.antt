@@ -1,6 +1,6 @@
 -- Definitions. What each instruction does in a run: "Pure opcodes, Hint, Jump, JumpIf and JumpIfNot are silent. .. Every other instruction is
 -- outside". Assumes nothing.
-use Rattle.std.specs.Prelude.{Bool, true, false, cond, not, ◌&&◌, List, [], ◌∷◌, ◌++◌, map, ℕ, zero, suc, ◌+◌, ◌-◌, eqb, ltb, length}
+use Rattle.std.specs.Prelude.{Option, Some, None, Bool, true, false, cond, not, ◌&&◌, List, [], ◌∷◌, ◌++◌, map, ℕ, zero, suc, ◌+◌, ◌-◌, eqb, ltb, length}
 use Rattle.words.specs.Lists.{is_in}
 use Rattle.instruction.specs.Opcode as op
 use Rattle.instruction.specs.declared.Class.{Class}
@@ -8,7 +8,7 @@ use Rattle.instruction.specs.declared.Class.TheVariants.{Hint, LoadInt, LoadCons
 use Rattle.instruction.specs.Instruction.{imm32, class}
 use Rattle.unit.specs.declared.Metadata.{Metadata}
 use Rattle.unit.specs.declared.Constant.{Constant}
-use Rattle.unit.specs.declared.Constant.TheVariants.{Nil, Bool as BoolConstant, Int, Float, String, Missing}
+use Rattle.unit.specs.declared.Constant.TheVariants.{Nil, Bool as BoolConstant, Int, Float, String}
 use Rattle.unit.specs.Entry.{constant_at}
 use Rattle.effects.specs.declared.Range.{Range}
 use Rattle.effects.specs.Shape.{Tables, Sections, Cell, cell_at}
@@ -37,13 +37,13 @@ unfoldable pub perhaps_slots : Tables → Cell → List (ℕ → Bool)
 perhaps_slots T x = map (λ r t. range_has t r) (perhaps_writes T x)
 
 -- "LoadConst its constant's word (Nil 0)"; "of a String or a missing constant gives some word fixed by b"
-unfoldable pub constant_word : World → ℕ → Constant → ℕ
-constant_word W b Nil = 0
-constant_word W b (BoolConstant v) = v
-constant_word W b (Int v) = v
-constant_word W b (Float v) = v
-constant_word W b String = W.lost b
-constant_word W b Missing = W.lost b
+unfoldable pub constant_word : World → ℕ → Option Constant → ℕ
+constant_word W b (Some Nil) = 0
+constant_word W b (Some (BoolConstant v)) = v
+constant_word W b (Some (Int v)) = v
+constant_word W b (Some (Float v)) = v
+constant_word W b (Some String) = W.lost b
+constant_word W b None = W.lost b
 
 -- "integer opcodes the word they would fold to"; "The other unary and binary opcodes give some word fixed by opcode, flags and
 -- operand words"

@@ -1,8 +1,7 @@
 -- Definitions. Document 02, L7: which stores have a reader. "Paths go over the code as it is after unreachable code and plain hints are gone and
 -- before stores are dropped", and know nothing of live slots.
 -- Assumes nothing.
-use Rattle.std.specs.Prelude.{◌≡◌, ◌⊎◌, Bool, true, false, ◌&&◌, List, ℕ, suc, ◌<◌, length}
-use Rattle.std.proofs.Math.Option.{some}
+use Rattle.std.specs.Prelude.{Some, ◌≡◌, ◌⊎◌, Bool, true, false, ◌&&◌, List, ℕ, suc, ◌<◌, length}
 use Rattle.words.specs.Lists.{is_in}
 use Rattle.instruction.specs.Class.{is_pure}
 use Rattle.instruction.specs.Instruction.{class}
@@ -59,7 +58,7 @@ useful_in S cells = useful_places (reached_places (numbered S cells)) (numbered 
 
 -- "Where .. w is not 0 and liveness stays inside both limits"
 abbrev pub LiveFound : Sections → List Cell → Type 0
-LiveFound S cells = (rows : List Row) × (live_rows S (leaders_of cells) (useful_in S cells) (numbered S cells) ≡ some rows)
+LiveFound S cells = (rows : List Row) × (live_rows S (leaders_of cells) (useful_in S cells) (numbered S cells) ≡ Some rows)
 
 -- a store of the given cells has a reader
 abbrev pub HasReaderIn : Sections → List Cell → ℕ → Type 0

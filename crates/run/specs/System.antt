@@ -1,7 +1,6 @@
 -- Definitions. Deterministic systems with a record and an end, and what it means that two have the same runs. Nothing here knows of
 -- instructions. Assumes nothing.
-use Rattle.std.specs.Prelude.{◌≡◌, ℕ, zero, suc, ◌≤◌}
-use Rattle.std.proofs.Math.Option.{Option, some}
+use Rattle.std.specs.Prelude.{Option, Some, ◌≡◌, ℕ, zero, suc, ◌≤◌}
 
 -- A state has the record so far and, once it has ended, the way in which it did; then `next` leaves it as it is.
 pub record System (R W : Type 0) : Type 1 where
@@ -9,7 +8,7 @@ pub record System (R W : Type 0) : Type 1 where
   pub next : State → State
   pub log : State → R
   pub way : State → Option W
-  pub stays : (x : State) (w : W) → way x ≡ some w → next x ≡ x
+  pub stays : (x : State) (w : W) → way x ≡ Some w → next x ≡ x
 
 module _ {R W : Type 0} where
   -- the state after k steps
@@ -22,9 +21,9 @@ module _ {R W : Type 0} where
     -- "If the given run has a record after k steps, the returned one has the same after at most k"
     pub logs : (k : ℕ) → (j : ℕ) × (j ≤ k) × (S'.log (after S' j y) ≡ S.log (after S k x))
     -- "if the given one ends in k, the returned one ends with the same record and in the same way .. in at most k"
-    pub ends : (k : ℕ) (w : W) → S.way (after S k x) ≡ some w
-        → (j : ℕ) × (j ≤ k) × (S'.way (after S' j y) ≡ some w) × (S'.log (after S' j y) ≡ S.log (after S k x))
+    pub ends : (k : ℕ) (w : W) → S.way (after S k x) ≡ Some w
+        → (j : ℕ) × (j ≤ k) × (S'.way (after S' j y) ≡ Some w) × (S'.log (after S' j y) ≡ S.log (after S k x))
     -- "and every record and every end of the returned run is the given one's too"
     pub logs⁻ : (j : ℕ) → (k : ℕ) × (S.log (after S k x) ≡ S'.log (after S' j y))
-    pub ends⁻ : (j : ℕ) (w : W) → S'.way (after S' j y) ≡ some w
-        → (k : ℕ) × (S.way (after S k x) ≡ some w) × (S.log (after S k x) ≡ S'.log (after S' j y))
+    pub ends⁻ : (j : ℕ) (w : W) → S'.way (after S' j y) ≡ Some w
+        → (k : ℕ) × (S.way (after S k x) ≡ Some w) × (S.log (after S k x) ≡ S'.log (after S' j y))

@@ -1,7 +1,6 @@
 -- Definitions. The run by places: what a run visits, beside its record. Document 02's desk run (L6) and charge (L12) speak of it.
 -- Assumes nothing.
-use Rattle.std.specs.Prelude.{◌≡◌, Bool, true, cond, List, [], ◌∷◌, ◌++◌, ℕ, suc, ◌<◌, eqb, length, get_or}
-use Rattle.std.proofs.Math.Option.{Option, none, some}
+use Rattle.std.specs.Prelude.{Option, None, Some, ◌≡◌, Bool, true, cond, List, [], ◌∷◌, ◌++◌, ℕ, suc, ◌<◌, eqb, length, get_or}
 use Rattle.words.specs.Lists.{is_in}
 use Rattle.instruction.specs.Opcode as op
 use Rattle.instruction.specs.declared.Class.{Class}
@@ -26,14 +25,14 @@ pub record Noted (A : Type 0) : Type 0 where
 
 -- the notes after a step; a run that is over makes none
 unfoldable pub noted : {W : Type 0} → Option W → List ℕ → List ℕ → List ℕ
-noted none n l = n ++ l
-noted (some w) n l = l
+noted None n l = n ++ l
+noted (Some w) n l = l
 
 module _ {R W : Type 0} where
   abbrev pub note_step : (S : System R W) → (S.State → List ℕ) → Noted S.State → Noted S.State
   note_step S note x = record { content = S.next x.content; notes = noted (S.way x.content) (note x.content) x.notes }
 
-  pub note_stays : (S : System R W) (note : S.State → List ℕ) (x : Noted S.State) (w : W) → S.way x.content ≡ some w → note_step S note x ≡ x
+  pub note_stays : (S : System R W) (note : S.State → List ℕ) (x : Noted S.State) (w : W) → S.way x.content ≡ Some w → note_step S note x ≡ x
   unfolding noted
   note_stays S note x w e = rw (e, S.stays x.content w e)
 

@@ -1,5 +1,6 @@
 -- What is made of a number, by the tests that the code makes.
 -- Assumes nothing.
+use Rattle.std.specs.Prelude.{Result, Ok, Option, Some, None}
 use mathlib.Core.Path.{◌≡◌, refl, sym, ap, ◌∙◌}
 use mathlib.Core.List.{List}
 use Prim.Native.Nat.{ℕ, ◌+◌, ◌-◌, ◌≤◌, ◌<◌}
@@ -12,18 +13,17 @@ use borrow.Rule.Slice.PartMut.{put_mid}
 use Rattle.words.specs.Lists.{tabulate}
 use Rattle.words.specs.laws.Lists.{length_tabulate, get_d_tabulate}
 use Rattle.words.specs.laws.Regions.{put_long, tabulate_turn}
-use Rattle.unit.specs.Refusal.{short_buffer}
+use Rattle.unit.specs.Refusal.{short_buffer, Refused}
 use Rattle.short.specs.Short.{length_of, first_of, unit_size, unit_at, made_of, buffer_after, short_count}
 use Rattle.short.specs.laws.Digits.{unit_at_long}
 use Rattle.short.specs.laws.Ranks.{parts}
-use Rattle.short.specs.declared.Made.{Made}
-use Rattle.short.specs.declared.Made.TheVariants.{Unit, Refused, None}
+use Rattle.unit.specs.declared.refusal.Refusal.{Refusal}
 
 -- the answer, and the buffer after it
-abbrev pub Makes : ℕ → List ℕ → Made → List ℕ → Type 0
+abbrev pub Makes : ℕ → List ℕ → Result (Option ℕ) Refusal → List ℕ → Type 0
 Makes k out r out' = (r ≡ made_of k (length out)) × (out' ≡ buffer_after k out)
 
-pub none_made : (k : ℕ) (out : List ℕ) → short_count ≤ k → Makes k out None out
+pub none_made : (k : ℕ) (out : List ℕ) → short_count ≤ k → Makes k out (Ok None) out
 unfolding made_of buffer_after
 none_made k out h = rw (le-ltb k short_count h) (refl, refl)
 
@@ -77,7 +77,7 @@ module _ {k n first end : ℕ} (d : Known k n first end) where
         let size : end ≡ unit_size (length_of k) = d.end_is ∙ ap unit_size d.length_is in
         rw (lt-ltb k short_count d.some, lt-leb (unit_size (length_of k)) (length out) (rw (← size) h)) (refl, refl)
 
-    pub unit_made : end ≤ length out → (out' : List ℕ) (i : ℕ) → end ≤ i → Written n (k - first) end out out' i → Makes k out (Unit end) out'
+    pub unit_made : end ≤ length out → (out' : List ℕ) (i : ℕ) → end ≤ i → Written n (k - first) end out out' i → Makes k out (Ok (Some end)) out'
     unfolding made_of buffer_after
     unit_made room out' i past w =
         let within = w.within in

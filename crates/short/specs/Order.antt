@@ -1,12 +1,11 @@
 -- What holds of the units of all numbers: each is a unit, each number has its own, and their order is the one that is asked for.
 -- Assumes nothing.
-use Rattle.std.specs.Prelude.{◌≡◌, refl, Bool, true, false, cond, ◌&&◌, ◌||◌, List, [], ◌∷◌, ℕ, zero, suc, ◌+◌, ◌*◌, ◌-◌, ◌/◌, ◌%◌, ◌^◌, ◌≤◌, ◌<◌, eqb, ltb, length, get_or}
+use Rattle.std.specs.Prelude.{Ok, ◌≡◌, refl, Bool, true, false, cond, ◌&&◌, ◌||◌, List, [], ◌∷◌, ℕ, zero, suc, ◌+◌, ◌*◌, ◌-◌, ◌/◌, ◌%◌, ◌^◌, ◌≤◌, ◌<◌, eqb, ltb, length, get_or, Option, Some, None}
 use Rattle.std.proofs.Common.{sym, ap, ◌∙◌, true≢false, mul-add, mul_assoc, mul-suc, mul-le-mul_left, mod-lt, mod-eq_of_lt, pow-suc, arith, ext_get_or, le-ltb, eq-eqb, ltb-true, ltb-false}
 use Rattle.std.proofs.Math.Nat.{mod-add-div, mod-one, one-le-pow, div-div-eq-div-mul}
 use Rattle.words.specs.Le.{u64_at}
 use Rattle.words.specs.Le as le
 use Rattle.words.specs.Lists as lists
-use Rattle.unit.specs.declared.Layout.TheVariants.{Unit as Laid}
 use Rattle.unit.specs.Size.{header_size}
 use Rattle.unit.specs.Entry as entry
 use Rattle.unit.specs.Layout as layout
@@ -15,14 +14,12 @@ use Rattle.short.specs.Short.{length_of, first_of, rank_of, digits, digits_of, l
 use Rattle.short.specs.laws.Ranks.{Parts, by_length, parts}
 use Rattle.short.specs.laws.Digits.{digits_long, digit_at, below_base, unit_at_long, read_word}
 use Rattle.short.specs.laws.Words.{distinct}
-use Rattle.short.specs.declared.Found.{Found}
-use Rattle.short.specs.declared.Found.TheVariants.{At, None}
 
 -- "Produce each .. as a unit"
-pub each_unit : (k : ℕ) → k < short_count → layout_of (unit_of k) ≡ Laid (header_of (unit_of k))
+pub each_unit : (k : ℕ) → k < short_count → layout_of (unit_of k) ≡ Ok (header_of (unit_of k))
 unfolding digits little_endian header_words unit_of_code le.to_le le.from_le lists.every lists.lowest_below lists.tabulate lists.tabulate_from entry.metadata_at entry.good_metadata entry.is_wide_select entry.good_constant entry.case_at entry.good_case layout.header_of layout.sections_follow layout.good_counts layout.has_sections layout.good_entries layout.is_unit layout.wide_select layout.lines_rise layout.after_lines layout.after_unit layout.layout_of entry.good_line entry.line_at
 each_unit k h =
-    by_length (λ n. (r : ℕ) → layout_of (unit_at n r) ≡ Laid (header_of (unit_at n r))) (λ r. refl) (λ r. refl) (λ r. refl) (length_of k) (parts k h).two (parts k h).four (rank_of k)
+    by_length (λ n. (r : ℕ) → layout_of (unit_at n r) ≡ Ok (header_of (unit_at n r))) (λ r. refl) (λ r. refl) (λ r. refl) (length_of k) (parts k h).two (parts k h).four (rank_of k)
 
 -- ---- "shorter first, then by the earliest differing instruction"
 
@@ -161,9 +158,9 @@ pub each_once : (j k : ℕ) → j < short_count → k < short_count → unit_of 
 each_once j k h i same = same_digits j k h i (same_units j k h i same)
 
 -- there is one right number: two right answers are the same
-pub unique : (u : List ℕ) (a b : Found) → HasNumber u a → HasNumber u b → a ≡ b
+pub unique : (u : List ℕ) (a b : Option ℕ) → HasNumber u a → HasNumber u b → a ≡ b
 unfolding HasNumber
-unique u (At j) (At k) p q = ap At (each_once j k p.0 q.0 (sym p.1 ∙ q.1))
-unique u (At j) None p q = absurd (q j p.0 p.1)
-unique u None (At k) p q = absurd (p k q.0 q.1)
+unique u (Some j) (Some k) p q = ap Some (each_once j k p.0 q.0 (sym p.1 ∙ q.1))
+unique u (Some j) None p q = absurd (q j p.0 p.1)
+unique u None (Some k) p q = absurd (p k q.0 q.1)
 unique u None None p q = refl

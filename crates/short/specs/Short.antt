@@ -1,18 +1,15 @@
 -- Definitions. All short functions (document 02, L11): the unit of a number, and the number of a unit.
 -- Assumes nothing.
-use Rattle.std.specs.Prelude.{◌≡◌, cond, ◌&&◌, List, [], ◌∷◌, ◌++◌, map, ℕ, zero, suc, ◌+◌, ◌*◌, ◌-◌, ◌/◌, ◌%◌, ◌^◌, ◌<◌, eqb, leb, ltb, length, get_or}
+use Rattle.std.specs.Prelude.{Result, Ok, ◌≡◌, cond, ◌&&◌, List, [], ◌∷◌, ◌++◌, map, ℕ, zero, suc, ◌+◌, ◌*◌, ◌-◌, ◌/◌, ◌%◌, ◌^◌, ◌<◌, eqb, leb, ltb, length, get_or, Option, Some, None}
 use borrow.Rule.Slice.PartMut.{put_mid}
 use Rattle.words.specs.Le.{to_le}
 use Rattle.words.specs.Lists.{tabulate}
 use Rattle.instruction.specs.Opcode as op
 use Rattle.instruction.specs.declared.Instruction.{Instruction}
 use Rattle.instruction.specs.Instruction.{to_word, plain}
-use Rattle.unit.specs.Refusal.{short_buffer}
+use Rattle.unit.specs.Refusal.{short_buffer, Refused}
 use Rattle.unit.specs.Size.{header_size, instruction_size, metadata_size}
-use Rattle.short.specs.declared.Made.{Made}
-use Rattle.short.specs.declared.Made.TheVariants.{Unit, Refused, None}
-use Rattle.short.specs.declared.Found.{Found}
-use Rattle.short.specs.declared.Found.TheVariants.{At, None as NotFound}
+use Rattle.unit.specs.declared.refusal.Refusal.{Refusal}
 
 -- "24 instructions in this order: LoadInt (a, then value 0 or 1), Copy (a, b), AddI (a, b, c), JumpIf (a, then distance −1 or 1),
 -- Jump (−1 or 1), Return of slot 0 with count 0 or 1". Values and distances are b + 65,536 × c, read as signed.
@@ -121,10 +118,10 @@ unit_of k = unit_at (length_of k) (rank_of k)
 
 -- "Produce each exactly once from its number .. at the front of a lent buffer whose rest stays (refused 2 if too short)"; "a number
 -- past the last .. yield[s] none". The number, and the buffer's length.
-unfoldable pub made_of : ℕ → ℕ → Made
+unfoldable pub made_of : ℕ → ℕ → Result (Option ℕ) Refusal
 made_of k room =
     let size = unit_size (length_of k) in
-    cond (ltb k short_count) (cond (leb size room) (Unit size) (Refused short_buffer 0)) None
+    cond (ltb k short_count) (cond (leb size room) (Ok (Some size)) (Refused short_buffer 0)) (Ok None)
 
 unfoldable pub buffer_after : ℕ → List ℕ → List ℕ
 buffer_after k out =
@@ -133,6 +130,6 @@ buffer_after k out =
     cond (ltb k short_count && leb size (length out)) written out
 
 -- "and its number from it; .. any other bytes yield none"
-unfoldable pub HasNumber : List ℕ → Found → Type 0
-HasNumber u (At k) = (k < short_count) × (u ≡ unit_of k)
-HasNumber u NotFound = (k : ℕ) → k < short_count → u ≡ unit_of k → ⊥
+unfoldable pub HasNumber : List ℕ → Option ℕ → Type 0
+HasNumber u (Some k) = (k < short_count) × (u ≡ unit_of k)
+HasNumber u None = (k : ℕ) → k < short_count → u ≡ unit_of k → ⊥

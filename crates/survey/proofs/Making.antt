@@ -1,5 +1,6 @@
 -- The unit of a number fits the program's buffer.
 -- Assumes nothing.
+use Rattle.std.specs.Prelude.{Result, Ok, Option, Some, None}
 use Rattle.std.proofs.Common.{◌≡◌, ◌∙◌, refl, List, replicate, ℕ, ◌≤◌, ◌<◌, arith, length, take, lt-ltb, le-leb}
 use lib.Seq.{take_at}
 use borrow.Rule.Slice.PartMut.{put_mid}
@@ -7,25 +8,25 @@ use Rattle.words.specs.laws.Regions.{put_long}
 use Rattle.short.specs.Short.{length_of, rank_of, unit_size, unit_of, short_count, made_of, buffer_after}
 use Rattle.short.specs.laws.Ranks.{parts}
 use Rattle.short.specs.laws.Digits.{unit_at_long}
-use Rattle.short.specs.declared.Made.{Made}
-use Rattle.short.specs.declared.Made.TheVariants.{Unit, Refused, None}
+use Rattle.unit.specs.Refusal.{Refused}
+use Rattle.unit.specs.declared.refusal.Refusal.{Refusal}
 
 -- what is made of a number k with a buffer of 256 bytes
-pub record Made256 (k : ℕ) (out : List ℕ) (r : Made) (out' : List ℕ) : Type 0 where
+pub record Made256 (k : ℕ) (out : List ℕ) (r : Result (Option ℕ) Refusal) (out' : List ℕ) : Type 0 where
   pub some : k < short_count
   pub room : length out ≡ 256
   pub answer : r ≡ made_of k (length out)
   pub buffer : out' ≡ buffer_after k out
 
 -- what the code that makes it promises is that
-pub made256 : {k : ℕ} {r : Made} {out' : List ℕ} → k < short_count → (r ≡ made_of k 256) × (out' ≡ buffer_after k (replicate 256 0)) → Made256 k (replicate 256 0) r out'
+pub made256 : {k : ℕ} {r : Result (Option ℕ) Refusal} {out' : List ℕ} → k < short_count → (r ≡ made_of k 256) × (out' ≡ buffer_after k (replicate 256 0)) → Made256 k (replicate 256 0) r out'
 made256 low e = record { some = low; room = refl; answer = e.0; buffer = e.1 }
 
-module _ {k : ℕ} {out : List ℕ} {r : Made} {out' : List ℕ} (m : Made256 k out r out') where
+module _ {k : ℕ} {out : List ℕ} {r : Result (Option ℕ) Refusal} {out' : List ℕ} (m : Made256 k out r out') where
   fits : unit_size (length_of k) ≤ length out
   fits = let few = (parts k m.some).four in let room = m.room in omega arith
 
-  pub made : r ≡ Unit (unit_size (length_of k))
+  pub made : r ≡ Ok (Some (unit_size (length_of k)))
   unfolding made_of
   made = m.answer ∙ rw (lt-ltb k short_count m.some, le-leb (unit_size (length_of k)) (length out) fits)
 
@@ -33,7 +34,7 @@ module _ {k : ℕ} {out : List ℕ} {r : Made} {out' : List ℕ} (m : Made256 k 
   unfolding buffer_after
   put = m.buffer ∙ rw (lt-ltb k short_count m.some, le-leb (unit_size (length_of k)) (length out) fits)
 
-  module _ (size : ℕ) (e : r ≡ Unit size) where
+  module _ (size : ℕ) (e : r ≡ Ok (Some size)) where
     size_is : size ≡ unit_size (length_of k)
     size_is = cc made
 
@@ -48,5 +49,5 @@ module _ {k : ℕ} {out : List ℕ} {r : Made} {out' : List ℕ} (m : Made256 k 
   pub not_refused : (n p : ℕ) → r ≡ Refused n p → ⊥
   not_refused n p e = let z : ◌≡◌ {A = ℕ} 0 1 = cc made in omega arith
 
-  pub not_none : r ≡ None → ⊥
+  pub not_none : r ≡ Ok None → ⊥
   not_none e = let z : ◌≡◌ {A = ℕ} 0 1 = cc made in omega arith

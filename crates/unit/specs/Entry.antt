@@ -1,16 +1,13 @@
 -- Definitions. The entries of the unit's sections, each read from its section's bytes.
 -- Assumes nothing.
-use Rattle.std.specs.Prelude.{Bool, true, false, cond, ◌&&◌, List, ◌∷◌, ◌++◌, ℕ, suc, ◌+◌, ◌*◌, ◌/◌, eqb, leb, ltb, length, get_or}
+use Rattle.std.specs.Prelude.{Option, None, Some, Bool, true, false, cond, ◌&&◌, List, ◌∷◌, ◌++◌, ℕ, suc, ◌+◌, ◌*◌, ◌/◌, eqb, leb, ltb, length, get_or}
 use Rattle.words.specs.Le.{u16_at, u32_at, u64_at, to_le}
 use Rattle.words.specs.Lists.{tabulate}
 use Rattle.unit.specs.Size.{metadata_size, constant_size, function_size, extern_size, case_size, line_size, max_select_cases}
 use Rattle.unit.specs.declared.Metadata.{Metadata}
 use Rattle.unit.specs.declared.Constant.{Constant}
-use Rattle.unit.specs.declared.Constant.TheVariants.{Nil, Bool as BoolConstant, Int, Float, String, Missing as MissingConstant}
+use Rattle.unit.specs.declared.Constant.TheVariants.{Nil, Bool as BoolConstant, Int, Float, String}
 use Rattle.unit.specs.declared.Callee.{Callee}
-use Rattle.unit.specs.declared.Callee.TheVariants.{Slots, Missing as MissingFunction}
-use Rattle.unit.specs.declared.Extern.{Extern}
-use Rattle.unit.specs.declared.Extern.TheVariants.{Returns, Missing as MissingExtern}
 use Rattle.unit.specs.declared.SelectCase.{SelectCase}
 use Rattle.unit.specs.declared.Line.{Line}
 
@@ -115,26 +112,26 @@ constant_kind l k = get_or l (constant_size * k) 0
 abbrev pub constant_value : List ℕ → ℕ → ℕ
 constant_value l k = u64_at l (constant_size * k + 8)
 
-unfoldable pub constant_at : List ℕ → ℕ → Constant
+unfoldable pub constant_at : List ℕ → ℕ → Option Constant
 constant_at l k =
-    let found = constant_of (constant_kind l k) (constant_value l k) in
-    cond (ltb k (length l / constant_size)) found MissingConstant
+    let found = Some (constant_of (constant_kind l k) (constant_value l k)) in
+    cond (ltb k (length l / constant_size)) found None
 
 unfoldable pub good_constant : List ℕ → ℕ → Bool
 good_constant l k =
     cond (leb (constant_kind l k) 4) (cond (eqb (constant_kind l k) 1) (leb (constant_value l k) 1) true) false
 
 -- "Callee: parameter and return slots, 16 bits each"
-unfoldable pub function_at : List ℕ → ℕ → Callee
+unfoldable pub function_at : List ℕ → ℕ → Option Callee
 function_at l k =
-    let found = Slots (u16_at l (function_size * k)) (u16_at l (function_size * k + 2)) in
-    cond (ltb k (length l / function_size)) found MissingFunction
+    let found = Some (record { params = u16_at l (function_size * k); returns = u16_at l (function_size * k + 2) }) in
+    cond (ltb k (length l / function_size)) found None
 
 -- "Extern: return slots, 16 bits"
-unfoldable pub extern_at : List ℕ → ℕ → Extern
+unfoldable pub extern_at : List ℕ → ℕ → Option ℕ
 extern_at l k =
-    let found = Returns (u16_at l (extern_size * k)) in
-    cond (ltb k (length l / extern_size)) found MissingExtern
+    let found = Some (u16_at l (extern_size * k)) in
+    cond (ltb k (length l / extern_size)) found None
 
 -- "Case, 8 bytes: kind (0 send, 1 receive), has_ok likewise, queue, value or destination, element slots"
 unfoldable pub case_at : List ℕ → ℕ → SelectCase

@@ -1,15 +1,14 @@
 -- Definitions. "The unit": its header, its sections, and whether bytes are one.
 -- Assumes nothing.
-use Rattle.std.specs.Prelude.{Bool, false, cond, ◌&&◌, List, ℕ, ◌+◌, ◌*◌, eqb, leb, ltb, length}
+use Rattle.std.specs.Prelude.{Result, Ok, Bool, false, cond, ◌&&◌, List, ℕ, ◌+◌, ◌*◌, eqb, leb, ltb, length}
 use borrow.Rule.Slice.PartMut.{mid_of}
 use Rattle.words.specs.Le.{u32_at}
 use Rattle.words.specs.Lists.{every, lowest_below}
-use Rattle.unit.specs.Refusal.{not_unit, line_places, too_many_cases}
+use Rattle.unit.specs.Refusal.{not_unit, line_places, too_many_cases, Refused}
 use Rattle.unit.specs.Size.{header_size, instruction_size, metadata_size, constant_size, function_size, extern_size, case_size, line_size, max_local_slots}
 use Rattle.unit.specs.Entry.{metadata_at, good_metadata, is_wide_select, type_at, good_type, good_constant, case_at, good_case, good_line}
 use Rattle.unit.specs.declared.Header.{Header}
-use Rattle.unit.specs.declared.Layout.{Layout}
-use Rattle.unit.specs.declared.Layout.TheVariants.{Unit, Refused}
+use Rattle.unit.specs.declared.refusal.Refusal.{Refusal}
 
 -- "a header of counts and offsets: instructions n, metadata m, local slots s .., slot types, defer .., constants, functions,
 -- externs, select cases; then the byte offsets of code, metadata, types, constants, functions, externs, cases"; document 02, L3:
@@ -120,13 +119,13 @@ lines_rise u =
 -- The first rows of the table of answers, which are those of the unit's own bytes, from the last upward.
 
 -- "13, place of the lowest such record"
-unfoldable pub after_lines : List ℕ → Layout
-after_lines u = cond (ltb (wide_select u) (header_of u).counts.metadata) (Refused too_many_cases (wide_select u)) (Unit (header_of u))
+unfoldable pub after_lines : List ℕ → Result Header Refusal
+after_lines u = cond (ltb (wide_select u) (header_of u).counts.metadata) (Refused too_many_cases (wide_select u)) (Ok (header_of u))
 
 -- "11, place 0: places not strictly rising or not below n; checked directly after 1"
-unfoldable pub after_unit : List ℕ → Layout
+unfoldable pub after_unit : List ℕ → Result Header Refusal
 after_unit u = let rest = after_lines u in cond (lines_rise u) rest (Refused line_places 0)
 
 -- "refused 1, place 0: unit not as above"
-unfoldable pub layout_of : List ℕ → Layout
+unfoldable pub layout_of : List ℕ → Result Header Refusal
 layout_of u = let rest = after_unit u in cond (is_unit u) rest (Refused not_unit 0)

@@ -1,6 +1,9 @@
--- Definitions. The refusal numbers of document 01's table of answers, and those of document 02.
+-- Definitions. The refusal numbers of document 01's table of answers, and those of document 02; a refusal, with number and place.
 -- Assumes nothing.
-use Rattle.std.specs.Prelude.{ℕ}
+use Rattle.std.specs.Prelude.{ℕ, Option, None, Some, Result, Err}
+use Rattle.unit.specs.declared.refusal.Reason.{Reason}
+use Rattle.unit.specs.declared.refusal.Reason.TheVariants.{NotUnit, ShortBuffer, MetadataCount, TypeCount, InvalidOpcode, EffectError, SlotOutside, BranchOutside, UnsoundLoop, LostLoop, LinePlaces, FrameLength, TooManyCases, TariffLength}
+use Rattle.unit.specs.declared.refusal.Refusal.{Refusal}
 
 -- "unit not as above"
 abbrev pub not_unit : ℕ
@@ -55,3 +58,32 @@ too_many_cases = 13
 -- document 02, L12: "tariff not 256 prices"
 abbrev pub tariff_length : ℕ
 tariff_length = 15
+
+-- the number of a reason
+abbrev pub reason_number : Reason → ℕ
+reason_number NotUnit = not_unit
+reason_number ShortBuffer = short_buffer
+reason_number MetadataCount = metadata_count
+reason_number TypeCount = type_count
+reason_number InvalidOpcode = invalid_opcode
+reason_number EffectError = effect_error
+reason_number SlotOutside = slot_outside
+reason_number BranchOutside = branch_outside
+reason_number UnsoundLoop = unsound_loop
+reason_number LostLoop = lost_loop
+reason_number LinePlaces = line_places
+reason_number FrameLength = frame_length
+reason_number TooManyCases = too_many_cases
+reason_number TariffLength = tariff_length
+
+-- that of a test's answer: 0 where there is no reason to refuse
+abbrev pub test_number : Option Reason → ℕ
+test_number None = 0
+test_number (Some x) = reason_number x
+
+abbrev pub refusal : ℕ → ℕ → Refusal
+refusal k p = record { number = k; place = p }
+
+-- what is refused with a number and a place
+abbrev pub Refused : {A : Type 0} → ℕ → ℕ → Result A Refusal
+Refused k p = Err (refusal k p)

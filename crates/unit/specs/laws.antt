@@ -1,3 +1,4 @@
 pub mod Size
 pub mod UnitLaws
 pub mod Region
+pub mod Refusals

@@ -4,9 +4,10 @@ ghost use borrow.Rule.Slice.PartMut.{put_mid};
 ghost use Rattle.unit.specs.Size.{metadata_size, case_size, line_size};
 ghost use Rattle.unit.specs.Entry.{metadata_at, metadata_bytes, type_at, constant_of, constant_at, function_at, extern_at, case_at, line_at, line_bytes};
 
-use crate::{Callee, Constant, Extern, Line, Metadata, SelectCase, size};
+use crate::{Callee, Constant, Line, Metadata, SelectCase, kind, size};
 use words::le;
 
+#[tactic(auto, unfolding(crate::specs::Entry::metadata_at))]
 pub fn metadata(section: &[u8], k: usize) -> Metadata
     requires { metadata_size * k + metadata_size ≤ length section.now }
     ensures { result ≡ metadata_at section.now k }
@@ -34,50 +35,59 @@ pub fn write_metadata(d: &mut [u8], at: usize, m: Metadata)
     le::write_u32(d, at + 12, m.end);
 }
 
+#[tactic(auto, unfolding(crate::specs::Entry::constant_of))]
 fn constant_of(kind: u8, value: u64) -> Constant
     ensures { result ≡ constant_of kind value }
 {
     match kind {
-        0 => Constant::Nil,
-        1 => Constant::Bool(value),
-        2 => Constant::Int(value),
-        3 => Constant::Float(value),
+        kind::NIL => Constant::Nil,
+        kind::BOOL => Constant::Bool(value),
+        kind::INT => Constant::Int(value),
+        kind::FLOAT => Constant::Float(value),
         _ => Constant::String,
     }
 }
 
-pub fn constant(section: &[u8], k: usize) -> Constant
+#[tactic(auto, unfolding(crate::specs::Entry::constant_at))]
+pub fn constant(section: &[u8], k: usize) -> Option<Constant>
     ensures { result ≡ constant_at section.now k }
 {
     if k < section.len() / size::CONSTANT {
         let at = size::CONSTANT * k;
-        constant_of(section[at], le::read_u64(section, at + 8))
+        Some(constant_of(section[at], le::read_u64(section, at + 8)))
     } else {
-        Constant::Missing
+        None
     }
 }
 
-pub fn function(section: &[u8], k: usize) -> Callee
+#[tactic(auto, unfolding(crate::specs::Entry::function_at))]
+pub fn function(section: &[u8], k: usize) -> Option<Callee>
     ensures { result ≡ function_at section.now k }
 {
     if k < section.len() / size::FUNCTION {
         let at = size::FUNCTION * k;
-        Callee::Slots(le::read_u16(section, at), le::read_u16(section, at + 2))
+        Some(Callee {
+            params: le::read_u16(section, at),
+            returns: le::read_u16(section, at + 2),
+        })
     } else {
-        Callee::Missing
+        None
     }
 }
 
-pub fn extern_of(section: &[u8], k: usize) -> Extern
+// An extern's return slots.
+#[tactic(auto, unfolding(crate::specs::Entry::extern_at))]
+pub fn extern_of(section: &[u8], k: usize) -> Option<u16>
     ensures { result ≡ extern_at section.now k }
 {
     if k < section.len() / size::EXTERN {
-        Extern::Returns(le::read_u16(section, size::EXTERN * k))
+        Some(le::read_u16(section, size::EXTERN * k))
     } else {
-        Extern::Missing
+        None
     }
 }
 
+#[tactic(auto, unfolding(crate::specs::Entry::case_at))]
 pub fn select_case(section: &[u8], k: usize) -> SelectCase
     requires { case_size * k + case_size ≤ length section.now }
     ensures { result ≡ case_at section.now k }
@@ -92,6 +102,7 @@ pub fn select_case(section: &[u8], k: usize) -> SelectCase
     }
 }
 
+#[tactic(auto, unfolding(crate::specs::Entry::line_at))]
 pub fn line(section: &[u8], k: usize) -> Line
     requires { line_size * k + line_size ≤ length section.now }
     ensures { result ≡ line_at section.now k }

@@ -3,6 +3,7 @@
 
 pub mod entry;
 pub mod field;
+pub mod kind;
 pub mod refusal;
 pub mod region;
 pub mod result;
@@ -43,13 +44,6 @@ pub struct Header {
     pub offsets: Offsets,
 }
 
-// A unit, or the number and place of its refusal.
-#[derive(Clone, Copy)]
-pub enum Layout {
-    Unit(Header),
-    Refused(u32, u32),
-}
-
 #[derive(Clone, Copy)]
 pub struct Metadata {
     pub kind: u8,
@@ -67,21 +61,13 @@ pub enum Constant {
     Int(u64),
     Float(u64),
     String,
-    Missing,
 }
 
 // A function's parameter and return slots.
 #[derive(Clone, Copy)]
-pub enum Callee {
-    Slots(u16, u16),
-    Missing,
-}
-
-// An extern's return slots.
-#[derive(Clone, Copy)]
-pub enum Extern {
-    Returns(u16),
-    Missing,
+pub struct Callee {
+    pub params: u16,
+    pub returns: u16,
 }
 
 #[derive(Clone, Copy)]

@@ -1,28 +1,40 @@
-// The refusal numbers of the table of answers.
-pub const NOT_UNIT: u32 = 1;
+// Why a unit is refused, and where: the rows of the tables of answers that refuse.
+ghost use Rattle.std.specs.Prelude.{◌≡◌};
+ghost use Rattle.unit.specs.Refusal.{reason_number, refusal};
 
-pub const SHORT_BUFFER: u32 = 2;
+// The reasons, each with its number.
+#[derive(Clone, Copy, Debug, PartialEq, Eq)]
+pub enum Reason {
+    NotUnit = 1,
+    ShortBuffer = 2,
+    MetadataCount = 3,
+    TypeCount = 4,
+    InvalidOpcode = 5,
+    EffectError = 6,
+    SlotOutside = 7,
+    BranchOutside = 8,
+    UnsoundLoop = 9,
+    LostLoop = 10,
+    LinePlaces = 11,
+    FrameLength = 12,
+    TooManyCases = 13,
+    TariffLength = 15,
+}
 
-pub const METADATA_COUNT: u32 = 3;
+// A refusal: the number of its reason, and the place that it names.
+#[derive(Clone, Copy, Debug, PartialEq, Eq)]
+pub struct Refusal {
+    pub number: u32,
+    pub place: u32,
+}
 
-pub const TYPE_COUNT: u32 = 4;
-
-pub const INVALID_OPCODE: u32 = 5;
-
-pub const EFFECT_ERROR: u32 = 6;
-
-pub const SLOT_OUTSIDE: u32 = 7;
-
-pub const BRANCH_OUTSIDE: u32 = 8;
-
-pub const UNSOUND_LOOP: u32 = 9;
-
-pub const LOST_LOOP: u32 = 10;
-
-pub const LINE_PLACES: u32 = 11;
-
-pub const FRAME_LENGTH: u32 = 12;
-
-pub const TOO_MANY_CASES: u32 = 13;
-
-pub const TARIFF_LENGTH: u32 = 15;
+impl Reason {
+    pub fn at(self, place: u32) -> Refusal
+        ensures refusal { result ≡ refusal (reason_number self) place }
+    {
+        Refusal {
+            number: self as u32,
+            place,
+        }
+    }
+}

@@ -1,5 +1,5 @@
 // Sizes of the layout, limits, and the lengths of the buffers that a caller lends.
-ghost use Rattle.std.specs.Prelude.{◌≡◌, ◌^◌, ◌≤◌, ◌<◌, min};
+ghost use Rattle.std.specs.Prelude.{◌≡◌, ◌^◌, ◌≤◌, ◌<◌};
 ghost use Rattle.unit.specs.Size.{output_room, work32_room, set_words, work64_room, max_local_slots};
 
 // Bytes of the header and of one entry of each section.
@@ -58,13 +58,7 @@ pub fn set_words(s: usize) -> usize
     requires { s ≤ max_local_slots }
     ensures { result ≡ set_words s }
 {
-    (s + 63) / 64
-}
-
-pub fn lesser(a: usize, b: usize) -> usize
-    ensures { result ≡ min a b }
-{
-    if a < b { a } else { b }
+    s.div_ceil(64)
 }
 
 // No set has a word where there are no local slots; a division by their number has no answer then.
@@ -76,6 +70,6 @@ pub fn work64_room(n: usize, s: usize) -> usize
     if w == 0 {
         24 * n + 4 * s
     } else {
-        24 * n + 4 * s + w + 3 * w * lesser(n, MAX_SET_WORDS / w)
+        24 * n + 4 * s + w + 3 * w * n.min(MAX_SET_WORDS / w)
     }
 }

@@ -13,18 +13,19 @@ use effects::{Range, form};
 use instruction::{Class, Instruction};
 use words::bits;
 
+#[tactic(auto, unfolding(instruction::specs::Class::is_pure))]
 fn is_pure(c: Class) -> bool
     ensures { result ≡ is_pure c }
 {
-    match c {
+    matches!(
+        c,
         Class::LoadInt
-        | Class::LoadConst
-        | Class::Copy
-        | Class::CopyN
-        | Class::Unary
-        | Class::Binary => true,
-        _ => false,
-    }
+            | Class::LoadConst
+            | Class::Copy
+            | Class::CopyN
+            | Class::Unary
+            | Class::Binary
+    )
 }
 
 // A slot of type Value or Float that is not live.
@@ -40,12 +41,10 @@ fn each_free(types: &[u8], row: &[u64], start: usize, count: usize) -> bool
     requires { Spans types.now row.now (range start count) }
     ensures { result ≡ free_range types.now row.now (range start count) }
 {
-    let mut k: usize = 0;
-    while k < count {
+    for k in 0..count {
         if !is_free(types, row, start + k) {
             return false;
         }
-        k += 1;
     }
     true
 }

@@ -1,5 +1,5 @@
 // Sets of slots: slot t is bit t % 64 of word t / 64.
-ghost use Rattle.std.specs.Prelude.{◌≡◌, ℕ, ◌+◌, ◌-◌, ◌*◌, ◌^◌, ◌<◌, ◌≤◌, Bool, true, ◌&&◌, ◌||◌, length, replicate, if◌then◌else◌, ◌==◌, bit_and, bit_or, nat_eq};
+ghost use Rattle.std.specs.Prelude.{◌≡◌, ℕ, ◌+◌, ◌-◌, ◌*◌, ◌^◌, ◌<◌, ◌≤◌, Bool, true, ◌&&◌, ◌||◌, length, if◌then◌else◌, ◌==◌, bit_and, bit_or, nat_eq};
 ghost use mir.Val.{bool_byte};
 ghost use borrow.Rule.Slice.PartMut.{mid_of};
 ghost use Rattle.words.specs.laws.Bits.{member};
@@ -54,10 +54,8 @@ fn put_each(row: &mut [u64], start: usize, count: usize, on: bool)
     requires { (length row.old ≤ 1024) × (range_within (64 * length row.old) (range start count) ≡ true) }
     ensures { Put on (λ t. range_has t (range start count)) row.old row.new }
 {
-    let mut k: usize = 0;
-    while k < count {
+    for k in 0..count {
         put(row, start + k, on);
-        k += 1;
     }
 }
 
@@ -75,23 +73,12 @@ pub fn put_range(row: &mut [u64], r: Range, on: bool)
     }
 }
 
-// All words become v: 0 for no slot, 2^64 - 1 for all.
-pub fn fill(row: &mut [u64], v: u64)
-    ensures { row.new ≡ replicate (length row.old) v }
-{
-    let mut k: usize = 0;
-    while k < row.len() {
-        row[k] = v;
-        k += 1;
-    }
-}
-
 // All bits, or none.
 pub fn mask(bit: u64) -> u64
     requires { bit < 2 }
     ensures { (when : Bool) → bit ≡ bool_byte when → result ≡ all_bits when }
 {
-    std::num::wrapping_sub_u64(0, bit)
+    0u64.wrapping_sub(bit)
 }
 
 // The set at a becomes the bits of f of that at b and the bits of s of that at c, together; all are of w words.
@@ -99,10 +86,8 @@ pub fn join(memory: &mut [u64], a: usize, b: usize, f: u64, c: usize, s: u64, w:
     requires { (a + w ≤ b) × (b + w ≤ length memory.old) × (a + w ≤ c) × (c + w ≤ length memory.old) }
     ensures { ((x y : Bool) → f ≡ all_bits x → s ≡ all_bits y → (t : ℕ) → member (mid_of a w memory.new) t ≡ ((x && member (mid_of b w memory.old) t) || (y && member (mid_of c w memory.old) t))) × Only (At a w) memory.old memory.new }
 {
-    let mut k: usize = 0;
-    while k < w {
+    for k in 0..w {
         memory[a + k] = (memory[b + k] & f) | (memory[c + k] & s);
-        k += 1;
     }
 }
 
@@ -120,13 +105,11 @@ pub fn transfer(
     ensures { ((t : ℕ) → member (mid_of live w memory.new) t ≡ (member (mid_of uses w memory.old) t || (member (mid_of out w memory.old) t && member (mid_of preserved w memory.old) t))) × Moved result (mid_of live w memory.old) (mid_of live w memory.new) × Only (At live w) memory.old memory.new }
 {
     let mut changes: u64 = 0;
-    let mut k: usize = 0;
-    while k < w {
+    for k in 0..w {
         let x = memory[live + k];
         let y = memory[uses + k] | (memory[out + k] & memory[preserved + k]);
         memory[live + k] = y;
-        changes = changes | (x ^ y);
-        k += 1;
+        changes |= x ^ y;
     }
     changes != 0
 }

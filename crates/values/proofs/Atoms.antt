@@ -1,7 +1,7 @@
 -- Values and their numbers: equal values have equal numbers.
 -- Assumes nothing.
+use Rattle.std.specs.Prelude.{None, Some}
 use Rattle.std.proofs.Common.{◌≡◌, ℕ, suc, ◌+◌, ◌-◌, ◌<◌, ◌≤◌, Bool, true, false, cond, eqb, ltb, List, sym, refl, ap, ◌∙◌, arith, ltb-false, ltb-true, le-ltb, lt-ltb, eq-eqb, ne_eqb, eqb-true}
-use mathlib.Core.Option.{none, some}
 use borrow.Author.Tests.{eqb-false}
 use Rattle.words.specs.laws.Truth.{same_bool}
 use Rattle.values.specs.Values.{at_start, same_atom}
@@ -52,7 +52,7 @@ module _ (n S : ℕ) where
     integer_at_lem d = go (ltb d S) refl (ltb d (S + n)) refl (eqb d (S + n)) (eqb (key_at c n (d - (S + n + 1))).right 0)
       where
         go : (a : Bool) → ltb d S ≡ a → (b : Bool) → ltb d (S + n) ≡ b → (e f : Bool)
-            → cond b none (cond e (some 0) (cond f (some (key_at c n (d - (S + n + 1))).left) none))
+            → cond b None (cond e (Some 0) (cond f (Some (key_at c n (d - (S + n + 1))).left) None))
             ≡ integer_of (cond a (Definition at_start d) (cond b (Definition (d - S) (dest (d - S))) (cond e (Integer 0) (cond f (Integer (key_at c n (d - (S + n + 1))).left) (Float (key_at c n (d - (S + n + 1))).left)))))
         go true g true h e f = refl
         go true g false h e f =

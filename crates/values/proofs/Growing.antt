@@ -8,7 +8,7 @@ use Rattle.values.specs.laws.Entries.{Key, newest, Added}
 use Rattle.values.specs.laws.Search.{newest_le, newest_key}
 use Rattle.values.specs.laws.Memory.{part, slots_at, bounds_at, constants_at, expressions_at, end_at, Memory, memory_of, key_atom, constant_key, expression_key, limit, expression_if, expression_at, Ready}
 use Rattle.values.specs.laws.Promises.{Interns, Learns}
-use Rattle.values.specs.declared.Found.TheVariants.{Nothing}
+use Rattle.std.specs.Prelude.{None}
 use Rattle.values.proofs.Atoms.{atom_zero, atom_constant}
 use Rattle.values.proofs.Parts.{put_length, part_put, part_before, part_after}
 use Rattle.values.proofs.Holding.{grown, taught}
@@ -125,11 +125,11 @@ module _ {n S : ℕ} {t : List ℕ} (g : Ready n S t) where
         }
 
   -- an expression that has no number has no entry
-  pub expression_new : (k : Key) → expression_at n S (memory_of n S t) k ≡ Nothing → newest (memory_of n S t).expression_table n (memory_of n S t).expressions k ≡ 0
+  pub expression_new : (k : Key) → expression_at n S (memory_of n S t) k ≡ None → newest (memory_of n S t).expression_table n (memory_of n S t).expressions k ≡ 0
   unfolding expression_if
   expression_new k = go (newest m.expression_table n m.expressions k)
     where
-      go : (x : ℕ) → expression_if n S m.expression_table x ≡ Nothing → x ≡ 0
+      go : (x : ℕ) → expression_if n S m.expression_table x ≡ None → x ≡ 0
       go zero e = refl
       go (suc j) e = let z : ◌≡◌ {A = ℕ} 0 1 = cc in absurd (omega arith)
 

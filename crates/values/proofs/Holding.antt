@@ -5,8 +5,7 @@ use borrow.Author.Tests.{eqb-false}
 use Rattle.values.specs.Values.{Values, empty, value_in, expression_in, store}
 use Rattle.values.specs.laws.Entries.{newest, Linked}
 use Rattle.values.specs.laws.Memory.{Memory, number_at, bounds_of, first_of, end_of, expression_key, limit, expression_if, expression_at, Ordered, atom_in, atom_found, Holds}
-use Rattle.values.specs.declared.Found.{Found}
-use Rattle.values.specs.declared.Found.TheVariants.{At, Nothing}
+use Rattle.std.specs.Prelude.{Some, None, Option}
 use Rattle.values.proofs.Atoms.{atom_start}
 
 -- ---- the words of slots and bounds
@@ -131,10 +130,10 @@ module _ (n S : ℕ) (few : n ≤ 65536) where
       abbrev index : ℕ → ℕ
       index r = bounds_of (number_at new r) (get_or types r 0)
 
-      found_same : (f : Found) → atom_found n S dest new f ≡ atom_found n S dest m f
+      found_same : (f : Option ℕ) → atom_found n S dest new f ≡ atom_found n S dest m f
       unfolding atom_found
-      found_same (At d) = refl
-      found_same Nothing = refl
+      found_same (Some d) = refl
+      found_same None = refl
 
       -- the slots that w is of lie within it, and the others have their numbers
       pub turned_holds : {v' : Values} → v'.expressions ≡ v.expressions

@@ -1,7 +1,6 @@
 -- A constant or an expression more: the memory is in order and holds the table of values with it.
 -- Assumes nothing.
 use Rattle.std.proofs.Common.{◌≡◌, ℕ, zero, suc, ◌+◌, ◌-◌, ◌*◌, ◌/◌, ◌%◌, ◌<◌, ◌≤◌, Bool, true, false, cond, ◌&&◌, eqb, ltb, List, ◌∷◌, get_or, sym, refl, ap, ◌∙◌, arith, ltb-false, ltb-true, eq-eqb, eqb-true}
-use mathlib.Core.Option.{Option, none, some}
 use borrow.Author.Tests.{eqb-false}
 use Rattle.words.specs.laws.Truth.{both, same_bool}
 use Rattle.values.specs.Values.{Values, Expression, expression_in, same_atom, same_expression, learn}
@@ -10,8 +9,7 @@ use Rattle.values.specs.laws.Search.{same_key_lem, key_same, newest_le, newest_k
 use Rattle.values.specs.laws.Lowest.{same_atom_lem}
 use Rattle.values.specs.laws.Memory.{Memory, number_at, bounds_of, key_atom, constant_key, expression_key, limit, expression_if, expression_at, Ordered, atom_in, atom_found, HasNumber, Holds}
 use Rattle.values.specs.declared.Atom.{Atom}
-use Rattle.values.specs.declared.Found.{Found}
-use Rattle.values.specs.declared.Found.TheVariants.{At, Nothing}
+use Rattle.std.specs.Prelude.{Some, None, Option}
 use Rattle.values.proofs.Atoms.{atom_start, atom_place, atom_zero, atom_constant, same_number, no_number}
 use Rattle.values.proofs.Holding.{number_same, grown, taught, small}
 
@@ -108,9 +106,9 @@ module _ (n S : ℕ) (few : n ≤ 65536) where
       unnumbered : {w : Atom} → w ≡ key_atom k → HasNumber n S dest m w → ⊥
       unnumbered e z = no_number n S few dest o k kind other new z.number z.low (z.is ∙ e)
 
-      not_some : {A : Type 0} (x : Option A) → ((y : A) → x ≡ some y → ⊥) → x ≡ none
-      not_some (some y) f = absurd (f y refl)
-      not_some none f = refl
+      not_some : {A : Type 0} (x : Option A) → ((y : A) → x ≡ Some y → ⊥) → x ≡ None
+      not_some (Some y) f = absurd (f y refl)
+      not_some None f = refl
 
       -- each number is an old one or the new one
       numbers : (P : ℕ → Type 0) → P (S + n + 1 + m.constants) → ((d : ℕ) → d < limit n S m → P d) → (d : ℕ) → d < limit n S more → P d
@@ -133,7 +131,7 @@ module _ (n S : ℕ) (few : n ≤ 65536) where
 
         unknown : (op flags left right : ℕ)
             → ((j : ℕ) → newest m.expression_table n m.expressions (expression_key op flags left right) ≡ suc j → ⊥)
-            → ((w : Atom) → expression_in v.expressions (record { opcode = op; flags = flags; left = atom_in n S dest more left; right = atom_in n S dest more right }) ≡ some w → ⊥)
+            → ((w : Atom) → expression_in v.expressions (record { opcode = op; flags = flags; left = atom_in n S dest more left; right = atom_in n S dest more right }) ≡ Some w → ⊥)
             → asked op flags left right
         unfolding atom_found expression_if
         unknown op flags left right f q =
@@ -141,12 +139,12 @@ module _ (n S : ℕ) (few : n ≤ 65536) where
             (sym (not_some (expression_in v.expressions (record { opcode = op; flags = flags; left = atom_in n S dest more left; right = atom_in n S dest more right })) q))
 
         -- an expression of old numbers is what it was
-        found_more : (f : Found) → ((d : ℕ) → f ≡ At d → d < limit n S m) → atom_found n S dest more f ≡ atom_found n S dest m f
+        found_more : (f : Option ℕ) → ((d : ℕ) → f ≡ Some d → d < limit n S m) → atom_found n S dest more f ≡ atom_found n S dest m f
         unfolding atom_found
-        found_more (At d) l = ap some (atom_kept d (l d refl))
-        found_more Nothing l = refl
+        found_more (Some d) l = ap Some (atom_kept d (l d refl))
+        found_more None l = refl
 
-        value_used : (x : ℕ) → x ≤ m.expressions → (d : ℕ) → expression_if n S m.expression_table x ≡ At d → d < limit n S m
+        value_used : (x : ℕ) → x ≤ m.expressions → (d : ℕ) → expression_if n S m.expression_table x ≡ Some d → d < limit n S m
         unfolding expression_if
         value_used zero l d e = let z : ◌≡◌ {A = ℕ} 0 1 = cc in absurd (omega arith)
         value_used (suc j) l d e =
@@ -271,7 +269,7 @@ module _ (n S : ℕ) (few : n ≤ 65536) where
 
       -- the number of the new expression, and those of the others
       found_learnt : (t : Bool) (x : ℕ) → x ≤ m.expressions
-          → atom_found n S dest learnt (expression_if n S u (cond t (m.expressions + 1) x)) ≡ cond t (some (atom_in n S dest m d)) (atom_found n S dest m (expression_if n S m.expression_table x))
+          → atom_found n S dest learnt (expression_if n S u (cond t (m.expressions + 1) x)) ≡ cond t (Some (atom_in n S dest m d)) (atom_found n S dest m (expression_if n S m.expression_table x))
       unfolding atom_found expression_if
       found_learnt true x y = rw (one m.expressions, g.is_value)
         where
@@ -291,13 +289,13 @@ module _ (n S : ℕ) (few : n ≤ 65536) where
           (newest_le m.expression_table n (expression_key op' flags' left' right') m.expressions)
           ∙ rw (same_term op' flags' left' right' a' b' l' r', h.expressions op' flags' left' right' a' b' l' r')
 
-      known_more : (P : Expression → Type 0) → P (term op flags left right) → ((e : Expression) (w : Atom) → expression_in v.expressions e ≡ some w → P e)
+      known_more : (P : Expression → Type 0) → P (term op flags left right) → ((e : Expression) (w : Atom) → expression_in v.expressions e ≡ Some w → P e)
           → ((e e' : Expression) → same_expression e e' ≡ true → P e → P e')
-          → (e : Expression) (w : Atom) → expression_in (record { expression = term op flags left right; value = atom_in n S dest m d } ∷ v.expressions) e ≡ some w → P e
+          → (e : Expression) (w : Atom) → expression_in (record { expression = term op flags left right; value = atom_in n S dest m d } ∷ v.expressions) e ≡ Some w → P e
       unfolding expression_in
       known_more P p f same e w = go (same_expression (term op flags left right) e) refl
         where
-          go : (t : Bool) → same_expression (term op flags left right) e ≡ t → cond t (some (atom_in n S dest m d)) (expression_in v.expressions e) ≡ some w → P e
+          go : (t : Bool) → same_expression (term op flags left right) e ≡ t → cond t (Some (atom_in n S dest m d)) (expression_in v.expressions e) ≡ Some w → P e
           go true q z = same (term op flags left right) e q p
           go false q z = f e w z
 

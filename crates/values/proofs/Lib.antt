@@ -1,4 +1,3 @@
-pub mod Unfolded
 pub mod Parts
 pub mod Atoms
 pub mod Scanning

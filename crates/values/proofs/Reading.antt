@@ -1,12 +1,11 @@
 -- What the look-ups of the table read: the words of the memory, by their places in it.
 -- Assumes nothing.
+use Rattle.std.specs.Prelude.{None, Some}
 use Rattle.std.proofs.Common.{◌≡◌, ℕ, zero, suc, ◌+◌, ◌-◌, ◌*◌, ◌<◌, ◌≤◌, List, get_or, sym, refl, ap, ◌∙◌, arith, le-ltb, lt-ltb, eq-eqb, ne_eqb}
-use mathlib.Core.Option.{none, some}
 use Rattle.words.specs.laws.Regions.{get_mid}
 use Rattle.values.specs.laws.Entries.{Key, key_at, newest}
 use Rattle.values.specs.laws.Search.{newest_le}
 use Rattle.values.specs.laws.Memory.{constants_at, expressions_at, end_at, Memory, memory_of, number_at, integer_at, expression_if, expression_at, limit, Ready}
-use Rattle.values.specs.declared.Found.TheVariants.{At, Nothing}
 use Rattle.values.proofs.Recording.{few}
 
 module _ {n S : ℕ} {t : List ℕ} (g : Ready n S t) where
@@ -22,11 +21,11 @@ module _ {n S : ℕ} {t : List ℕ} (g : Ready n S t) where
   number_read s l e = (e, rw e (g.order.slots_low s l))
 
   -- the known integer of a number: none of a definition, 0, or what its entry says
-  pub integer_none : (d : ℕ) → d < S + n → none ≡ integer_at n S (memory_of n S t).constant_table d
+  pub integer_none : (d : ℕ) → d < S + n → None ≡ integer_at n S (memory_of n S t).constant_table d
   unfolding integer_at
   integer_none d l = rw (lt-ltb d (S + n) l)
 
-  pub integer_zero : (d : ℕ) → d ≡ S + n → some 0 ≡ integer_at n S (memory_of n S t).constant_table d
+  pub integer_zero : (d : ℕ) → d ≡ S + n → Some 0 ≡ integer_at n S (memory_of n S t).constant_table d
   unfolding integer_at
   integer_zero d e = let far : S + n ≤ d = omega arith in rw (le-ltb d (S + n) far, eq-eqb d (S + n) e)
 
@@ -50,17 +49,17 @@ module _ {n S : ℕ} {t : List ℕ} (g : Ready n S t) where
         let f : at + 0 ≡ at = omega arith in
         ap (λ (x : ℕ). get_or m.constant_table x 0) (sym e) ∙ entry_word 0 (omega arith) ∙ ap (λ (x : ℕ). get_or t x 0) f
 
-    pub integer_entry : get_or t (a + n + 4 * (d - (S + n) - 1) + 1) 0 ≡ 0 → some (get_or t (a + n + 4 * (d - (S + n) - 1)) 0) ≡ integer_at n S (memory_of n S t).constant_table d
+    pub integer_entry : get_or t (a + n + 4 * (d - (S + n) - 1) + 1) 0 ≡ 0 → Some (get_or t (a + n + 4 * (d - (S + n) - 1)) 0) ≡ integer_at n S (memory_of n S t).constant_table d
     unfolding integer_at
     integer_entry e = rw (le-ltb d (S + n) past, ne_eqb d (S + n) other, entry_word 1 (omega arith), e, left_word)
 
-    pub float_entry : (get_or t (a + n + 4 * (d - (S + n) - 1) + 1) 0 ≡ 0 → ⊥) → none ≡ integer_at n S (memory_of n S t).constant_table d
+    pub float_entry : (get_or t (a + n + 4 * (d - (S + n) - 1) + 1) 0 ≡ 0 → ⊥) → None ≡ integer_at n S (memory_of n S t).constant_table d
     unfolding integer_at
     float_entry e = rw (le-ltb d (S + n) past, ne_eqb d (S + n) other, entry_word 1 (omega arith), ne_eqb (get_or t (a + n + 4 * (d - (S + n) - 1) + 1) 0) 0 e)
 
   -- the number of an expression's value
   module _ (k : Key) where
-    pub expression_none : {f : ℕ} → f ≡ newest (memory_of n S t).expression_table n (memory_of n S t).expressions k → f ≡ 0 → Nothing ≡ expression_at n S (memory_of n S t) k
+    pub expression_none : {f : ℕ} → f ≡ newest (memory_of n S t).expression_table n (memory_of n S t).expressions k → f ≡ 0 → None ≡ expression_at n S (memory_of n S t) k
     unfolding expression_if
     expression_none e q = rw (← e, q)
 
@@ -68,11 +67,11 @@ module _ {n S : ℕ} {t : List ℕ} (g : Ready n S t) where
     found_few e = let a = g.order.few_expressions in let b = newest_le m.expression_table n k m.expressions in omega arith
 
     pub expression_value : {a : ℕ} → a ≡ expressions_at n S → (f : ℕ) → f ≡ newest (memory_of n S t).expression_table n (memory_of n S t).expressions k → (f ≡ 0 → ⊥)
-        → At (get_or t (a + n + 4 * (f - 1) + 2) 0) ≡ expression_at n S (memory_of n S t) k
+        → Some (get_or t (a + n + 4 * (f - 1) + 2) 0) ≡ expression_at n S (memory_of n S t) k
     unfolding expression_if
     expression_value start zero e q = absurd (q refl)
     expression_value {a} start (suc i) e q =
         let b = found_few e in
         let inside : n + 4 * i + 2 < end_at n S - expressions_at n S = omega arith in
         let here : expressions_at n S + (n + 4 * i + 2) ≡ a + n + 4 * (suc i - 1) + 2 = omega arith in
-        rw (← e) (ap At (sym (get_mid t (expressions_at n S) (end_at n S - expressions_at n S) (n + 4 * i + 2) 0 inside ∙ ap (λ (x : ℕ). get_or t x 0) here)))
+        rw (← e) (ap Some (sym (get_mid t (expressions_at n S) (end_at n S - expressions_at n S) (n + 4 * i + 2) 0 inside ∙ ap (λ (x : ℕ). get_or t x 0) here)))

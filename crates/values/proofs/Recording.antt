@@ -2,6 +2,7 @@
 -- Assumes nothing.
 use Rattle.std.proofs.Common.{◌≡◌, ℕ, ◌+◌, ◌-◌, ◌*◌, ◌/◌, ◌%◌, ◌<◌, ◌≤◌, Bool, true, false, cond, eqb, ltb, List, length, get_or, set, sym, refl, ap, ◌∙◌, subst, arith, length-set, get_or-set_other, get_or-set_same, ltb-false, ltb-true, eq-eqb, eqb-true}
 use mathlib.Core.Bool.{false≢true}
+use Rattle.std.specs.Prelude.{Some, None}
 use lib.Seq.{set-get_or}
 use borrow.Rule.Slice.PartMut.{mid_of}
 use borrow.Author.Tests.{eqb-false}
@@ -265,11 +266,10 @@ module _ {n S : ℕ} {t : List ℕ} (g : Ready n S t) where
             go true e = let c = near_low q l (exact_group types d used type q e) in absurd (false≢true (sym (f c.0 c.1) ∙ e))
             go false e = refl
 
-        none_found : ((q : ℕ) → near ≤ q → q < end → holder types m d type true q ≡ false) → S ≡ or_itself S (lowest_slot types v (atom_in n S dest m d) type)
-        unfolding or_itself
+        none_found : ((q : ℕ) → near ≤ q → q < end → holder types m d type true q ≡ false) → None ≡ lowest_slot types v (atom_in n S dest m d) type
         none_found f = rw (lowest_none v (atom_in n S dest m d) type types (λ q l. none_at q (rw typed at l) (f q)))
 
-      none_shared : {t' : List ℕ} → end ≤ near → Puts t s d (bounds_at S + bounds_of d (get_or types s 0)) s 0 t' → Shares n S types t s d S t'
+      none_shared : {t' : List ℕ} → end ≤ near → Puts t s d (bounds_at S + bounds_of d (get_or types s 0)) s 0 t' → Shares n S types t s d None t'
       none_shared k p =
           record {
             stores = stores_by (omega arith) p (λ dest v h r l e f. let c = group_low dest h r l e f in absurd (omega (arith, c.0, c.1)));
@@ -283,8 +283,7 @@ module _ {n S : ℕ} {t : List ℕ} (g : Ready n S t) where
         shared : Stores n S types t s d t'
         shared = stores_by end_slots p (λ dest v h q l e f. group_low dest h q l e f)
 
-        found_shared : r < end → Shares n S types t s d r t'
-        unfolding or_itself
+        found_shared : r < end → Shares n S types t s d (Some r) t'
         found_shared k =
             record {
               stores = shared;
@@ -294,7 +293,7 @@ module _ {n S : ℕ} {t : List ℕ} (g : Ready n S t) where
                   (λ q a. let b : q < S = omega arith in none_at dest h q b (λ c e. very.passed q c a)));
             }
 
-        other_shared : end ≤ r → Shares n S types t s d S t'
+        other_shared : end ≤ r → Shares n S types t s d None t'
         other_shared k = record { stores = shared; lowest = λ dest v h. none_found dest h (λ q a b. very.passed q a (omega arith)) }
 
   -- ---- the slot that stands for slot s
@@ -580,14 +579,14 @@ module _ {n S : ℕ} {types t : List ℕ} {s d at first end : ℕ} (w : Bounded 
     unfolding holder
     near_found l = eqb-true _ d (both (eqb (number_at (memory_of n S t) near) d) (alike false (get_or types near 0) (get_or types s 0)) (group.hit l)).0
 
-    pub shares_none : {t' : List ℕ} → end ≤ near → Puts t s d at s 0 t' → Shares n S types t s d S t'
+    pub shares_none : {t' : List ℕ} → end ≤ near → Puts t s d at s 0 t' → Shares n S types t s d None t'
     shares_none = rw w.place (none_shared w.ready types s d w.slot w.used w.typed own_place.first_is own_place.end_is group)
 
     module _ {r : ℕ} (very : Lowest types (memory_of n S t) d (get_or types s 0) true near end r) {t' : List ℕ} where
-      pub shares_found : Puts t s d at near end t' → r < end → Shares n S types t s d r t'
+      pub shares_found : Puts t s d at near end t' → r < end → Shares n S types t s d (Some r) t'
       shares_found = rw w.place (found_shared w.ready types s d w.slot w.used w.typed own_place.first_is own_place.end_is group very)
 
-      pub shares_other : Puts t s d at near end t' → end ≤ r → Shares n S types t s d S t'
+      pub shares_other : Puts t s d at near end t' → end ≤ r → Shares n S types t s d None t'
       shares_other = rw w.place (other_shared w.ready types s d w.slot w.used w.typed own_place.first_is own_place.end_is group very)
 
 -- The walk of `representative`: what is known of its variables, by the place of the bounds.

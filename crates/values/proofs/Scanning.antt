@@ -1,4 +1,4 @@
--- The walk to the lowest slot that holds a number: its invariant, a step, and its ends.
+-- The walk to the lowest slot that holds a number: its invariant, a step, and where it ends.
 -- Assumes nothing.
 use Rattle.std.proofs.Common.{◌≡◌, ℕ, ◌+◌, ◌<◌, ◌≤◌, Bool, true, false, ◌&&◌, eqb, List, get_or, refl, arith, below_more, eq-eqb}
 use Rattle.values.specs.laws.Memory.{Memory, number_at, alike, holder, Lowest}
@@ -10,14 +10,7 @@ pub record Passed (types : List ℕ) (m : Memory) (d type : ℕ) (exact : Bool) 
   pub passed : (q : ℕ) → from ≤ q → q < r → holder types m d type exact q ≡ false
 
 module _ {types : List ℕ} {m : Memory} {d type : ℕ} {exact : Bool} {from to : ℕ} where
-  pub scan_start : Passed types m d type exact from to from
-  scan_start = record { low = omega arith; high = λ l. l; passed = λ q l k. absurd (omega arith) }
-
   module _ {r : ℕ} (p : Passed types m d type exact from to r) where
-    -- the walk ends
-    pub scan_end : to ≤ r → Lowest types m d type exact from to r
-    scan_end l = record { low = p.low; high = p.high; passed = p.passed; hit = λ k. absurd (omega arith) }
-
     module _ {x : ℕ} {y : Bool} (number : x ≡ number_at m r) (like : y ≡ alike exact (get_or types r 0) type) where
       tested : {b : Bool} → eqb x d && y ≡ b → holder types m d type exact r ≡ b
       unfolding holder

@@ -1,7 +1,6 @@
 -- Definitions. The walk over the function: each instruction rewritten by the values known before it.
 -- Assumes nothing.
-use Rattle.std.specs.Prelude.{ℕ, suc, ◌%◌, ◌^◌, Bool, cond, not, ◌&&◌, ◌||◌, List, [], ◌∷◌, ◌==◌, nat_eq, slice_index, slice_index_or}
-use Rattle.std.proofs.Math.Option.{Option, none, some}
+use Rattle.std.specs.Prelude.{Option, Some, None, ℕ, suc, ◌%◌, ◌^◌, Bool, cond, not, ◌&&◌, ◌||◌, List, [], ◌∷◌, ◌==◌, nat_eq, slice_index, slice_index_or}
 use Rattle.words.specs.Lists.{is_in}
 use Rattle.instruction.specs.Opcode as op
 use Rattle.instruction.specs.declared.Instruction.{Instruction}
@@ -9,7 +8,7 @@ use Rattle.instruction.specs.declared.Class.{Class}
 use Rattle.instruction.specs.declared.Class.TheVariants.{Hint, LoadInt, LoadConst, Copy, CopyN, Unary, Binary, Jump, JumpIf, JumpIfNot, ForLoop, Return, Panic, Outside, Invalid}
 use Rattle.instruction.specs.Instruction.{imm32, plain, with_imm32, class}
 use Rattle.unit.specs.declared.Constant.{Constant}
-use Rattle.unit.specs.declared.Constant.TheVariants.{Nil, Bool as BoolConstant, Int, Float as FloatConstant, String, Missing}
+use Rattle.unit.specs.declared.Constant.TheVariants.{Nil, Bool as BoolConstant, Int, Float as FloatConstant, String}
 use Rattle.unit.specs.Entry.{constant_at, type_value, type_float}
 use Rattle.effects.specs.Shape.{Sections, Cell}
 use Rattle.values.specs.declared.Atom.{Atom}
@@ -32,26 +31,26 @@ abbrev pub set_bc : Instruction → ℕ → ℕ → Instruction
 set_bc i s t = record { op = i.op; flags = i.flags; a = i.a; b = s; c = t }
 
 -- "LoadConst": the value of a constant; none of "a String or a missing constant"
-unfoldable pub constant_atom : Constant → Option Atom
-constant_atom Nil = some (Integer 0)
-constant_atom (BoolConstant v) = some (Integer v)
-constant_atom (Int v) = some (Integer v)
-constant_atom (FloatConstant v) = some (Float v)
-constant_atom String = none
-constant_atom Missing = none
+unfoldable pub constant_atom : Option Constant → Option Atom
+constant_atom (Some Nil) = Some (Integer 0)
+constant_atom (Some (BoolConstant v)) = Some (Integer v)
+constant_atom (Some (Int v)) = Some (Integer v)
+constant_atom (Some (FloatConstant v)) = Some (Float v)
+constant_atom (Some String) = None
+constant_atom None = None
 
 -- the known integer that an expression folds to
 unfoldable pub fold_unary : Expression → Atom → Option ℕ
-fold_unary e (Integer x) = cond (is_in e.opcode folding_unary) (some (fold_word e.opcode e.flags x 0)) none
-fold_unary e (Float x) = none
-fold_unary e (Definition p s) = none
+fold_unary e (Integer x) = cond (is_in e.opcode folding_unary) (Some (fold_word e.opcode e.flags x 0)) None
+fold_unary e (Float x) = None
+fold_unary e (Definition p s) = None
 
 unfoldable pub fold_binary : Expression → Atom → Atom → Option ℕ
-fold_binary e (Integer x) (Integer y) = cond (is_in e.opcode folding_binary) (some (fold_word e.opcode e.flags x y)) none
-fold_binary e (Integer x) (Float y) = none
-fold_binary e (Integer x) (Definition q t) = none
-fold_binary e (Float x) y = none
-fold_binary e (Definition p s) y = none
+fold_binary e (Integer x) (Integer y) = cond (is_in e.opcode folding_binary) (Some (fold_word e.opcode e.flags x y)) None
+fold_binary e (Integer x) (Float y) = None
+fold_binary e (Integer x) (Definition q t) = None
+fold_binary e (Float x) y = None
+fold_binary e (Definition p s) y = None
 
 -- What becomes of an instruction with a folded value that does not fit 32 bits: a walk is told by which rule.
 abbrev pub Rule : Type 0
@@ -73,22 +72,22 @@ module _ (S : Sections) where
   -- "An equal expression .. becomes Copy from" the lowest slot that holds the value, "the type being the destination's; otherwise it
   -- stays, with the same value"
   unfoldable pub copy_or_stay : Instruction → Option ℕ → Instruction
-  copy_or_stay i (some r) = plain op.Copy i.a r 0
-  copy_or_stay i none = i
+  copy_or_stay i (Some r) = plain op.Copy i.a r 0
+  copy_or_stay i None = i
 
   unfoldable pub copied : Instruction → Values → Atom → Instruction
   copied i t v = copy_or_stay i (lowest_slot S.types t v (slice_index S.types i.a))
 
   unfoldable pub by_expression : ℕ → Instruction → Values → Expression → Option Atom → Numbered
-  by_expression p i t e (some v) = stored (copied i t v) t v
-  by_expression p i t e none = stored i (learn t e (Definition p i.a)) (Definition p i.a)
+  by_expression p i t e (Some v) = stored (copied i t v) t v
+  by_expression p i t e None = stored i (learn t e (Definition p i.a)) (Definition p i.a)
 
   unfoldable pub number_copy : Instruction → Values → Numbered
   number_copy i t = stored (set_b i (representative S.types t i.b)) t (value_of t i.b)
 
   unfoldable pub number_constant : Instruction → Values → Option Atom → Numbered
-  number_constant i t (some v) = stored i t v
-  number_constant i t none = record { instruction = i; table = empty }
+  number_constant i t (Some v) = stored i t v
+  number_constant i t None = record { instruction = i; table = empty }
 
   -- an operand a that is read: of "an undecided conditional jump on a scalar and of a one-scalar Return"
   unfoldable pub number_read : Instruction → Values → Numbered
@@ -113,8 +112,8 @@ module _ (S : Sections) where
 
     -- folded, or looked up
     unfoldable pub by_value_with : ℕ → Instruction → Values → Expression → Option ℕ → Numbered
-    by_value_with p i t e (some v) = stored (folded i t v) t (Integer v)
-    by_value_with p i t e none = by_expression p i t e (expression_in t.expressions e)
+    by_value_with p i t e (Some v) = stored (folded i t v) t (Integer v)
+    by_value_with p i t e None = by_expression p i t e (expression_in t.expressions e)
 
     -- "Operands of .. unary and binary opcodes .. become" the slots that stand for them
     unfoldable pub number_unary_with : ℕ → Instruction → Values → Numbered

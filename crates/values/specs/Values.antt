@@ -1,8 +1,7 @@
 -- Definitions. The table of values: "Within a block a slot's value is a known 64-bit integer, a float constant's bits, or a definition."
 -- Lists of entries, newest first: the first entry of a key counts.
 -- Assumes nothing.
-use Rattle.std.specs.Prelude.{ℕ, suc, Bool, false, cond, ◌&&◌, List, [], ◌∷◌, ◌==◌, slice_index}
-use Rattle.std.proofs.Math.Option.{Option, none, some}
+use Rattle.std.specs.Prelude.{Option, None, Some, ℕ, suc, Bool, false, cond, ◌&&◌, List, [], ◌∷◌, ◌==◌, slice_index}
 use Rattle.values.specs.declared.Atom.{Atom}
 use Rattle.values.specs.declared.Atom.TheVariants.{Integer, Float, Definition}
 
@@ -54,8 +53,8 @@ value_in [] s = Definition at_start s
 value_in (e ∷ es) s = let rest = value_in es s in cond (e.slot == s) e.value rest
 
 unfoldable pub expression_in : List ExpressionEntry → Expression → Option Atom
-expression_in [] d = none
-expression_in (e ∷ es) d = let rest = expression_in es d in cond (same_expression e.expression d) (some e.value) rest
+expression_in [] d = None
+expression_in (e ∷ es) d = let rest = expression_in es d in cond (same_expression e.expression d) (Some e.value) rest
 
 -- the value of a slot
 abbrev pub value_of : Values → ℕ → Atom
@@ -63,17 +62,17 @@ value_of t s = value_in t.slots s
 
 -- the slot that is found, or slot s
 unfoldable pub or_itself : ℕ → Option ℕ → ℕ
-or_itself s (some r) = r
-or_itself s none = s
+or_itself s (Some r) = r
+or_itself s None = s
 
 -- Document 02: "among slots of the same type that hold the value at that point, the lowest-numbered is used; a slot not stored since
 -- the block's start or the last clearing counts as holding the word it had there". The slots from s on have the types listed. The
 -- tie rule is here alone.
 unfoldable pub lowest_from : Values → Atom → ℕ → ℕ → List ℕ → Option ℕ
-lowest_from t v type s [] = none
+lowest_from t v type s [] = None
 lowest_from t v type s (k ∷ ks) =
     let rest = lowest_from t v type (suc s) ks in
-    cond (same_atom (value_of t s) v && k == type) (some s) rest
+    cond (same_atom (value_of t s) v && k == type) (Some s) rest
 
 abbrev pub lowest_slot : List ℕ → Values → Atom → ℕ → Option ℕ
 lowest_slot types t v type = lowest_from t v type 0 types

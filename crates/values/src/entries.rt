@@ -6,15 +6,13 @@
 ghost use Rattle.std.specs.Prelude.{◌≡◌, ◌+◌, ◌*◌, ◌<◌, ◌≤◌, length};
 ghost use Rattle.values.specs.laws.Entries.{key, child_of, link_of, mixed, bucket_of, head_at, same_key, key_in, newest, Forward, Attached, Findable, Addable, Added};
 
-use words::word;
-
 // A sum of products by odd constants: its high bits depend on all bits of the key.
 fn mix(left: u64, right: u64) -> u64
     ensures { result ≡ mixed (key left right) }
 {
-    let x = word::wrapping_mul(left, 11400714819323198485);
-    let y = word::wrapping_mul(right, 14029467366897019727);
-    std::num::wrapping_add_u64(x, y)
+    let x = left.wrapping_mul(11400714819323198485);
+    let y = right.wrapping_mul(14029467366897019727);
+    x.wrapping_add(y)
 }
 
 // The bucket of a key: a small first word is its own, so that the heads of small constants, the most frequent ones, lie side by

@@ -1,12 +1,12 @@
 // Folding: the words that integer opcodes give, and the known integer that an expression folds to.
-ghost use Rattle.std.specs.Prelude.{◌≡◌, ◌%◌, ◌^◌};
+ghost use Rattle.std.specs.Prelude.{◌≡◌, ◌%◌, ◌^◌, ◌<◌, ◌≤◌};
 ghost use Rattle.words.specs.Lists.{is_in};
 ghost use Rattle.values.specs.Fold.{bool, low_bits, trunc, bit_word, folding_unary, folding_binary, fold_word, fits_imm32};
 ghost use Rattle.values.specs.Number.{fold_unary, fold_binary};
-ghost use Rattle.values.specs.laws.Folded.{folded_as, expression_of};
+ghost use Rattle.values.specs.laws.Folded.{expression_of};
 ghost use Rattle.values.specs.declared.Atom.{Atom};
 
-use crate::{Atom, Folded};
+use crate::Atom;
 use instruction::opcode;
 use words::word;
 
@@ -14,35 +14,18 @@ use words::word;
 fn word_of(t: bool) -> u64
     ensures { result ≡ bool t }
 {
-    if t { 1 } else { 0 }
+    u64::from(t)
 }
 
-fn low_8(flags: u8, x: u64) -> u64
-    ensures { result ≡ low_bits 8 flags x }
+// The low bits of a word, or the word with their signed reading.
+fn low_bits<const BITS: u32>(flags: u8, x: u64) -> u64
+    requires some { 1 ≤ BITS }
+    requires narrow { BITS < 64 }
+    ensures { result ≡ low_bits BITS flags x }
 {
-    let low = x % 256;
+    let low = x % (1 << BITS);
     if 128 <= flags {
-        return word::sign_extend_8(low as u8);
-    }
-    low
-}
-
-fn low_16(flags: u8, x: u64) -> u64
-    ensures { result ≡ low_bits 16 flags x }
-{
-    let low = x % 65536;
-    if 128 <= flags {
-        return word::sign_extend_16(low as u16);
-    }
-    low
-}
-
-fn low_32(flags: u8, x: u64) -> u64
-    ensures { result ≡ low_bits 32 flags x }
-{
-    let low = x % 4294967296;
-    if 128 <= flags {
-        return word::sign_extend_32(low as u32);
+        return word::sign_extend::<BITS>(low);
     }
     low
 }
@@ -52,9 +35,9 @@ fn truncate(flags: u8, x: u64) -> u64
     ensures { result ≡ trunc flags x }
 {
     match flags % 128 {
-        1 => low_8(flags, x),
-        2 => low_16(flags, x),
-        4 => low_32(flags, x),
+        1 => low_bits::<8>(flags, x),
+        2 => low_bits::<16>(flags, x),
+        4 => low_bits::<32>(flags, x),
         _ => x,
     }
 }
@@ -79,8 +62,8 @@ pub fn fold_word(op: u8, flags: u8, x: u64, y: u64) -> u64
     ensures { result ≡ fold_word op flags x y }
 {
     match op {
-        opcode::ADD_I => std::num::wrapping_add_u64(x, y),
-        opcode::SUB_I => std::num::wrapping_sub_u64(x, y),
+        opcode::ADD_I => x.wrapping_add(y),
+        opcode::SUB_I => x.wrapping_sub(y),
         opcode::MUL_I => word::wrapping_mul(x, y),
         opcode::NEG_I => word::wrapping_neg(x),
         opcode::EQ_I => word_of(x == y),
@@ -98,72 +81,61 @@ pub fn fold_word(op: u8, flags: u8, x: u64, y: u64) -> u64
 }
 
 // "its signed reading fits 32 bits"
+#[tactic(auto, unfolding(crate::specs::Fold::fits_imm32))]
 pub fn fits_imm32(v: u64) -> bool
     ensures { result ≡ fits_imm32 v }
 {
-    if v < 2147483648 {
-        true
-    } else {
-        18446744071562067968 <= v
-    }
+    v < 2147483648 || 18446744071562067968 <= v
 }
 
 // NegI, Not, BoolNot, Trunc.
 pub fn folds_unary(op: u8) -> bool
     ensures { result ≡ is_in op folding_unary }
 {
-    if op == opcode::NEG_I {
-        return true;
-    }
-    if op == opcode::NOT {
-        return true;
-    }
-    if op == opcode::BOOL_NOT {
-        return true;
-    }
-    op == opcode::TRUNC
+    matches!(
+        op,
+        opcode::NEG_I | opcode::NOT | opcode::BOOL_NOT | opcode::TRUNC
+    )
 }
 
 // AddI to MulI, EqI to GeU, And to AndNot.
 pub fn folds_binary(op: u8) -> bool
     ensures { result ≡ is_in op folding_binary }
 {
-    if op < 22 {
-        return 19 <= op;
-    }
-    if op < 42 {
-        return 32 <= op;
-    }
-    if op < 52 {
-        return 48 <= op;
-    }
-    false
+    matches!(
+        op,
+        opcode::ADD_I..=opcode::MUL_I
+            | opcode::EQ_I..=opcode::GE_U
+            | opcode::AND..=opcode::AND_NOT
+    )
 }
 
 // "A slot either holds a known integer or the rule goes no further."
-pub fn fold_unary(op: u8, flags: u8, left: Atom) -> Folded
-    ensures { (right : Atom) → result ≡ folded_as (fold_unary (expression_of op flags left right) left) }
+#[tactic(auto, unfolding(crate::specs::Number::fold_unary))]
+pub fn fold_unary(op: u8, flags: u8, left: Atom) -> Option<u64>
+    ensures { (right : Atom) → result ≡ fold_unary (expression_of op flags left right) left }
 {
     let Atom::Integer(x) = left else {
-        return Folded::Not;
+        return None;
     };
     if folds_unary(op) {
-        return Folded::Word(fold_word(op, flags, x, 0));
+        return Some(fold_word(op, flags, x, 0));
     }
-    Folded::Not
+    None
 }
 
-pub fn fold_binary(op: u8, flags: u8, left: Atom, right: Atom) -> Folded
-    ensures { result ≡ folded_as (fold_binary (expression_of op flags left right) left right) }
+#[tactic(auto, unfolding(crate::specs::Number::fold_binary))]
+pub fn fold_binary(op: u8, flags: u8, left: Atom, right: Atom) -> Option<u64>
+    ensures { result ≡ fold_binary (expression_of op flags left right) left right }
 {
     let Atom::Integer(x) = left else {
-        return Folded::Not;
+        return None;
     };
     let Atom::Integer(y) = right else {
-        return Folded::Not;
+        return None;
     };
     if folds_binary(op) {
-        return Folded::Word(fold_word(op, flags, x, y));
+        return Some(fold_word(op, flags, x, y));
     }
-    Folded::Not
+    None
 }

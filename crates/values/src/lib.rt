@@ -1,4 +1,5 @@
-// The table of values within a block, by value numbers.
+// The table of values within a block, by value numbers. It lives in words that are lent, with regions, lengths and links as numbers,
+// and in no map, since the library takes no memory of its own.
 #![tactic(auto)]
 
 pub mod entries;
@@ -12,18 +13,4 @@ pub enum Atom {
     Integer(u64),
     Float(u64),
     Definition(u32, u16),
-}
-
-// What an expression folds to.
-#[derive(Clone, Copy)]
-pub enum Folded {
-    Word(u64),
-    Not,
-}
-
-// What a look-up finds.
-#[derive(Clone, Copy)]
-pub enum Found {
-    At(u64),
-    Nothing,
 }

@@ -3,21 +3,20 @@
 // The memory has the epoch and the numbers of constants and of expressions, a word for each slot (its value's number), two words for
 // each number (the bounds of the slots that hold it, for each of the two groups of types), and two tables of entries. `region`
 // says where they stand.
-ghost use Rattle.std.specs.Prelude.{◌≡◌, ℕ, ◌+◌, ◌-◌, ◌*◌, ◌<◌, ◌≤◌, Bool, true, false, length, slice_index};
+ghost use Rattle.std.specs.Prelude.{◌≡◌, ℕ, ◌+◌, ◌-◌, ◌*◌, ◌<◌, ◌≤◌, Bool, true, false, None, length, slice_index};
 ghost use Rattle.values.specs.laws.Entries.{key, bucket_of, head_at};
 ghost use Rattle.values.specs.laws.Folded.{integer_of};
 ghost use Rattle.values.specs.laws.Memory.{slots_at, memory_of, number_at, bounds_at, bounds_of, first_of, end_of, alike, Lowest, expression_at, expression_key, integer_at, limit, Ready};
 ghost use Rattle.values.specs.laws.Promises.{Puts, Clears, Represents, Stores, Shares, Interns, Learns};
-ghost use Rattle.values.specs.declared.Found.TheVariants.{Nothing};
 
-use crate::{Atom, Found, entries, region};
+use crate::{Atom, entries, region};
 
 // Nothing is known any more: what the words of slots, bounds and heads say is of an earlier epoch.
 pub fn clear(t: &mut [u64], n: usize, locals: usize)
     requires { Ready n locals t.old × ((memory_of n locals t.old).epoch < 4294967295) }
     ensures { Clears n locals t.old t.new }
 {
-    t[region::EPOCH] = t[region::EPOCH] + 1;
+    t[region::EPOCH] += 1;
     t[region::CONSTANT_COUNT] = 0;
     t[region::EXPRESSION_COUNT] = 0;
 }
@@ -65,18 +64,6 @@ fn end_of(locals: u64, epoch: u64, word: u64, d: u64) -> u64
     0
 }
 
-fn least(x: usize, y: usize) -> usize
-    ensures { (result ≤ x) × (result ≤ y) × ((k : ℕ) → k ≤ x → k ≤ y → k ≤ result) }
-{
-    if x < y { x } else { y }
-}
-
-fn most(x: usize, y: usize) -> usize
-    ensures { (x ≤ result) × (y ≤ result) × ((k : ℕ) → x ≤ k → y ≤ k → result ≤ k) }
-{
-    if x < y { y } else { x }
-}
-
 // The same type, or only the same group?
 fn are_alike(exact: bool, x: u8, y: u8) -> bool
     ensures { result ≡ alike exact x y }
@@ -102,14 +89,12 @@ fn lowest(
     requires { Ready n (length types.now) t.now × (to ≤ length types.now) }
     ensures { Lowest types.now (memory_of n (length types.now) t.now) d kind exact from to result }
 {
-    let mut r = from;
-    while r < to {
+    for r in from..to {
         if (number(t, n, types.len(), r as u16) == d) & are_alike(exact, types[r], kind) {
             return r;
         }
-        r += 1;
     }
-    r
+    from.max(to)
 }
 
 // The same of the very type, where slot `from` is known to hold number d: mostly it has that type.
@@ -142,7 +127,7 @@ pub fn representative(t: &mut [u64], types: &[u8], n: usize, s: u16, d: u64) -> 
     let kind = types[slot];
     let at = bounds_place(types.len(), d, kind);
     let word = t[at];
-    let from = least(first_of(t[region::EPOCH], word, s as u64) as usize, slot);
+    let from = (first_of(t[region::EPOCH], word, s as u64) as usize).min(slot);
     let near = lowest(&t[..], types, n, d, kind, false, from, slot);
     t[at] = word + 65536 * ((near - from) as u64);
     lowest_typed(&t[..], types, n, d, kind, near, slot) as u16
@@ -154,8 +139,8 @@ fn put(t: &mut [u64], s: usize, d: u64, at: usize, first: usize, end: usize)
     ensures { Puts t.old s d at first end t.new }
 {
     let epoch = t[region::EPOCH];
-    let low = least(first, s);
-    let high = most(end, s + 1) - 1;
+    let low = first.min(s);
+    let high = end.max(s + 1) - 1;
     t[at] = 4294967296 * epoch + 65536 * (low as u64) + (high as u64);
     t[region::SLOTS_AT + s] = 4294967296 * epoch + d;
 }
@@ -173,29 +158,28 @@ pub fn store(t: &mut [u64], types: &[u8], n: usize, s: u16, d: u64)
     put(t, slot, d, at, first, end);
 }
 
-// A store, and the lowest slot of the type of slot s that held the value before it, or the number of slots.
-pub fn share(t: &mut [u64], types: &[u8], n: usize, s: u16, d: u64) -> usize
+// A store, and the lowest slot of the type of slot s that held the value before it, if there is one.
+pub fn share(t: &mut [u64], types: &[u8], n: usize, s: u16, d: u64) -> Option<u16>
     requires { Ready n (length types.now) t.old × (s < length types.now) × (d < limit n (length types.now) (memory_of n (length types.now) t.old)) }
     ensures { Shares n (length types.now) types.now t.old s d result t.new }
 {
     let slot = s as usize;
-    let locals = types.len();
     let kind = types[slot];
-    let at = bounds_place(locals, d, kind);
+    let at = bounds_place(types.len(), d, kind);
     let word = t[at];
     let first = first_of(t[region::EPOCH], word, d) as usize;
-    let end = end_of(locals as u64, t[region::EPOCH], word, d) as usize;
+    let end = end_of(types.len() as u64, t[region::EPOCH], word, d) as usize;
     let near = lowest(&t[..], types, n, d, kind, false, first, end);
     if end <= near {
         put(t, slot, d, at, slot, 0);
-        return locals;
+        return None;
     }
     let r = lowest_typed(&t[..], types, n, d, kind, near, end);
     put(t, slot, d, at, near, end);
     if r < end {
-        return r;
+        return Some(r as u16);
     }
-    locals
+    None
 }
 
 // The value with a number, as far as folding asks, which is whether it is an integer and which: what it is otherwise, a definition's
@@ -219,7 +203,8 @@ pub fn atom(t: &[u64], n: usize, locals: usize, d: u64) -> Atom
     Atom::Float(t[at])
 }
 
-// The number of a constant, by its kind and its bits: a new one where it has none.
+// The number of a constant, by its kind, 0 of an integer and 1 of a float, and its bits: a new one where it has none. Kind and bits
+// are the two words of its key in lent memory, so that the kind is a number.
 pub fn constant(t: &mut [u64], n: usize, locals: usize, kind: u64, bits: u64) -> u64
     requires { Ready n locals t.old × ((memory_of n locals t.old).constants < n) × (kind ≤ 1) }
     ensures { Interns n locals t.old kind bits result t.new }
@@ -254,7 +239,7 @@ pub fn first_expression(t: &[u64], n: usize, locals: usize, b: usize) -> u64
 }
 
 // The number of an equal expression's value, by its key and the head of its bucket.
-pub fn find_expression(t: &[u64], n: usize, locals: usize, first: u64, word: u64) -> Found
+pub fn find_expression(t: &[u64], n: usize, locals: usize, first: u64, word: u64) -> Option<u64>
     requires { Ready n locals t.now × (first ≡ head_at (memory_of n locals t.now).expression_table (memory_of n locals t.now).epoch (bucket_of n (key word 0))) }
     ensures { result ≡ expression_at n locals (memory_of n locals t.now) (key word 0) }
 {
@@ -263,15 +248,15 @@ pub fn find_expression(t: &[u64], n: usize, locals: usize, first: u64, word: u64
     let count = t[region::EXPRESSION_COUNT] as usize;
     let f = entries::find(&t[start..end], n, count, first, word, 0);
     if f == 0 {
-        return Found::Nothing;
+        return None;
     }
     let at = start + n + 4 * (f - 1) + 2;
-    Found::At(t[at])
+    Some(t[at])
 }
 
 // One expression more, which is not there yet: its value has the number d.
 pub fn learn(t: &mut [u64], n: usize, locals: usize, b: usize, first: u64, word: u64, d: u64)
-    requires { Ready n locals t.old × ((memory_of n locals t.old).expressions < n) × (b ≡ bucket_of n (key word 0)) × (b < n) × (first ≡ head_at (memory_of n locals t.old).expression_table (memory_of n locals t.old).epoch b) × (d < limit n locals (memory_of n locals t.old)) × (expression_at n locals (memory_of n locals t.old) (key word 0) ≡ Nothing) }
+    requires { Ready n locals t.old × ((memory_of n locals t.old).expressions < n) × (b ≡ bucket_of n (key word 0)) × (b < n) × (first ≡ head_at (memory_of n locals t.old).expression_table (memory_of n locals t.old).epoch b) × (d < limit n locals (memory_of n locals t.old)) × (expression_at n locals (memory_of n locals t.old) (key word 0) ≡ None) }
     ensures { (op flags left right : ℕ) → op < 256 → flags < 256 → left < limit n locals (memory_of n locals t.old) → right < limit n locals (memory_of n locals t.old) → key word 0 ≡ expression_key op flags left right → Learns n locals t.old op flags left right d t.new }
 {
     let start = region::expressions_at(n, locals);

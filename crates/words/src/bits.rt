@@ -13,16 +13,12 @@ pub fn insert(s: &mut [u64], i: usize)
     requires { i < 64 * length s.old }
     ensures { s.new ≡ inserted s.old i }
 {
-    let w = i / 64;
-    let x = s[w];
-    s[w] = x | (1u64 << (i % 64));
+    s[i / 64] |= 1 << (i % 64);
 }
 
 pub fn remove(s: &mut [u64], i: usize)
     requires { i < 64 * length s.old }
     ensures { s.new ≡ removed s.old i }
 {
-    let w = i / 64;
-    let x = s[w];
-    s[w] = x & !(1u64 << (i % 64));
+    s[i / 64] &= !(1 << (i % 64));
 }

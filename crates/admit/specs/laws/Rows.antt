@@ -1,23 +1,22 @@
 -- The rows before the work, from the tests that the code makes.
 -- Assumes nothing.
-use Rattle.std.specs.Prelude.{◌≡◌, refl, Bool, true, false, ◌&&◌, List, ℕ, ◌^◌, ◌≤◌, ◌<◌, eqb, leb}
+use Rattle.std.specs.Prelude.{Ok, Err, Result, ◌≡◌, refl, Bool, true, false, ◌&&◌, List, ℕ, ◌^◌, ◌≤◌, ◌<◌, eqb, leb}
 use Rattle.std.proofs.Common.{arith}
 use borrow.Author.Tests.{lt-ltb, le-ltb, eq-eqb, ne_eqb}
 use Rattle.words.specs.Bytes.{Bytes}
 use Rattle.words.specs.laws.Bytes.{le_fits}
 use Rattle.unit.specs.declared.Counts.{Counts}
 use Rattle.unit.specs.declared.Header.{Header}
-use Rattle.unit.specs.declared.Layout.TheVariants.{Unit}
-use Rattle.unit.specs.declared.Layout.TheVariants as layout
 use Rattle.unit.specs.Layout.{header_of, layout_of}
 use Rattle.unit.specs.laws.UnitLaws.{layout_unit}
 use Rattle.unit.proofs.laws.UnitLaws.{unit_laid}
 use Rattle.unit.specs.Refusal.{short_buffer, metadata_count, type_count}
 use Rattle.unit.specs.Size.{output_room, work32_room, work64_room, max_instructions, max_local_slots}
-use Rattle.effects.specs.declared.Check.TheVariants.{Passed, Refused}
+use Rattle.effects.specs.Check.{Passed}
+use Rattle.unit.specs.Refusal.{Refused}
 use Rattle.answer.specs.declared.Admission.{Admission}
+use Rattle.unit.specs.declared.refusal.Refusal.{Refusal}
 use Rattle.answer.specs.declared.Admission.TheVariants.{Admitted, Unchanged}
-use Rattle.answer.specs.declared.Admission.TheVariants as variant
 use Rattle.answer.specs.Pass.{is_worked_on}
 use Rattle.answer.specs.Answer.{Lent, lent_of, is_skipped, room_for, count_check, admitted_by, after_skipped, after_layout, laid_out, admission}
 
@@ -59,36 +58,36 @@ module _ (c : Counts) where
 
   -- ---- the rows of the counts
 
-  pub rows_skipped : (room : Bool) → is_skipped c ≡ true → Unchanged ≡ after_layout room c
+  pub rows_skipped : (room : Bool) → is_skipped c ≡ true → Ok Unchanged ≡ after_layout room c
   unfolding after_layout
   rows_skipped room e = rw e
 
-  pub rows_short : (room : Bool) → is_skipped c ≡ false → room ≡ false → variant.Refused short_buffer 0 ≡ after_layout room c
+  pub rows_short : (room : Bool) → is_skipped c ≡ false → room ≡ false → Refused short_buffer 0 ≡ after_layout room c
   unfolding after_layout after_skipped
   rows_short room e f = rw (e, f)
 
   module _ (room : Bool) (e : is_skipped c ≡ false) (f : room ≡ true) where
-    pub rows_refused : (k p : ℕ) → count_check c ≡ Refused k p → variant.Refused k p ≡ after_layout room c
+    pub rows_refused : (k p : ℕ) → count_check c ≡ Refused k p → Refused k p ≡ after_layout room c
     unfolding after_layout after_skipped admitted_by
     rows_refused k p g = rw (e, f, g)
 
-    pub rows_admitted : count_check c ≡ Passed → Admitted ≡ after_layout room c
+    pub rows_admitted : count_check c ≡ Passed → Ok Admitted ≡ after_layout room c
     unfolding after_layout after_skipped admitted_by
     rows_admitted g = rw (e, f, g)
 
 -- ---- all rows
 
 module _ (u : List ℕ) where
-  pub admit_refused : (room : Bool) (k p : ℕ) → layout_of u ≡ layout.Refused k p → variant.Refused k p ≡ admission room u
+  pub admit_refused : (room : Bool) (k p : ℕ) → layout_of u ≡ Refused k p → Refused k p ≡ admission room u
   unfolding admission laid_out
   admit_refused room k p e = rw e
 
-  pub admit_laid : (h : Header) (l : Lent) (room : Bool) (r : Admission) → layout_of u ≡ Unit h → room ≡ room_for h.counts l → r ≡ after_layout room h.counts → r ≡ admission (room_for (header_of u).counts l) u
+  pub admit_laid : (h : Header) (l : Lent) (room : Bool) (r : Result Admission Refusal) → layout_of u ≡ Ok h → room ≡ room_for h.counts l → r ≡ after_layout room h.counts → r ≡ admission (room_for (header_of u).counts l) u
   unfolding admission laid_out
   admit_laid h l room r laid e f = rw (laid, ← (layout_unit u h laid).1, ← e) f
 
   -- the counts of a unit of bytes are small enough to reckon with
-  pub counts_fit : (h : Header) → layout_of u ≡ Unit h → Bytes u → (h.counts.instructions < 2 ^ 32) × ((h.counts.locals ≤ max_local_slots) × (h.counts.lines < 2 ^ 32))
+  pub counts_fit : (h : Header) → layout_of u ≡ Ok h → Bytes u → (h.counts.instructions < 2 ^ 32) × ((h.counts.locals ≤ max_local_slots) × (h.counts.lines < 2 ^ 32))
   unfolding header_of
   counts_fit h laid b =
       let l = layout_unit u h laid in

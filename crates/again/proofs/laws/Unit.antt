@@ -1,6 +1,6 @@
 -- A unit again is a unit: its sections follow, its entries are good, no select has too many cases, and its lines rise.
 -- Assumes nothing.
-use Rattle.std.specs.Prelude.{◌≡◌, Bool, cond, eqb, take, drop}
+use Rattle.std.specs.Prelude.{Ok, Err, Result, ◌≡◌, Bool, cond, eqb, take, drop}
 use Rattle.std.proofs.Math.Path.{refl, ap}
 use Rattle.std.proofs.Common.{sym, ◌∙◌, add-zero, ext_get_or}
 use Rattle.std.proofs.Math.Bool.{true, false}
@@ -22,7 +22,6 @@ use Rattle.unit.specs.Size.{header_size, line_size, max_local_slots}
 use Rattle.unit.specs.laws.UnitLaws.{WellFormed, by_entries, laid_out_lem}
 use Rattle.unit.specs.declared.Counts.{Counts}
 use Rattle.unit.specs.declared.Header.{Header}
-use Rattle.unit.specs.declared.Layout.TheVariants.{Unit}
 use Rattle.unit.specs.declared.Line.{Line}
 use Rattle.effects.specs.Shape.{Cell, cell_at}
 use Rattle.lines.specs.laws.Moving.{RisingLines, line_in, no_line}
@@ -191,8 +190,8 @@ module _ {u : List ℕ} (w : WellFormed u) (cells : List Cell) (lines : List Lin
       ap lines_in (again_lines w cells lines small) ∙ lines_back (length cells) lines (omega arith) below
 
   pub again_laid : AllFields cells → ((k : ℕ) → k < length cells → good_metadata (header_of u).counts.cases (cell_at cells k).metadata ≡ true) → Narrow cells → RisingLines lines
-      → ((k : ℕ) → k < length lines → Below (length cells) (line_in lines k)) → layout_of (unit_of u cells lines) ≡ Unit (header_with (header_of u).counts (length cells) (length lines))
+      → ((k : ℕ) → k < length lines → Below (length cells) (line_in lines k)) → layout_of (unit_of u cells lines) ≡ Ok (header_with (header_of u).counts (length cells) (length lines))
   again_laid fields good narrow rise below =
       let wide : wide_select v ≡ (header_of v).counts.metadata = again_wide fields narrow in
       laid_out_lem v (by_entries v true again_sections_follow (again_entries fields good)) (again_rise rise below) (rw wide (omega arith))
-      ∙ ap Unit (again_header w cells lines small)
+      ∙ ap Ok (again_header w cells lines small)

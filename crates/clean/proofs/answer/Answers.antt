@@ -1,6 +1,9 @@
+use Rattle.answer.specs.declared.Admission.TheVariants.{Admitted, Unchanged as Skipped}
+use borrow.Author.Rules.{rules}
+use Rattle.std.specs.Prelude.{Ok}
 use mathlib.Core.Path.{◌≡◌, sym, ap, ◌∙◌}
 use mathlib.Core.Bool.{Bool, ◌&&◌}
-use Prim.Native.Nat.{min}
+use native.Mathlib.Omega.{arith}
 use lib.ListN.{length}
 use Rattle.unit.specs.Layout.{header_of}
 use Rattle.answer.specs.Answer.{Lent, lent_of, room_for, admission}
@@ -9,44 +12,36 @@ use Rattle.run.proofs.Given.{admitted_worked}
 use Rattle.clean.specs.laws.Cleaning.{answers_cleaned, stop_answers}
 use Rattle.clean.specs.laws.First.{unaltered_answers, room_shortest, clean_refused, clean_unchanged, clean_admitted}
 use Rattle.clean.proofs.answer.Goals as goal
-use Rattle.clean.proofs.answer.Tie as tie
-use Rattle.clean.proofs.answer.Lts
-use Rattle.clean.proofs.answer.Reads
+use Rattle.clean.proofs.answer.Goals.{After-admit}
 
-abbrev After-admit : Type 0
-After-admit = Lts.After-admit tie.the-claims Reads.Pre Reads.Post tie.handed_clauses
-
-abbrev Start : Type 0
-Start = Lts.Start tie.the-claims Reads.Pre Reads.Post tie.handed_clauses
-
-abbrev start : After-admit → Start
-start d = d.before.before.before.before.before.before.before.before.before
-
-abbrev lent : Start → Lent
-lent s = lent_of (length s.args.out.now) (length s.args.work32.now) (length s.args.work64.now)
+abbrev lent : After-admit → Lent
+lent d = lent_of (length d.args.out.now) (length d.args.work32.now) (length d.args.work64.now)
 
 -- is there room in every buffer?
-abbrev room : Start → Bool
-room s = let c = (header_of s.args.unit.now).counts in room_for c (lent s) && spare_for c (length s.args.first.now) (length s.args.second.now)
+abbrev room : After-admit → Bool
+room d = let c = (header_of d.args.unit.now).counts in room_for c (lent d) && spare_for c (length d.args.first.now) (length d.args.second.now)
 
-admitted : (d : After-admit) → d.admit.result ≡ admission (room (start d)) (start d).args.unit.now
+admitted : (d : After-admit) → d.admit.result ≡ admission (room d) d.args.unit.now
 admitted d =
-    let a = (start d).args in
+    let a = d.args in
     d.admit.ensures.answer
-    ∙ ap (λ (t : Bool). admission t a.unit.now) (room_shortest (header_of a.unit.now).counts (length a.out.now) (length a.work32.now) (length a.work64.now) (length a.first.now) (length a.second.now) _ (d.lesser-shortest.ensures ∙ ap (min (length a.out.now)) d.lesser.ensures))
+    ∙ ap (λ (t : Bool). admission t a.unit.now) (room_shortest (header_of a.unit.now).counts (length a.out.now) (length a.work32.now) (length a.work64.now) (length a.first.now) (length a.second.now) _ (omega (arith, d.min-shortest.ensures, d.min.ensures)))
 
 pub first_pass-requires : goal.first_pass-requires
 first_pass-requires c =
-    record { admitted = admitted_worked (start c.before.before.before.before.before.before.before).args.unit.now (room (start c.before.before.before.before.before.before.before)) (sym (admitted c.before.before.before.before.before.before.before) ∙ c.in-Admitted.is) }
+    let z : c.in-Ok-Admitted.field-0 ≡ Admitted = search rules in
+    record { admitted = admitted_worked c.args.unit.now (room (goal.at.first_pass-requires c).After-admit) (sym (admitted (goal.at.first_pass-requires c).After-admit) ∙ (c.in-Ok-Admitted.is ∙ ap Ok z)) }
 
-pub returns-in-Unchanged : goal.returns-in-Unchanged
-returns-in-Unchanged c =
-    let a = (start c.before.before).args in record { answers = answers_cleaned _ _ _ _ _ (clean_unchanged a.unit.now (lent (start c.before.before)) (length a.first.now) (length a.second.now) (sym (admitted c.before.before) ∙ c.in-Unchanged.is)) (unaltered_answers a.out.now) }
+pub returns-in-Ok-Unchanged : goal.returns-in-Ok-Unchanged
+returns-in-Ok-Unchanged c =
+    let z : c.in-Ok-Unchanged.field-0 ≡ Skipped = search rules in
+    let a = c.args in record { answers = answers_cleaned _ _ _ _ _ (clean_unchanged a.unit.now (lent (goal.at.returns-in-Ok-Unchanged c).After-admit) (length a.first.now) (length a.second.now) (sym (admitted (goal.at.returns-in-Ok-Unchanged c).After-admit) ∙ (c.in-Ok-Unchanged.is ∙ ap Ok z))) (unaltered_answers a.out.now) }
 
-pub returns-in-Refused : goal.returns-in-Refused
-returns-in-Refused c =
-    let a = (start c.before.before).args in record { answers = answers_cleaned _ _ _ _ _ (clean_refused a.unit.now (lent (start c.before.before)) (length a.first.now) (length a.second.now) _ _ (sym (admitted c.before.before) ∙ c.in-Refused.is)) (stop_answers _ _ 1 a.out.now) }
+pub returns-in-Err : goal.returns-in-Err
+returns-in-Err c =
+    let a = c.args in record { answers = answers_cleaned _ _ _ _ _ (clean_refused a.unit.now (lent (goal.at.returns-in-Err c).After-admit) (length a.first.now) (length a.second.now) _ _ (sym (admitted (goal.at.returns-in-Err c).After-admit) ∙ c.in-Err.is)) (stop_answers _ _ 1 a.out.now) }
 
-pub returns-in-Admitted : goal.returns-in-Admitted
-returns-in-Admitted c =
-    let a = (start c.before.before.before.before.before.before.before.before.before.before.before.before.before.before.before.before.before.before).args in record { answers = answers_cleaned _ _ _ _ _ (clean_admitted a.unit.now (lent (start c.before.before.before.before.before.before.before.before.before.before.before.before.before.before.before.before.before.before)) (length a.first.now) (length a.second.now) (sym (admitted c.before.before.before.before.before.before.before.before.before.before.before.before.before.before.before.before.before.before) ∙ c.in-Admitted.is)) c.first_pass.ensures.answers }
+pub returns-in-Ok-Admitted : goal.returns-in-Ok-Admitted
+returns-in-Ok-Admitted c =
+    let z : c.in-Ok-Admitted.field-0 ≡ Admitted = search rules in
+    let a = c.args in record { answers = answers_cleaned _ _ _ _ _ (clean_admitted a.unit.now (lent (goal.at.returns-in-Ok-Admitted c).After-admit) (length a.first.now) (length a.second.now) (sym (admitted (goal.at.returns-in-Ok-Admitted c).After-admit) ∙ (c.in-Ok-Admitted.is ∙ ap Ok z))) c.first_pass.ensures.answers }

@@ -16,15 +16,6 @@ use Rattle.clean.specs.declared.Cleaned.{Cleaned}
 use Rattle.clean.specs.CleanAnswer.{cleaned_of}
 use Rattle.optimize.specs.laws.Lines.{clean_linable, clean_moves}
 use Rattle.clean.proofs.clean.Goals as goal
-use Rattle.clean.proofs.clean.Tie as tie
-use Rattle.clean.proofs.clean.Lts
-use Rattle.clean.proofs.clean.Reads
-
-abbrev After-answer-r : Type 0
-After-answer-r = Lts.After-answer tie.the-claims Reads.Pre Reads.Post tie.handed_clauses
-
-abbrev Start : Type 0
-Start = Lts.Start tie.the-claims Reads.Pre Reads.Post tie.handed_clauses
 
 -- lines moved once are those that are defined pass by pass
 same_lines : (u : List ℕ) → Bytes u → (l : Lent) (first second : ℕ) (out : List ℕ)
@@ -42,30 +33,24 @@ answered : (c : Cleaning) (r : Cleaned) → r ≡ cleaned_of c → r.answer ≡ 
 unfolding cleaned_of
 answered c r e = ap (λ (x : Cleaned). x.answer) e
 
--- what was given, from the state after the answer
-abbrev start : After-answer-r → Start
-start r = r.before.before.before.before.before.before.before.before.before.before.before.before
-
-unit-bytes : (r : After-answer-r) → Bytes (start r).args.unit.now
-unit-bytes r i = omega (arith, r.shared_slice_known-1.given i)
-
 pub add_lines-requires : goal.add_lines-requires
 add_lines-requires c =
-    let a = (start c.before.before.before.before.before.before.before.before.before.before.before.before).args in record { room = clean_linable a.unit.now (unit-bytes c.before.before.before.before.before.before.before.before.before.before.before.before) (length a.out.now) (length a.work32.now) (length a.work64.now) (length a.first.now) (length a.second.now) _ _ (answered _ _ c.answer-r.ensures.answers.0) c.answer-r.auto.out }
+    let a = c.args in
+    record { room = clean_linable a.unit.now (λ i. omega (arith, c.type_inv.unit i)) (length a.out.now) (length a.work32.now) (length a.work64.now) (length a.first.now) (length a.second.now) _ _ (answered _ _ c.answer-r.ensures.answers.0) c.answer-r.auto.out }
 
 pub returns : goal.returns
 returns c =
-    let a = (start c.before.before.before.before.before.before.before.before.before.before.before.before.before.before.before.before.before.before.before.before.before.before.before.before.before.before.before.before.before.before.before).args in
+    let a = c.args in
     let k = c.answer-r.auto in
-    let b = unit-bytes c.before.before.before.before.before.before.before.before.before.before.before.before.before.before.before.before.before.before.before.before.before.before.before.before.before.before.before.before.before.before.before in
+    let b : Bytes a.unit.now = λ i. omega (arith, c.type_inv.unit i) in
     let moves = clean_moves a.unit.now b (length a.out.now) (length a.work32.now) (length a.work64.now) (length a.first.now) (length a.second.now) in
     let output = c.add_lines.ensures.lined _ a.out.now (answered _ _ c.answer-r.ensures.answers.0, c.answer-r.ensures.answers.1) moves ∙ same_lines a.unit.now b _ _ _ a.out.now in
     record {
       answer = c.answer-r.ensures.answers.0;
       output = output;
-      work32 = c.zero_u32.ensures ∙ rw k.work32;
-      work64 = c.zero_u64.ensures ∙ rw k.work64;
-      first = c.zero_u8.ensures ∙ rw k.first;
-      second = c.zero_u8-2.ensures ∙ rw k.second;
+      work32 = c.fill.ensures.after (λ y e. e) ∙ rw k.work32;
+      work64 = c.fill-2.ensures.after (λ y e. e) ∙ rw k.work64;
+      first = c.fill-3.ensures.after (λ y e. e) ∙ rw k.first;
+      second = c.fill-4.ensures.after (λ y e. e) ∙ rw k.second;
       runs = rw output (clean_preserves a.unit.now _ _ _ _ a.out.now b);
     }

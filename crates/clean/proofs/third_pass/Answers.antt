@@ -1,49 +1,32 @@
+use Rattle.optimize.specs.declared.Answer.TheVariants.{Unchanged, Rewritten}
+use borrow.Author.Rules.{rules}
+use Rattle.std.specs.Prelude.{Ok}
 use Rattle.words.specs.Bytes.{Bytes}
-use mathlib.Core.Path.{refl}
+use mathlib.Core.Path.{refl, ◌≡◌, ap, ◌∙◌}
 use native.Mathlib.Omega.{arith}
 use Rattle.answer.specs.Answer.{sections_of}
 use Rattle.answer.specs.Clean.{clean_from}
 use Rattle.run.specs.laws.Reading.{retained_in}
 use Rattle.clean.specs.laws.Cleaning.{answers_cleaned, stop_answers, from_unchanged, from_refused, next_ready, from_rewritten}
 use Rattle.clean.proofs.third_pass.Goals as goal
-use Rattle.clean.proofs.third_pass.Tie as tie
-use Rattle.clean.proofs.third_pass.Lts
-use Rattle.clean.proofs.third_pass.Reads
 
-abbrev After-later : Type 0
-After-later = Lts.After-later tie.the-claims Reads.Pre Reads.Post
+pub give-requires-in-Ok-Rewritten : goal.give-requires-in-Ok-Rewritten
+give-requires-in-Ok-Rewritten c =
+    let z : c.in-Ok-Rewritten.field-0 ≡ Rewritten c.in-Ok-Rewritten.j = search rules in
+    let n = next_ready c.requires.0 (λ i. omega (arith, c.type_inv.unit i)) (λ i. omega (arith, c.type_inv.from i)) c.args.to.now _ _ c.later.ensures refl _ (c.in-Ok-Rewritten.is ∙ ap Ok z) in
+    (n.ready.few, n.ready.long, omega (arith, n.fewer, c.requires.1), n.ready.whole)
 
-abbrev Start : Type 0
-Start = Lts.Start tie.the-claims Reads.Pre Reads.Post
+pub returns-in-Ok-Unchanged : goal.returns-in-Ok-Unchanged
+returns-in-Ok-Unchanged c =
+    let z : c.in-Ok-Unchanged.field-0 ≡ Unchanged = search rules in
+    answers_cleaned _ _ _ _ _ (from_unchanged (sections_of c.args.unit.now) 0 2 (retained_in c.args.k c.args.from.now) c.args.to.now _ _ c.later.ensures (c.in-Ok-Unchanged.is ∙ ap Ok z)) c.give.ensures
 
--- what was given, from the state after the pass
-abbrev start : After-later → Start
-start l = l.before.before.before.before.before.before.before.before.before.before
+pub returns-in-Err : goal.returns-in-Err
+returns-in-Err c =
+    answers_cleaned _ _ _ _ _ (from_refused (sections_of c.args.unit.now) 0 2 (retained_in c.args.k c.args.from.now) c.args.to.now _ _ c.later.ensures _ _ c.in-Err.is) (stop_answers _ _ 3 c.args.out.now)
 
-unit-bytes : (l : After-later) → Bytes (start l).args.unit.now
-unit-bytes l i = omega (arith, l.shared_slice_known-1.given i)
-
-from_bytes : (l : After-later) → Bytes (start l).args.from.now
-from_bytes l i = omega (arith, l.shared_slice_known-2-1.given i)
-
-pub give-requires-in-Rewritten : goal.give-requires-in-Rewritten
-give-requires-in-Rewritten c =
-    let s = start c.before.before.before.before.before.before.before.before.before in
-    let n = next_ready s.requires.0 (unit-bytes c.before.before.before.before.before.before.before.before.before) (from_bytes c.before.before.before.before.before.before.before.before.before) s.args.to.now _ _ c.later.ensures refl _ c.in-Rewritten.is in
-    (n.ready.few, n.ready.long, omega (arith, n.fewer, s.requires.1), n.ready.whole)
-
-pub returns-in-Unchanged : goal.returns-in-Unchanged
-returns-in-Unchanged c =
-    let s = start c.before.before.before.before.before.before.before.before.before.before.before.before in
-    answers_cleaned _ _ _ _ _ (from_unchanged (sections_of s.args.unit.now) 0 2 (retained_in s.args.k s.args.from.now) s.args.to.now _ _ c.later.ensures c.in-Unchanged.is) c.give.ensures
-
-pub returns-in-Refused : goal.returns-in-Refused
-returns-in-Refused c =
-    let s = start c.before.before.before.before.before.before.before.before in
-    answers_cleaned _ _ _ _ _ (from_refused (sections_of s.args.unit.now) 0 2 (retained_in s.args.k s.args.from.now) s.args.to.now _ _ c.later.ensures _ _ c.in-Refused.is) (stop_answers _ _ 3 s.args.out.now)
-
-pub returns-in-Rewritten : goal.returns-in-Rewritten
+pub returns-in-Ok-Rewritten : goal.returns-in-Ok-Rewritten
 unfolding clean_from
-returns-in-Rewritten c =
-    let s = start c.before.before.before.before.before.before.before.before.before.before.before.before in
-    answers_cleaned _ _ _ _ _ (from_rewritten s.requires.0 (unit-bytes c.before.before.before.before.before.before.before.before.before.before.before.before) (from_bytes c.before.before.before.before.before.before.before.before.before.before.before.before) s.args.to.now _ _ c.later.ensures refl _ c.in-Rewritten.is 0 2) c.give-in-Rewritten.ensures
+returns-in-Ok-Rewritten c =
+    let z : c.in-Ok-Rewritten.field-0 ≡ Rewritten c.in-Ok-Rewritten.j = search rules in
+    answers_cleaned _ _ _ _ _ (from_rewritten c.requires.0 (λ i. omega (arith, c.type_inv.unit i)) (λ i. omega (arith, c.type_inv.from i)) c.args.to.now _ _ c.later.ensures refl _ (c.in-Ok-Rewritten.is ∙ ap Ok z) 0 2) c.give-in-Ok-Rewritten.ensures

@@ -1,6 +1,6 @@
 -- The answers of the cleaning, pass by pass.
 -- Assumes nothing.
-use Rattle.std.specs.Prelude.{◌≡◌, refl, ℕ, suc, ◌≤◌, length}
+use Rattle.std.specs.Prelude.{Ok, Err, Result, ◌≡◌, refl, ℕ, suc, ◌≤◌, length}
 use Rattle.std.proofs.Common.{sym, ◌∙◌, arith}
 use Rattle.std.proofs.Math.Path.{ap}
 use mathlib.Core.List.{List, []}
@@ -12,8 +12,10 @@ use Rattle.effects.specs.Shape.{Sections}
 use Rattle.answer.specs.Answer.{sections_of}
 use Rattle.answer.specs.Clean.{Cleaned as Cleaning, cells_after, placed_by, after_pass, clean_from}
 use Rattle.answer.specs.Pass.{Outcome, unchanged, refused, rewritten, pass, output_after}
+use Rattle.unit.specs.declared.refusal.Refusal.{Refusal}
+use Rattle.unit.specs.Refusal.{Refused}
 use Rattle.optimize.specs.declared.Answer.{Answer}
-use Rattle.optimize.specs.declared.Answer.TheVariants.{Unchanged, Refused, Rewritten}
+use Rattle.optimize.specs.declared.Answer.TheVariants.{Unchanged, Rewritten}
 use Rattle.clean.specs.declared.Cleaned.{Cleaned}
 use Rattle.optimize.specs.PassAnswer.{answer_of, Answers}
 use Rattle.run.specs.laws.Reading.{AllFit, retained_in}
@@ -32,7 +34,7 @@ abbrev pub stopped : ℕ → ℕ → ℕ → Cleaning
 stopped k p j = record { outcome = refused k p; passes = j }
 
 pub give_answers : (k j : ℕ) (from out out' : List ℕ) (r : Cleaned) → mid_of 0 (result_size k 0) from ≡ result_bytes (retained_in k from) []
-    → r ≡ record { answer = Rewritten k; passes = j } → out' ≡ put_mid 0 (result_size k 0) out (mid_of 0 (result_size k 0) from)
+    → r ≡ record { answer = Ok (Rewritten k); passes = j } → out' ≡ put_mid 0 (result_size k 0) out (mid_of 0 (result_size k 0) from)
     → AnswersCleaned (finished (retained_in k from) j) r out out'
 unfolding cleaned_of answer_of output_after
 give_answers k j from out out' r whole e f = (e ∙ rw (before_long k from), f ∙ rw (whole, before_long k from))
@@ -52,8 +54,8 @@ from_step S i j before = go (pass S (cells_after before))
     go (refused k p) = refl
     go (rewritten kept) = refl
 
-module _ (S : Sections) (i j : ℕ) (before : List Retained) (to to₁ : List ℕ) (a : Answer) (w : Answers (later_outcome S before) a to to₁) where
-  pub from_unchanged : a ≡ Unchanged → clean_from S (suc i) j before ≡ finished before (suc j)
+module _ (S : Sections) (i j : ℕ) (before : List Retained) (to to₁ : List ℕ) (a : Result Answer Refusal) (w : Answers (later_outcome S before) a to to₁) where
+  pub from_unchanged : a ≡ Ok Unchanged → clean_from S (suc i) j before ≡ finished before (suc j)
   unfolding after_pass
   from_unchanged e = from_step S i j before ∙ ap (after_pass (suc j) before (clean_from S i (suc j))) (outcome_unchanged (later_outcome S before) (sym e ∙ w.0))
 
@@ -77,7 +79,7 @@ module _ {u from : List ℕ} {k t work32 work64 : ℕ} (r : Ready u from k t wor
   abbrev S : Sections
   S = sections_of u
 
-  module _ (to to₁ : List ℕ) (a : Answer) (w : Answers (later_outcome S before) a to to₁) (long : length to ≡ t) (m : ℕ) (e : a ≡ Rewritten m) where
+  module _ (to to₁ : List ℕ) (a : Result Answer Refusal) (w : Answers (later_outcome S before) a to to₁) (long : length to ≡ t) (m : ℕ) (e : a ≡ Ok (Rewritten m)) where
     made : To (later_outcome S before) m
     made = outcome_rewritten (later_outcome S before) m (sym e ∙ w.0)
 

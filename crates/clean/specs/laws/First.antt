@@ -1,6 +1,6 @@
 -- The first pass, on the unit, and the answers before it.
 -- Assumes nothing.
-use Rattle.std.specs.Prelude.{◌≡◌, refl, Bool, true, false, ◌&&◌, ℕ, ◌*◌, ◌≤◌, ◌<◌, min, leb, length}
+use Rattle.std.specs.Prelude.{Ok, Err, Result, ◌≡◌, refl, Bool, true, false, ◌&&◌, ℕ, ◌*◌, ◌≤◌, ◌<◌, min, leb, length}
 use Rattle.std.proofs.Common.{sym, ◌∙◌, arith, le-leb}
 use Rattle.std.proofs.Math.Path.{ap}
 use mathlib.Core.List.{List, []}
@@ -15,16 +15,17 @@ use Rattle.unit.specs.Result.{Retained, result_bytes}
 use Rattle.unit.specs.Size.{metadata_size, output_room, work32_room, work64_room, result_size}
 use Rattle.words.specs.laws.Truth.{left_true, right_true}
 use Rattle.effects.specs.Shape.{Sections}
-use Rattle.answer.specs.declared.Admission.TheVariants.{Admitted}
-use Rattle.answer.specs.declared.Admission.TheVariants as variant
+use Rattle.unit.specs.declared.refusal.Refusal.{Refusal}
+use Rattle.answer.specs.declared.Admission.TheVariants.{Admitted, Unchanged as Skipped}
 use Rattle.answer.specs.Answer.{Lent, lent_of, cells_of, sections_of, room_for, admission}
 use Rattle.answer.specs.Clean.{Cleaned as Cleaning, clean_from, cleaned_first, spare_for, clean_answer}
 use Rattle.answer.specs.Pass.{Outcome, unchanged, optimized, output_after}
 use Rattle.run.proofs.Given.{worked_well, cell_at_lem, cells_long, metadata_fields}
 use Rattle.run.specs.Given.{Worked}
 use Rattle.run.specs.Returned.{given_function}
+use Rattle.unit.specs.Refusal.{Refused}
 use Rattle.optimize.specs.declared.Answer.{Answer}
-use Rattle.optimize.specs.declared.Answer.TheVariants.{Unchanged, Refused, Rewritten}
+use Rattle.optimize.specs.declared.Answer.TheVariants.{Unchanged, Rewritten}
 use Rattle.optimize.specs.PassAnswer.{Answers, answer_of}
 use Rattle.optimize.specs.laws.Whole.{given_unit, room_out, room_work, answer_refused, answer_unchanged, answer_admitted}
 use Rattle.run.specs.laws.Reading.{AllFit, retained_in}
@@ -39,7 +40,7 @@ use Rattle.clean.specs.CleanAnswer.{cleaned_of, AnswersCleaned}
 abbrev pub unaltered : Cleaning
 unaltered = record { outcome = unchanged; passes = 1 }
 
-pub unaltered_answers : (out : List ℕ) → AnswersCleaned unaltered (record { answer = Unchanged; passes = 1 }) out out
+pub unaltered_answers : (out : List ℕ) → AnswersCleaned unaltered (record { answer = Ok Unchanged; passes = 1 }) out out
 unfolding cleaned_of answer_of output_after
 unaltered_answers out = (refl, refl)
 
@@ -49,15 +50,15 @@ module _ (u : List ℕ) (l : Lent) (first second : ℕ) where
   abbrev lent : Bool
   lent = room_for (header_of u).counts l && spare_for (header_of u).counts first second
 
-  pub clean_refused : (k p : ℕ) → admission (room_for (header_of u).counts l && spare_for (header_of u).counts first second) u ≡ variant.Refused k p → clean_answer u l first second ≡ stopped k p 1
+  pub clean_refused : (k p : ℕ) → admission (room_for (header_of u).counts l && spare_for (header_of u).counts first second) u ≡ Refused k p → clean_answer u l first second ≡ stopped k p 1
   unfolding clean_answer cleaned_first
   clean_refused k p e = rw (answer_refused u lent k p e)
 
-  pub clean_unchanged : admission (room_for (header_of u).counts l && spare_for (header_of u).counts first second) u ≡ variant.Unchanged → clean_answer u l first second ≡ unaltered
+  pub clean_unchanged : admission (room_for (header_of u).counts l && spare_for (header_of u).counts first second) u ≡ Ok Skipped → clean_answer u l first second ≡ unaltered
   unfolding clean_answer cleaned_first
   clean_unchanged e = rw (answer_unchanged u lent e)
 
-  pub clean_admitted : admission (room_for (header_of u).counts l && spare_for (header_of u).counts first second) u ≡ Admitted → clean_answer u l first second ≡ cleaned_first (sections_of u) (optimized (sections_of u) (cells_of u))
+  pub clean_admitted : admission (room_for (header_of u).counts l && spare_for (header_of u).counts first second) u ≡ Ok Admitted → clean_answer u l first second ≡ cleaned_first (sections_of u) (optimized (sections_of u) (cells_of u))
   unfolding clean_answer
   clean_admitted e = rw (answer_admitted u lent e)
 
@@ -133,8 +134,8 @@ module _ (u : List ℕ) (b : Bytes u) (out work32 work64 first second : ℕ) (w 
   pub first_worked : Worked u (room_for (header_of u).counts (lent_of first work32 work64))
   first_worked = worked_lent _ w rooms.1
 
-  module _ (to to₁ : List ℕ) (a : Answer) (r : Answers o a to to₁) where
-    pub first_unchanged : a ≡ Unchanged → cleaned_first S o ≡ unaltered
+  module _ (to to₁ : List ℕ) (a : Result Answer Refusal) (r : Answers o a to to₁) where
+    pub first_unchanged : a ≡ Ok Unchanged → cleaned_first S o ≡ unaltered
     unfolding cleaned_first
     first_unchanged e = ap (cleaned_first S) (outcome_unchanged o (sym e ∙ r.0))
 
@@ -142,7 +143,7 @@ module _ (u : List ℕ) (b : Bytes u) (out work32 work64 first second : ℕ) (w 
     unfolding cleaned_first
     first_refused k p e = ap (cleaned_first S) (outcome_refused o k p (sym e ∙ r.0))
 
-    module _ (long : length to ≡ first) (k : ℕ) (e : a ≡ Rewritten k) where
+    module _ (long : length to ≡ first) (k : ℕ) (e : a ≡ Ok (Rewritten k)) where
       made : To o k
       made = outcome_rewritten o k (sym e ∙ r.0)
 

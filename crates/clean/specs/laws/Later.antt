@@ -1,6 +1,6 @@
 -- The answers of the later passes and of the cleaning as values that are returned.
 -- Assumes nothing.
-use Rattle.std.specs.Prelude.{◌≡◌, refl, ℕ, ◌+◌, ◌-◌, ◌*◌, ◌^◌, ◌≤◌, ◌<◌, length}
+use Rattle.std.specs.Prelude.{Ok, Err, Result, ◌≡◌, refl, ℕ, ◌+◌, ◌-◌, ◌*◌, ◌^◌, ◌≤◌, ◌<◌, length}
 use Rattle.std.proofs.Common.{sym, ◌∙◌, arith}
 use Rattle.std.proofs.Math.Path.{ap}
 use mathlib.Core.List.{List, []}
@@ -14,8 +14,10 @@ use Rattle.effects.specs.Shape.{Sections}
 use Rattle.answer.specs.Answer.{sections_of}
 use Rattle.answer.specs.Clean.{cells_after, placed_by}
 use Rattle.answer.specs.Pass.{Outcome, unchanged, refused, rewritten, optimized, output_after}
+use Rattle.unit.specs.declared.refusal.Refusal.{Refusal}
+use Rattle.unit.specs.Refusal.{Refused}
 use Rattle.optimize.specs.declared.Answer.{Answer}
-use Rattle.optimize.specs.declared.Answer.TheVariants.{Unchanged, Refused, Rewritten}
+use Rattle.optimize.specs.declared.Answer.TheVariants.{Unchanged, Rewritten}
 use Rattle.optimize.specs.laws.Given.{answers_unchanged, answers_same}
 use Rattle.optimize.specs.laws.Outcomes.{To, outcome_unchanged, outcome_refused, outcome_rewritten}
 use Rattle.optimize.specs.PassAnswer.{answer_of, Answers}
@@ -72,19 +74,19 @@ module _ {u from : List ℕ} {k t work32 work64 : ℕ} (r : Ready u from k t wor
   abbrev o : Outcome
   o = optimized S (cells_after before)
 
-  pub small_answers : k < 2 → (to : List ℕ) → Answers (later_outcome S before) Unchanged to to
+  pub small_answers : k < 2 → (to : List ℕ) → Answers (later_outcome S before) (Ok Unchanged) to to
   unfolding placed_outcome
   small_answers h to = answers_unchanged (later_outcome S before) to (ap (placed_outcome before) (pass_small r bu bf h))
 
-  module _ (h : 1 < k) (to to₁ : List ℕ) (a : Answer) (w : Answers o a to to₁) where
+  module _ (h : 1 < k) (to to₁ : List ℕ) (a : Result Answer Refusal) (w : Answers o a to to₁) where
     later_is : (q : Outcome) → o ≡ q → later_outcome S before ≡ placed_outcome before q
     later_is q e = ap (placed_outcome before) (pass_worked r bu bf h ∙ e)
 
-    pub unchanged_answers : a ≡ Unchanged → Answers (later_outcome S before) Unchanged to to₁
+    pub unchanged_answers : a ≡ Ok Unchanged → Answers (later_outcome S before) (Ok Unchanged) to to₁
     unfolding placed_outcome answer_of output_after
     unchanged_answers f =
         let e = outcome_unchanged o (sym f ∙ w.0) in
-        answers_same (later_outcome S before) unchanged Unchanged to to₁ (later_is unchanged e) (refl, w.1 ∙ ap (λ (q : Outcome). output_after q [] to) e)
+        answers_same (later_outcome S before) unchanged (Ok Unchanged) to to₁ (later_is unchanged e) (refl, w.1 ∙ ap (λ (q : Outcome). output_after q [] to) e)
 
     pub refused_answers : (m p : ℕ) → a ≡ Refused m p → Answers (later_outcome S before) (Refused m p) to to₁
     unfolding placed_outcome answer_of output_after
@@ -92,7 +94,7 @@ module _ {u from : List ℕ} {k t work32 work64 : ℕ} (r : Ready u from k t wor
         let e = outcome_refused o m p (sym f ∙ w.0) in
         answers_same (later_outcome S before) (refused m p) (Refused m p) to to₁ (later_is (refused m p) e) (refl, w.1 ∙ ap (λ (q : Outcome). output_after q [] to) e)
 
-    module _ (j : ℕ) (f : a ≡ Rewritten j) where
+    module _ (j : ℕ) (f : a ≡ Ok (Rewritten j)) where
       made : To o j
       made = outcome_rewritten o j (sym f ∙ w.0)
 
@@ -121,9 +123,9 @@ module _ {u from : List ℕ} {k t work32 work64 : ℕ} (r : Ready u from k t wor
           })
 
       pub rewritten_answers : (to₂ : List ℕ) → to₂ ≡ put_mid (result_places_at j) (place_size * j) to₁ (composed (places_in k from) (places_in j to₁) j)
-          → Answers (later_outcome S before) (Rewritten j) to to₂
+          → Answers (later_outcome S before) (Ok (Rewritten j)) to to₂
       unfolding placed_outcome answer_of output_after
       rewritten_answers to₂ e =
           let places = composed_places before kept (ready_places r bu bf) (λ p l. rw (before_long k from) (again.places p l)) small in
-          answers_same (later_outcome S before) (rewritten (placed_by before kept)) (Rewritten j) to to₂ (later_is (rewritten kept) made.is)
+          answers_same (later_outcome S before) (rewritten (placed_by before kept)) (Ok (Rewritten j)) to to₂ (later_is (rewritten kept) made.is)
           (rw (placed_long before kept, made.long), places_composed before kept to to₁ to₂ (places_in k from) (ready_old r bu bf) put (rw made.long e) places)

@@ -1,6 +1,6 @@
 -- How far a run goes, and how it stops there.
 -- Assumes nothing.
-use Rattle.std.specs.Prelude.{◌≡◌, ℕ, zero, suc, ◌^◌, ◌<◌, ◌≤◌, Bool, true, false, cond, List, [], length, nat_lt}
+use Rattle.std.specs.Prelude.{Ok, ◌≡◌, ℕ, zero, suc, ◌^◌, ◌<◌, ◌≤◌, Bool, true, false, cond, List, [], length, nat_lt}
 use Rattle.std.proofs.Math.Path.{refl}
 use Rattle.std.proofs.Common.{arith, lt-ltb, le-ltb}
 use Rattle.effects.specs.Shape.{Sections, Cell}
@@ -39,15 +39,15 @@ module _ (S : Sections) (cells : List Cell) where
       go ih false e d h = rw e
 
   -- one step: either all of it was done, or none
-  pub step_advances : (p : ℕ) (f : List ℕ) → ((advanced S cells 1 p f).left ≡ 0 → step_from S cells p f ≡ stepped_with (Goes (advanced S cells 1 p f).place) (advanced S cells 1 p f).frame)
-      × (0 < (advanced S cells 1 p f).left → step_from S cells p f ≡ stepped_with (Stops (stop_at S cells 1 (advanced S cells 1 p f).place (advanced S cells 1 p f).frame)) (advanced S cells 1 p f).frame)
+  pub step_advances : (p : ℕ) (f : List ℕ) → ((advanced S cells 1 p f).left ≡ 0 → step_from S cells p f ≡ stepped_with (Ok (Goes (advanced S cells 1 p f).place)) (advanced S cells 1 p f).frame)
+      × (0 < (advanced S cells 1 p f).left → step_from S cells p f ≡ stepped_with (Ok (Stops (stop_at S cells 1 (advanced S cells 1 p f).place (advanced S cells 1 p f).frame))) (advanced S cells 1 p f).frame)
   unfolding step_from advanced stop_at stop_by onward stepped
   step_advances p f = go (nat_lt p (length cells)) refl (due_at S cells p f) refl
     where
       go : (t : Bool) → nat_lt p (length cells) ≡ t → (d : Due) → due_at S cells p f ≡ d
           → let a = cond t (onward p 1 f (advanced S cells 0) d) (stands p 1 f) in
-          (a.left ≡ 0 → cond t (stepped p f d) (stepped_with (Stops Ended) f) ≡ stepped_with (Goes a.place) a.frame)
-          × (0 < a.left → cond t (stepped p f d) (stepped_with (Stops Ended) f) ≡ stepped_with (Stops (stop_at S cells 1 a.place a.frame)) a.frame)
+          (a.left ≡ 0 → cond t (stepped p f d) (stepped_with (Ok (Stops Ended)) f) ≡ stepped_with (Ok (Goes a.place)) a.frame)
+          × (0 < a.left → cond t (stepped p f d) (stepped_with (Ok (Stops Ended)) f) ≡ stepped_with (Ok (Stops (stop_at S cells 1 a.place a.frame))) a.frame)
       go true e (goes q g) h = (λ l. refl, λ l. absurd (omega arith))
       go true e (stops s) h = (λ l. absurd (omega arith), λ l. rw (e, h))
       go true e not_executed h = (λ l. absurd (omega arith), λ l. rw (e, h))

@@ -1,6 +1,6 @@
 -- The sweeps over a unit's cells for the lowest refusal, and the rows of the refusals.
 -- Assumes nothing.
-use Rattle.std.specs.Prelude.{◌≡◌, ℕ, suc, ◌+◌, ◌*◌, ◌/◌, ◌^◌, ◌<◌, ◌≤◌, Bool, true, false, cond, List, length, ◌==◌, ◌≢◌}
+use Rattle.std.specs.Prelude.{Ok, ◌≡◌, ℕ, suc, ◌+◌, ◌*◌, ◌/◌, ◌^◌, ◌<◌, ◌≤◌, Bool, true, false, cond, List, length, ◌==◌, ◌≢◌}
 use Rattle.std.proofs.Math.Path.{refl, ap}
 use Rattle.std.proofs.Common.{sym, ◌∙◌, add-one, arith}
 use borrow.Author.Tests.{eqb-true}
@@ -10,16 +10,15 @@ use Rattle.instruction.specs.declared.Instruction.{Instruction}
 use Rattle.instruction.specs.Instruction.{instruction_at, to_word}
 use Rattle.instruction.specs.laws.Instruction.{of_to}
 use Rattle.unit.specs.declared.Header.{Header}
-use Rattle.unit.specs.declared.Layout.TheVariants.{Unit}
-use Rattle.unit.specs.declared.Layout.TheVariants as layout
 use Rattle.unit.specs.Entry.{metadata_at, good_metadata}
 use Rattle.unit.specs.Layout.{header_of, code_of, metadata_of, types_of, functions_of, externs_of, cases_of, is_unit, layout_of}
 use Rattle.unit.specs.Refusal.{metadata_count, type_count, branch_outside}
 use Rattle.unit.specs.Size.{instruction_size, metadata_size, case_size, max_local_slots}
 use Rattle.unit.specs.laws.UnitLaws.{layout_unit}
 use Rattle.unit.proofs.laws.UnitLaws.{unit_laid}
-use Rattle.effects.specs.declared.Check.{Check}
-use Rattle.effects.specs.declared.Check.TheVariants.{Passed, Refused}
+use Rattle.effects.specs.Check.{Check}
+use Rattle.effects.specs.Check.{Passed}
+use Rattle.unit.specs.Refusal.{Refused}
 use Rattle.effects.specs.Check.{operand_refusal, operand_check}
 use Rattle.effects.specs.Shape.{Cell, cell_at, tables_of}
 use Rattle.effects.specs.laws.Cells.{cell_of}
@@ -74,6 +73,21 @@ pub record Found (u code metadata types functions externs cases : List ℕ) : Ty
   pub functions_found : functions ≡ functions_of u
   pub externs_found : externs ≡ externs_of u
   pub cases_found : cases ≡ cases_of u
+
+pub found : {u code metadata types functions externs cases : List ℕ} → is_unit u ≡ true → count_check (header_of u).counts ≡ Passed → Bytes u
+    → code ≡ code_of u → metadata ≡ metadata_of u → types ≡ types_of u → functions ≡ functions_of u → externs ≡ externs_of u → cases ≡ cases_of u
+    → Found u code metadata types functions externs cases
+found laid counted bytes code metadata types functions externs cases = record {
+  laid = laid;
+  counted = counted;
+  bytes = bytes;
+  code_found = code;
+  metadata_found = metadata;
+  types_found = types;
+  functions_found = functions;
+  externs_found = externs;
+  cases_found = cases;
+}
 
 -- what an operand's refusal is
 abbrev pub operand_test : List ℕ → ℕ → Cell → ℕ
@@ -137,12 +151,12 @@ module _ (u : List ℕ) (words : ℕ) where
   abbrev pub from_counts : Check
   from_counts = and_then (count_check (header_of u).counts) from_operands
 
-  pub layout_refused : {k p : ℕ} → layout_of u ≡ layout.Refused k p → Refused k p ≡ desk_check u words
+  pub layout_refused : {k p : ℕ} → layout_of u ≡ Refused k p → Refused k p ≡ desk_check u words
   unfolding desk_check layout_check and_then
   layout_refused e = rw e
 
   -- with a header
-  module _ {h : Header} (laid : layout_of u ≡ Unit h) where
+  module _ {h : Header} (laid : layout_of u ≡ Ok h) where
     pub layout_passed : {r : Check} → r ≡ from_counts → r ≡ desk_check u words
     unfolding desk_check layout_check and_then
     layout_passed e = rw laid e

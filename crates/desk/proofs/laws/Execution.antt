@@ -1,6 +1,6 @@
 -- What is due at an instruction, by the place that it goes to and the frame after it.
 -- Assumes nothing.
-use Rattle.std.specs.Prelude.{◌≡◌, ℕ, suc, ◌+◌, ◌%◌, ◌^◌, ◌≤◌, Bool, true, false, cond, not, ◌||◌, List, [], ◌∷◌, ◌==◌, slice_index, slice_set}
+use Rattle.std.specs.Prelude.{Option, Some, None, ◌≡◌, ℕ, suc, ◌+◌, ◌%◌, ◌^◌, ◌≤◌, Bool, true, false, cond, not, ◌||◌, List, [], ◌∷◌, ◌==◌, slice_index, slice_set}
 use Rattle.std.proofs.Math.Path.{refl}
 use Rattle.std.proofs.Common.{sym, ap, ◌∙◌, true≢false, arith, lt-ltb}
 use Rattle.std.proofs.Math.Decide.{dec_le}
@@ -14,7 +14,7 @@ use Rattle.instruction.specs.Class.{class_of, single}
 use Rattle.instruction.specs.Opcode as op
 use Rattle.instruction.specs.Instruction.{imm32, class}
 use Rattle.unit.specs.declared.Constant.{Constant}
-use Rattle.unit.specs.declared.Constant.TheVariants.{Nil, Bool as BoolConstant, Int, Float, String, Missing}
+use Rattle.unit.specs.declared.Constant.TheVariants.{Nil, Bool as BoolConstant, Int, Float, String}
 use Rattle.unit.specs.Entry.{constant_at}
 use Rattle.flow.specs.Branch.{target_by}
 use Rattle.values.specs.Fold.{fold_word, folding_unary, folding_binary}
@@ -23,14 +23,14 @@ use Rattle.desk.specs.Desk.{Due, goes, not_executed, loads, due_by}
 use Rattle.desk.specs.laws.Stands.{is_executed}
 use Rattle.desk.specs.laws.Execution.{Executable, frame_after, goes_to, has_word}
 
-pub loads_executed : (p a : ℕ) (f : List ℕ) (c : Constant) → has_word c ≡ is_executed (loads p f a c)
+pub loads_executed : (p a : ℕ) (f : List ℕ) (c : Option Constant) → has_word c ≡ is_executed (loads p f a c)
 unfolding has_word loads is_executed
-loads_executed p a f Nil = refl
-loads_executed p a f (BoolConstant v) = refl
-loads_executed p a f (Int v) = refl
-loads_executed p a f (Float v) = refl
-loads_executed p a f String = refl
-loads_executed p a f Missing = refl
+loads_executed p a f (Some Nil) = refl
+loads_executed p a f (Some (BoolConstant v)) = refl
+loads_executed p a f (Some (Int v)) = refl
+loads_executed p a f (Some (Float v)) = refl
+loads_executed p a f (Some String) = refl
+loads_executed p a f None = refl
 
 pub cond_executed : (t : Bool) (q : ℕ) (g : List ℕ) → t ≡ is_executed (cond t (goes q g) not_executed)
 unfolding is_executed

@@ -1,16 +1,15 @@
 -- What is not refused at the desk can be run, and its answers are those of the run.
 -- Assumes nothing.
-use Rattle.std.specs.Prelude.{◌≡◌, ℕ, suc, ◌^◌, ◌<◌, ◌≤◌, Bool, true, false, cond, List, [], length, ◌==◌, nat_lt, refl}
+use Rattle.std.specs.Prelude.{Ok, Err, Result, ◌≡◌, ℕ, suc, ◌^◌, ◌<◌, ◌≤◌, Bool, true, false, cond, List, [], length, ◌==◌, nat_lt, refl}
 use Rattle.std.proofs.Common.{sym, ap, ◌∙◌, arith, eqb-true, ltb-true}
 use Rattle.words.specs.Bytes.{Bytes}
 use Rattle.unit.specs.Layout.{header_of, is_unit, layout_of}
 use Rattle.unit.specs.Refusal.{frame_length, metadata_count}
-use Rattle.unit.specs.declared.Layout.{Layout}
-use Rattle.unit.specs.declared.Layout.TheVariants.{Unit}
-use Rattle.unit.specs.declared.Layout.TheVariants as layout
+use Rattle.unit.specs.declared.Header.{Header}
+use Rattle.unit.specs.declared.refusal.Refusal.{Refusal}
 use Rattle.unit.specs.laws.UnitLaws.{layout_unit}
-use Rattle.effects.specs.declared.Check.{Check}
-use Rattle.effects.specs.declared.Check.TheVariants.{Passed, Refused}
+use Rattle.effects.specs.Check.{Check}
+use Rattle.effects.specs.Check.{Passed}
 use Rattle.effects.specs.Shape.{Sections, Cell}
 use Rattle.effects.specs.laws.Sound.{passed_at}
 use Rattle.answer.specs.Answer.{cells_of, sections_of, count_check}
@@ -23,7 +22,6 @@ use Rattle.desk.specs.Answer.{and_then, layout_check, frame_check, desk_check, s
 use Rattle.desk.specs.Desk.{Due, goes, stops, not_executed, due_at}
 use Rattle.desk.specs.declared.Next.TheVariants.{Goes, Stops}
 use Rattle.desk.specs.declared.Stop.{Stop}
-use Rattle.desk.specs.declared.Stop.TheVariants as stop
 use Rattle.desk.specs.laws.Advance.{Advance, Placed, onward, advanced, stop_at}
 use Rattle.desk.proofs.laws.Advance.{run_advances, step_advances}
 use Rattle.desk.proofs.laws.Checking.{places_few, not_passed, if_passed}
@@ -34,12 +32,12 @@ use Rattle.desk.proofs.laws.Stands.{mute, goes_there}
 pub and_passed : (a b : Check) → and_then a b ≡ Passed → (a ≡ Passed) × (b ≡ Passed)
 unfolding and_then
 and_passed Passed b e = (refl, e)
-and_passed (Refused k p) b e = absurd (not_passed e)
+and_passed (Err r) b e = absurd (not_passed e)
 
-unit_passed : (u : List ℕ) (l : Layout) → layout_of u ≡ l → layout_check l ≡ Passed → is_unit u ≡ true
+unit_passed : (u : List ℕ) (l : Result Header Refusal) → layout_of u ≡ l → layout_check l ≡ Passed → is_unit u ≡ true
 unfolding layout_check
-unit_passed u (Unit h) e p = (layout_unit u h e).0
-unit_passed u (layout.Refused k p) e q = absurd (not_passed q)
+unit_passed u (Ok h) e p = (layout_unit u h e).0
+unit_passed u (Err r) e q = absurd (not_passed q)
 
 -- what passes
 pub record Run (u : List ℕ) (words : ℕ) : Type 0 where
@@ -86,13 +84,13 @@ reached F A p f long = go (nat_lt p (length F.cells)) refl (due_at F.sections F.
     go true e not_executed d z = absurd (omega arith)
     go false e d h z = absurd (omega arith)
 
-pub refused_stop : (u f : List ℕ) (limit k p : ℕ) → desk_check u (length f) ≡ Refused k p → (stop.Refused k p ≡ (desk_answer u f limit).stop) × (f ≡ (desk_answer u f limit).frame)
+pub refused_stop : (u f : List ℕ) (limit : ℕ) (r : Refusal) → desk_check u (length f) ≡ Err r → (Err r ≡ (desk_answer u f limit).stop) × (f ≡ (desk_answer u f limit).frame)
 unfolding desk_answer stopped_by
-refused_stop u f limit k p e = rw e (refl, refl)
+refused_stop u f limit r e = rw e (refl, refl)
 
-pub refused_step : (u f : List ℕ) (q k p : ℕ) → desk_check u (length f) ≡ Refused k p → (Stops (stop.Refused k p) ≡ (step_answer u f q).next) × (f ≡ (step_answer u f q).frame)
+pub refused_step : (u f : List ℕ) (q : ℕ) (r : Refusal) → desk_check u (length f) ≡ Err r → (Err r ≡ (step_answer u f q).next) × (f ≡ (step_answer u f q).frame)
 unfolding step_answer stepped_by
-refused_step u f q k p e = rw e (refl, refl)
+refused_step u f q r e = rw e (refl, refl)
 
 module _ (u f : List ℕ) (passed : desk_check u (length f) ≡ Passed) where
   abbrev S : Sections
@@ -102,24 +100,24 @@ module _ (u f : List ℕ) (passed : desk_check u (length f) ≡ Passed) where
   cells = cells_of u
 
   pub ran : (limit q l : ℕ) (g : List ℕ) (s : Stop) → Placed (advanced (sections_of u) (cells_of u) limit 0 f) q l g → s ≡ stop_at (sections_of u) (cells_of u) l q g
-      → (s ≡ (desk_answer u f limit).stop) × (g ≡ (desk_answer u f limit).frame)
+      → (Ok s ≡ (desk_answer u f limit).stop) × (g ≡ (desk_answer u f limit).frame)
   unfolding desk_answer stopped_by
   ran limit q l g s a e =
       let run = run_advances S cells limit 0 f in
-      rw (passed, run, ← a.place, ← a.left, ← a.frame) (e, refl)
+      rw (passed, run, ← a.place, ← a.left, ← a.frame) (ap Ok e, refl)
 
   module _ (p q l : ℕ) (g : List ℕ) (a : Placed (advanced (sections_of u) (cells_of u) 1 p f) q l g) where
-    pub step_went : l ≡ 0 → (Goes q ≡ (step_answer u f p).next) × (g ≡ (step_answer u f p).frame)
+    pub step_went : l ≡ 0 → (Ok (Goes q) ≡ (step_answer u f p).next) × (g ≡ (step_answer u f p).frame)
     unfolding step_answer stepped_by
     step_went z =
         let s = (step_advances S cells p f).0 (sym a.left ∙ z) in
         rw (passed, s, ← a.place, ← a.frame) (refl, refl)
 
-    pub step_stopped : (s : Stop) → 0 < l → s ≡ stop_at (sections_of u) (cells_of u) 1 q g → (Stops s ≡ (step_answer u f p).next) × (g ≡ (step_answer u f p).frame)
+    pub step_stopped : (s : Stop) → 0 < l → s ≡ stop_at (sections_of u) (cells_of u) 1 q g → (Ok (Stops s) ≡ (step_answer u f p).next) × (g ≡ (step_answer u f p).frame)
     unfolding step_answer stepped_by
     step_stopped s z e =
         let t = (step_advances S cells p f).1 (rw a.left at z) in
-        rw (passed, t, ← a.place, ← a.frame) (ap Stops e, refl)
+        rw (passed, t, ← a.place, ← a.frame) (ap (λ x. Ok (Stops x)) e, refl)
 
     -- a step goes to a place of 32 bits
     pub step_place : Bytes u → l ≡ 0 → q < 2 ^ 32

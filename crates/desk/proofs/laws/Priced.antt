@@ -1,6 +1,6 @@
 -- How far a charged run goes, and for how much: the run that is not charged goes as far.
 -- Assumes nothing.
-use Rattle.std.specs.Prelude.{◌≡◌, ℕ, zero, suc, ◌+◌, ◌^◌, ◌<◌, ◌≤◌, Bool, true, false, cond, List, [], length, nat_lt}
+use Rattle.std.specs.Prelude.{Ok, ◌≡◌, ℕ, zero, suc, ◌+◌, ◌^◌, ◌<◌, ◌≤◌, Bool, true, false, cond, List, [], length, nat_lt}
 use Rattle.std.proofs.Math.Path.{refl}
 use Rattle.std.proofs.Common.{arith, lt-ltb, le-ltb}
 use Rattle.effects.specs.Shape.{Sections, Cell}
@@ -43,15 +43,15 @@ module _ (S : Sections) (cells : List Cell) (tariff : List ℕ) where
 
   -- one step: either all of it was done, or none
   pub step_advances : (p v : ℕ) (f : List ℕ) → let a = advanced S cells tariff 1 p v f in
-      (a.left ≡ 0 → step_from S cells p f ≡ stepped_with (Goes a.place) a.frame)
-      × (0 < a.left → step_from S cells p f ≡ stepped_with (Stops (stop_at S cells 1 a.place a.frame)) a.frame)
+      (a.left ≡ 0 → step_from S cells p f ≡ stepped_with (Ok (Goes a.place)) a.frame)
+      × (0 < a.left → step_from S cells p f ≡ stepped_with (Ok (Stops (stop_at S cells 1 a.place a.frame))) a.frame)
   unfolding step_from advanced stop_at stop_by onward stepped
   step_advances p v f = go (nat_lt p (length cells)) refl (due_at S cells p f) refl
     where
       go : (t : Bool) → nat_lt p (length cells) ≡ t → (d : Due) → due_at S cells p f ≡ d
           → let a = cond t (onward (stands p 1 v f) (λ q g. advanced S cells tariff 0 q (v + price_at tariff cells p) g) d) (stands p 1 v f) in
-          (a.left ≡ 0 → cond t (stepped p f d) (stepped_with (Stops Ended) f) ≡ stepped_with (Goes a.place) a.frame)
-          × (0 < a.left → cond t (stepped p f d) (stepped_with (Stops Ended) f) ≡ stepped_with (Stops (stop_at S cells 1 a.place a.frame)) a.frame)
+          (a.left ≡ 0 → cond t (stepped p f d) (stepped_with (Ok (Stops Ended)) f) ≡ stepped_with (Ok (Goes a.place)) a.frame)
+          × (0 < a.left → cond t (stepped p f d) (stepped_with (Ok (Stops Ended)) f) ≡ stepped_with (Ok (Stops (stop_at S cells 1 a.place a.frame))) a.frame)
       go true e (goes q g) h = (λ l. refl, λ l. absurd (omega arith))
       go true e (stops s) h = (λ l. absurd (omega arith), λ l. rw (e, h))
       go true e not_executed h = (λ l. absurd (omega arith), λ l. rw (e, h))

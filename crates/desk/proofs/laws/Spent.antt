@@ -1,6 +1,6 @@
 -- What a run spends, and that it is never too much.
 -- Assumes nothing.
-use Rattle.std.specs.Prelude.{◌≡◌, ℕ, zero, suc, ◌+◌, ◌*◌, ◌<◌, ◌≤◌, Bool, true, false, cond, List, [], length, nat_lt, slice_index}
+use Rattle.std.specs.Prelude.{Option, Some, None, ◌≡◌, ℕ, zero, suc, ◌+◌, ◌*◌, ◌<◌, ◌≤◌, Bool, true, false, cond, List, [], length, nat_lt, slice_index}
 use Rattle.std.proofs.Math.Path.{refl}
 use Rattle.std.proofs.Common.{ap, add-zero, lt-ltb}
 use native.Mathlib.Omega.{arith}
@@ -11,7 +11,7 @@ use Rattle.instruction.specs.declared.Class.TheVariants.{Hint, LoadInt, LoadCons
 use Rattle.instruction.specs.declared.Instruction.{Instruction}
 use Rattle.instruction.specs.Instruction.{class}
 use Rattle.unit.specs.declared.Constant.{Constant}
-use Rattle.unit.specs.declared.Constant.TheVariants.{Nil, Bool as BoolConstant, Int, Float, String, Missing}
+use Rattle.unit.specs.declared.Constant.TheVariants.{Nil, Bool as BoolConstant, Int, Float, String}
 use Rattle.effects.specs.Shape.{Sections, Cell, cell_at}
 use Rattle.values.specs.Fold.{folding_unary, folding_binary}
 use Rattle.run.proofs.laws.RelocatedRun.{pick}
@@ -30,14 +30,14 @@ Costs v (goes q g) = Unit {0}
 Costs v (stops s) = stop_price v s ≡ v
 Costs v not_executed = Unit {0}
 
-costs_loads : (v p : ℕ) (f : List ℕ) (a : ℕ) (c : Constant) → Costs v (loads p f a c)
+costs_loads : (v p : ℕ) (f : List ℕ) (a : ℕ) (c : Option Constant) → Costs v (loads p f a c)
 unfolding Costs loads
-costs_loads v p f a Nil = tt
-costs_loads v p f a (BoolConstant w) = tt
-costs_loads v p f a (Int w) = tt
-costs_loads v p f a (Float w) = tt
-costs_loads v p f a String = tt
-costs_loads v p f a Missing = tt
+costs_loads v p f a (Some Nil) = tt
+costs_loads v p f a (Some (BoolConstant w)) = tt
+costs_loads v p f a (Some (Int w)) = tt
+costs_loads v p f a (Some (Float w)) = tt
+costs_loads v p f a (Some String) = tt
+costs_loads v p f a None = tt
 
 costs : (v : ℕ) (constants : List ℕ) (k : Class) (p : ℕ) (i : Instruction) (f : List ℕ) → Costs v (due_by constants k p i f)
 unfolding Costs due_by stop_price

@@ -1,6 +1,6 @@
 -- The desk run is document 01's run, in every world: after as many steps, that run stands where the desk run stopped.
 -- Assumes nothing.
-use Rattle.std.specs.Prelude.{◌≡◌, ℕ, zero, suc, ◌<◌, ◌≤◌, Bool, true, false, cond, not, List, [], ◌∷◌, ◌++◌, map, length, ◌==◌, nat_lt, slice_index}
+use Rattle.std.specs.Prelude.{Option, Some, None, ◌≡◌, ℕ, zero, suc, ◌<◌, ◌≤◌, Bool, true, false, cond, not, List, [], ◌∷◌, ◌++◌, map, length, ◌==◌, nat_lt, slice_index}
 use Rattle.std.proofs.Math.Path.{refl, ap}
 use Rattle.std.proofs.Common.{sym, ◌∙◌, suc-le-suc}
 use mathlib.Core.List.{append-nil, append_assoc}
@@ -11,7 +11,7 @@ use Rattle.instruction.specs.declared.Class.{Class}
 use Rattle.instruction.specs.declared.Class.TheVariants.{Hint, LoadInt, LoadConst, Copy, CopyN, Unary, Binary, Jump, JumpIf, JumpIfNot, ForLoop, Return, Panic, Outside, Invalid}
 use Rattle.instruction.specs.Instruction.{class}
 use Rattle.unit.specs.declared.Constant.{Constant}
-use Rattle.unit.specs.declared.Constant.TheVariants.{Nil, Bool as BoolConstant, Int, Float, String, Missing}
+use Rattle.unit.specs.declared.Constant.TheVariants.{Nil, Bool as BoolConstant, Int, Float, String}
 use Rattle.effects.specs.Shape.{Sections, Cell, cell_at}
 use Rattle.effects.specs.laws.ByClass.{is_outside, reads_by_class}
 use Rattle.effects.proofs.laws.ByClass.{reads_by_class_lem}
@@ -25,7 +25,7 @@ use Rattle.run.proofs.laws.RelocatedRun.{pick}
 use Rattle.run.specs.laws.Runnable.{Runnable}
 use Rattle.run.proofs.laws.Step.{step_do}
 use Rattle.desk.specs.declared.Stop.{Stop}
-use Rattle.desk.specs.declared.Stop.TheVariants.{Returned, Panicked, Ended, Other, Limit, Refused}
+use Rattle.desk.specs.declared.Stop.TheVariants.{Returned, Panicked, Ended, Other, Limit}
 use Rattle.desk.specs.Desk.{Stopped, stopped_with, Due, goes, stops, not_executed, loads, due_by, halted, taken, due_at, run_from}
 use Rattle.desk.specs.Desk as desk
 use Rattle.desk.specs.laws.Step.{words_in}
@@ -45,7 +45,6 @@ module _ (F : Function) (W : World) (R : List Event) where
   Stands Ended f x = x ≡ at (length F.cells) (words_in f) R
   Stands (Other q) f x = (q < length F.cells) × (x ≡ at q (words_in f) R) × (is_executed (due_at F.sections F.cells q f) ≡ false)
   Stands Limit f x = (q : ℕ) × (q < length F.cells) × (x ≡ at q (words_in f) R) × (is_executed (due_at F.sections F.cells q f) ≡ true)
-  Stands (Refused k q) f x = ⊥
 
 module _ (F : Function) (A : Runnable F) (W : World) where
   abbrev P : Program
@@ -73,14 +72,14 @@ module _ (F : Function) (A : Runnable F) (W : World) where
   Inside (stops s) = Unit {0}
   Inside not_executed = Unit {0}
 
-  inside_loads : (p : ℕ) (f : List ℕ) (a : ℕ) (c : Constant) → p < n → Inside (loads p f a c)
+  inside_loads : (p : ℕ) (f : List ℕ) (a : ℕ) (c : Option Constant) → p < n → Inside (loads p f a c)
   unfolding Inside loads
-  inside_loads p f a Nil h = h
-  inside_loads p f a (BoolConstant v) h = h
-  inside_loads p f a (Int v) h = h
-  inside_loads p f a (Float v) h = h
-  inside_loads p f a String h = tt
-  inside_loads p f a Missing h = tt
+  inside_loads p f a (Some Nil) h = h
+  inside_loads p f a (Some (BoolConstant v)) h = h
+  inside_loads p f a (Some (Int v)) h = h
+  inside_loads p f a (Some (Float v)) h = h
+  inside_loads p f a (Some String) h = tt
+  inside_loads p f a None h = tt
 
   inside_branch : (p : ℕ) → p < n → (k : Class) → class (x p).instruction ≡ k → branches k ≡ true → target_by k p (x p).instruction ≤ n
   inside_branch p h k e b = let f : branches (class (x p).instruction) ≡ true = rw e b in rw e at (A.targets p h f)
@@ -114,14 +113,14 @@ module _ (F : Function) (A : Runnable F) (W : World) where
   Stopping p f R (stops s) = Stands F W R s f (step W P (at p (words_in f) R)) × IsEnd s
   Stopping p f R not_executed = Unit {0}
 
-  stopping_loads : (p : ℕ) (f : List ℕ) (R : List Event) (q : ℕ) (a : ℕ) (c : Constant) → Stopping p f R (loads q f a c)
+  stopping_loads : (p : ℕ) (f : List ℕ) (R : List Event) (q : ℕ) (a : ℕ) (c : Option Constant) → Stopping p f R (loads q f a c)
   unfolding Stopping loads
-  stopping_loads p f R q a Nil = tt
-  stopping_loads p f R q a (BoolConstant v) = tt
-  stopping_loads p f R q a (Int v) = tt
-  stopping_loads p f R q a (Float v) = tt
-  stopping_loads p f R q a String = tt
-  stopping_loads p f R q a Missing = tt
+  stopping_loads p f R q a (Some Nil) = tt
+  stopping_loads p f R q a (Some (BoolConstant v)) = tt
+  stopping_loads p f R q a (Some (Int v)) = tt
+  stopping_loads p f R q a (Some (Float v)) = tt
+  stopping_loads p f R q a (Some String) = tt
+  stopping_loads p f R q a None = tt
 
   reads_words : (p : ℕ) (σ : Words) (k : Class) (a c : ℕ) → class (x p).instruction ≡ k → is_outside k ≡ false → (event S W (x p) a c σ).words ≡ map σ (slots_of (reads_by_class k (x p).instruction))
   unfolding event

@@ -1,6 +1,6 @@
 -- One step at the desk is one step of document 01's run, in every world.
 -- Assumes nothing.
-use Rattle.std.specs.Prelude.{◌≡◌, ℕ, suc, ◌+◌, ◌-◌, ◌<◌, ◌≤◌, Bool, true, false, cond, ◌&&◌, List, [], ◌∷◌, length, ◌==◌, nat_le, nat_lt, slice_index, slice_set}
+use Rattle.std.specs.Prelude.{Option, Some, None, ◌≡◌, ℕ, suc, ◌+◌, ◌-◌, ◌<◌, ◌≤◌, Bool, true, false, cond, ◌&&◌, List, [], ◌∷◌, length, ◌==◌, nat_le, nat_lt, slice_index, slice_set}
 use Rattle.std.proofs.Math.Path.{refl}
 use Rattle.std.proofs.Common.{sym, ap, ◌∙◌, arith, get_or-set_same, get_or-set_other, eqb-true, lt-ltb, le-ltb, le-leb}
 use Rattle.std.proofs.Math.Bool.{or-false}
@@ -17,7 +17,7 @@ use Rattle.instruction.specs.declared.Class.TheVariants.{Hint, LoadInt, LoadCons
 use Rattle.instruction.specs.Class.{number_of}
 use Rattle.instruction.specs.Instruction.{imm32, class}
 use Rattle.unit.specs.declared.Constant.{Constant}
-use Rattle.unit.specs.declared.Constant.TheVariants.{Nil, Bool as BoolConstant, Int, Float, String, Missing}
+use Rattle.unit.specs.declared.Constant.TheVariants.{Nil, Bool as BoolConstant, Int, Float, String}
 use Rattle.unit.specs.Entry.{constant_at}
 use Rattle.effects.specs.declared.Range.{Range}
 use Rattle.effects.specs.Shape.{Sections, Cell}
@@ -34,7 +34,7 @@ use Rattle.run.specs.laws.Gives.{given_by_class}
 use Rattle.run.proofs.laws.Justified.{hint, jump, jump_if, jump_if_not}
 use Rattle.run.proofs.laws.Justified.{one_slot, one_slot_lem}
 use Rattle.run.proofs.laws.Justified.{do_at, Meant, meant, gave, jumps, do_single, do_quiet, Quiet, single_slot}
-use Rattle.desk.specs.declared.Stop.TheVariants.{Returned, Panicked, Ended, Other, Limit, Refused}
+use Rattle.desk.specs.declared.Stop.TheVariants.{Returned, Panicked, Ended, Other, Limit}
 use Rattle.desk.specs.Desk.{Due, goes, stops, not_executed, loads, due_by}
 use Rattle.desk.specs.laws.Copying.{none_copied}
 use Rattle.desk.specs.laws.Step.{words_in}
@@ -115,7 +115,6 @@ module _ (F : Function) (W : World) (p : ℕ) (f : List ℕ) (R : List Event) (x
   Follows (stops Ended) = Unit {0}
   Follows (stops (Other q)) = Unit {0}
   Follows (stops Limit) = Unit {0}
-  Follows (stops (Refused k q)) = Unit {0}
   Follows not_executed = Unit {0}
 
   module _ (m : Meant F W p σ R x) (long : length f ≡ S.locals) where
@@ -131,14 +130,14 @@ module _ (F : Function) (W : World) (p : ℕ) (f : List ℕ) (R : List Event) (x
     unfolding Follows put any_of
     quiet k q e u g = (do_quiet F W p σ R k x e u m ∙ rw g, refl)
 
-    loaded : (c : Constant) → class i ≡ LoadConst → constant_at S.constants i.b ≡ c → Follows (loads p f i.a c)
+    loaded : (c : Option Constant) → class i ≡ LoadConst → constant_at S.constants i.b ≡ c → Follows (loads p f i.a c)
     unfolding loads constant_word gave number_of Follows
-    loaded Nil e c = single LoadConst 0 e refl (rw c)
-    loaded (BoolConstant v) e c = single LoadConst v e refl (rw c)
-    loaded (Int v) e c = single LoadConst v e refl (rw c)
-    loaded (Float v) e c = single LoadConst v e refl (rw c)
-    loaded String e c = tt
-    loaded Missing e c = tt
+    loaded (Some Nil) e c = single LoadConst 0 e refl (rw c)
+    loaded (Some (BoolConstant v)) e c = single LoadConst v e refl (rw c)
+    loaded (Some (Int v)) e c = single LoadConst v e refl (rw c)
+    loaded (Some (Float v)) e c = single LoadConst v e refl (rw c)
+    loaded (Some String) e c = tt
+    loaded None e c = tt
 
     -- CopyN
     inside : (r : Range) (rs : List Range) → all_of (range_within S.locals) (r ∷ rs) ≡ true → range_within S.locals r ≡ true

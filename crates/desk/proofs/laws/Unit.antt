@@ -1,6 +1,6 @@
 -- The run of a unit's function, by the bytes of its sections.
 -- Assumes nothing.
-use Rattle.std.specs.Prelude.{◌≡◌, ℕ, zero, suc, ◌+◌, ◌-◌, ◌*◌, ◌/◌, ◌^◌, ◌<◌, ◌≤◌, Bool, true, false, cond, ◌&&◌, List, [], ◌∷◌, length, ◌≢◌, nat_lt, slice_index}
+use Rattle.std.specs.Prelude.{Option, Some, None, ◌≡◌, ℕ, zero, suc, ◌+◌, ◌-◌, ◌*◌, ◌/◌, ◌^◌, ◌<◌, ◌≤◌, Bool, true, false, cond, ◌&&◌, List, [], ◌∷◌, length, ◌≢◌, nat_lt, slice_index}
 use Rattle.std.proofs.Math.Path.{refl, sym, ap}
 use Rattle.std.proofs.Common.{◌∙◌, true≢false, arith, ltb-true, ltb-false, lt-ltb, le-ltb}
 use Rattle.words.specs.Bytes.{Bytes}
@@ -13,7 +13,7 @@ use Rattle.instruction.specs.declared.Instruction.{Instruction}
 use Rattle.unit.specs.Layout.{is_unit, code_of, constants_of}
 use Rattle.unit.proofs.laws.UnitLaws.{unit_laid}
 use Rattle.unit.specs.declared.Constant.{Constant}
-use Rattle.unit.specs.declared.Constant.TheVariants.{Nil, Bool as BoolConstant, Int, Float, String, Missing}
+use Rattle.unit.specs.declared.Constant.TheVariants.{Nil, Bool as BoolConstant, Int, Float, String}
 use Rattle.unit.specs.Entry.{constant_at}
 use Rattle.effects.specs.Check.{operand_refusal}
 use Rattle.effects.specs.Shape.{Cell, cell_at}
@@ -60,14 +60,14 @@ Going (goes q g) = Unit {0}
 Going (stops s) = ⊥
 Going not_executed = Unit {0}
 
-going_loads : (p a : ℕ) (f : List ℕ) (c : Constant) → Going (loads p f a c)
+going_loads : (p a : ℕ) (f : List ℕ) (c : Option Constant) → Going (loads p f a c)
 unfolding Going loads
-going_loads p a f Nil = tt
-going_loads p a f (BoolConstant v) = tt
-going_loads p a f (Int v) = tt
-going_loads p a f (Float v) = tt
-going_loads p a f String = tt
-going_loads p a f Missing = tt
+going_loads p a f (Some Nil) = tt
+going_loads p a f (Some (BoolConstant v)) = tt
+going_loads p a f (Some (Int v)) = tt
+going_loads p a f (Some (Float v)) = tt
+going_loads p a f (Some String) = tt
+going_loads p a f None = tt
 
 going_cond : (t : Bool) (q : ℕ) (g : List ℕ) → Going (cond t (goes q g) not_executed)
 unfolding Going

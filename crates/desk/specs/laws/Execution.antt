@@ -1,11 +1,11 @@
 -- What is due at an instruction, by the place that it goes to and the frame after it.
 -- Assumes nothing.
-use Rattle.std.specs.Prelude.{◌≡◌, ℕ, ◌+◌, ◌^◌, ◌<◌, ◌≤◌, Bool, true, false, List}
+use Rattle.std.specs.Prelude.{Option, Some, None, ◌≡◌, ℕ, ◌+◌, ◌^◌, ◌<◌, ◌≤◌, Bool, true, false, List}
 use Rattle.instruction.specs.declared.Instruction.{Instruction}
 use Rattle.instruction.specs.declared.Class.TheVariants.{CopyN}
 use Rattle.instruction.specs.Instruction.{instruction_at, class}
 use Rattle.unit.specs.declared.Constant.{Constant}
-use Rattle.unit.specs.declared.Constant.TheVariants.{Nil, Bool as BoolConstant, Int, Float, String, Missing}
+use Rattle.unit.specs.declared.Constant.TheVariants.{Nil, Bool as BoolConstant, Int, Float, String}
 use Rattle.values.specs.laws.Named.{Named}
 use Rattle.desk.specs.Desk.{Due, goes, stops, not_executed, due_by}
 
@@ -33,10 +33,10 @@ pub record Executable (s p : ℕ) (i : Instruction) : Type 0 where
   pub written : class i ≡ CopyN → 0 < i.c → i.a + i.c ≤ s
 
 -- where a constant has a word, LoadConst is executed
-unfoldable pub has_word : Constant → Bool
-has_word Nil = true
-has_word (BoolConstant v) = true
-has_word (Int v) = true
-has_word (Float v) = true
-has_word String = false
-has_word Missing = false
+unfoldable pub has_word : Option Constant → Bool
+has_word (Some Nil) = true
+has_word (Some (BoolConstant v)) = true
+has_word (Some (Int v)) = true
+has_word (Some (Float v)) = true
+has_word (Some String) = false
+has_word None = false

@@ -3,7 +3,7 @@
 use Rattle.std.specs.Prelude.{ℕ, Bool, true, false, List, map}
 use Rattle.run.specs.Program.{slots_from}
 use Rattle.desk.specs.declared.Stop.{Stop}
-use Rattle.desk.specs.declared.Stop.TheVariants.{Returned, Panicked, Ended, Other, Limit, Refused}
+use Rattle.desk.specs.declared.Stop.TheVariants.{Returned, Panicked, Ended, Other, Limit}
 use Rattle.desk.specs.Desk.{Due, goes, stops, not_executed}
 use Rattle.desk.specs.laws.Step.{words_in}
 
@@ -23,4 +23,3 @@ IsEnd (Panicked a b) = Unit {0}
 IsEnd Ended = Unit {0}
 IsEnd (Other q) = ⊥
 IsEnd Limit = ⊥
-IsEnd (Refused k q) = ⊥

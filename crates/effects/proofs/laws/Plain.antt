@@ -1,24 +1,21 @@
 -- Plain opcodes: they demand nothing, and read and write single slots, at most two of a, b and c, and a. Most code is made of them,
 -- and its operands are checked without a loop.
 -- Assumes nothing.
-use Rattle.std.specs.Prelude.{◌≡◌, Bool, true, false, cond, not, ◌&&◌, ◌||◌, ◌++◌, map, eqb, leb, ltb}
+use Rattle.std.specs.Prelude.{◌≡◌, true, false, cond, not, ◌&&◌, ◌||◌, ◌++◌, map, eqb, leb, ltb}
 use Rattle.std.proofs.Math.Path.{refl}
-use Rattle.std.proofs.Common.{sym, ap, ◌∙◌, add-zero, arith, lt-ltb, eqb-true, ltb-true, leb-true}
-use Rattle.std.proofs.Math.Bool.{and-true, or-true}
-use Prim.Native.Nat.{ℕ, zero, suc, ◌+◌, ◌*◌, ◌/◌, ◌%◌, ◌^◌, ◌≤◌, ◌<◌}
+use Rattle.std.proofs.Common.{sym, ap, ◌∙◌, arith, eqb-true, ltb-true, leb-true}
+use Rattle.std.proofs.Math.Bool.{and-true}
+use Prim.Native.Nat.{ℕ, zero, suc, ◌/◌, ◌%◌, ◌^◌, ◌≤◌, ◌<◌}
 use Rattle.std.proofs.Math.Nat.{div-div-eq-div-mul}
 use Rattle.std.proofs.lemmas.Bool.{eqb-false, not-true}
-use Rattle.words.specs.Lists.{every}
 use Rattle.words.specs.laws.Lists.{every_at}
 use Rattle.instruction.specs.Opcode as op
-use Rattle.instruction.specs.Instruction.{of_word}
 use Rattle.instruction.specs.laws.Instruction.{Fields}
-use Rattle.instruction.specs.declared.Instruction.{Instruction}
 use Rattle.unit.specs.Refusal.{slot_outside}
-use Rattle.effects.specs.Shape.{Tables, Cell, applies, value, range_of, met}
+use Rattle.effects.specs.Shape.{Tables, Cell, range_of, met}
 use Rattle.effects.specs.Effects.{all_reads, sure_writes, writes, demands_met, all_of}
 use Rattle.effects.specs.Check.{operand_refusal}
-use Rattle.effects.specs.laws.Form.{forms, form_at, unpack, row_of, demand_row_of, demand_at, reads_of, writes_of, read_parts, write_parts}
+use Rattle.effects.specs.laws.Form.{form_at, unpack, row_of, demand_row_of, demand_at, reads_of, writes_of, read_parts, write_parts}
 use Rattle.effects.specs.laws.TableRows.{rows_read, rows_write}
 use Rattle.effects.proofs.laws.Ranges.{reads_other, perhaps_none, sure_parts, writes_sure, demands_row}
 use Rattle.words.specs.laws.Truth.{left_true, right_true}

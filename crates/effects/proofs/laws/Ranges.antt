@@ -1,14 +1,12 @@
 -- The ranges of an instruction by number: those of SelectExec's cases, and those of an opcode's parts.
 -- Assumes nothing.
-use Rattle.std.specs.Prelude.{◌≡◌, Bool, true, false, cond, ◌&&◌, List, [], ◌∷◌, map, ℕ, zero, suc, ◌+◌, ◌*◌, ◌/◌, ◌%◌, ◌^◌, ◌≤◌, ◌<◌, eqb, length}
+use Rattle.std.specs.Prelude.{◌≡◌, Bool, true, false, ◌&&◌, List, [], ◌∷◌, map, ℕ, zero, suc, ◌+◌, ◌*◌, ◌/◌, ◌%◌, ◌^◌, ◌<◌, eqb, length}
 use Rattle.std.proofs.Math.Path.{refl, ap}
 use Rattle.std.proofs.Common.{◌∙◌, append-nil, add-zero, add-suc, suc-add, arith}
 use Rattle.std.proofs.lemmas.List.{map-append, length-map}
 use Rattle.std.proofs.Math.ListN.{get_or, get_or-map}
 use borrow.Author.Tests.{eqb-true, eqb-false, eq-eqb, ne_eqb}
 use Rattle.instruction.specs.Opcode as op
-use Rattle.unit.specs.Size.{case_size}
-use Rattle.unit.specs.Entry.{case_at}
 use Rattle.effects.specs.declared.Range.{Range}
 use Rattle.effects.specs.Shape.{Tables, Cell, Term, fixed, field_a, field_b, field_c, field_flags, first, second, both, first_flag, second_ok, array, params, results, returns, arguments, When, always, flags_are, flag_bit, closure, Part, tables_of, met, value, applies, range_of}
 use Rattle.effects.specs.Table.{shape_in, perhaps_shape, array_shape}
@@ -115,6 +113,13 @@ module _ (T : Tables) (x : Cell) where
   demands_row row r =
       let e : demands_of row ≡ demands x.instruction.op = rw r (rows_demand x.instruction.op) in
       cc
+
+-- of others than SelectExec as many ranges are perhaps written with any tables
+pub perhaps_long : (T T' : Tables) (x : Cell) → (x.instruction.op ≡ op.SelectExec → ⊥) → length (perhaps_writes T x) ≡ length (perhaps_writes T' x)
+unfolding perhaps_writes
+perhaps_long T T' x n =
+    let parts = (perhaps_shape x.instruction.op).parts in
+    rw (ne_eqb x.instruction.op op.SelectExec n, length-map parts (range_of T x), length-map parts (range_of T' x))
 
 -- surely written ranges are the same with any cases
 module _ (functions externs cases cases' : List ℕ) (x : Cell) where

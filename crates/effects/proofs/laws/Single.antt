@@ -1,11 +1,10 @@
 -- Loads, copies and operators: they write slot a, and of single slots they read b and c at most. Most code is made of them, and its
 -- operands are checked by comparisons alone.
 -- Assumes nothing.
-use Rattle.std.specs.Prelude.{◌≡◌, refl, Bool, true, false, not, ◌&&◌, ◌||◌, [], ◌∷◌, ◌++◌, ℕ, ◌≤◌, ◌<◌, ltb}
+use Rattle.std.specs.Prelude.{◌≡◌, refl, true, false, not, [], ◌∷◌, ◌++◌, ℕ, ◌≤◌, ◌<◌, ltb}
 use Rattle.std.proofs.Common.{sym, ◌∙◌, arith, lt-ltb}
 use Rattle.std.proofs.Math.Bool.{and-true, and_assoc, or-true}
 use Prim.{tt}
-use Rattle.words.specs.Lists.{is_in}
 use Rattle.instruction.specs.Opcode as op
 use Rattle.instruction.specs.Class.{number_of, named_class}
 use Rattle.instruction.specs.laws.Class.{Each, by_number}

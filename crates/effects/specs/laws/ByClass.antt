@@ -4,24 +4,16 @@
 use Rattle.std.specs.Prelude.{◌≡◌, Bool, true, false, cond, ℕ, ◌<◌, ltb, get_or}
 use Rattle.std.proofs.Math.Path.{refl}
 use Rattle.std.proofs.Common.{sym, ap, ◌∙◌, true≢false}
-use mathlib.Core.List.{List, [], ◌∷◌, map}
-use Rattle.std.proofs.Math.Nat.{add-zero}
-use Rattle.std.proofs.Math.Dec.{eqb}
-use borrow.Author.Tests.{eqb-false, ltb-true, ltb-false}
-use Rattle.words.specs.Lists.{tabulate, tabulate_from}
+use mathlib.Core.List.{List, [], ◌∷◌}
+use borrow.Author.Tests.{ltb-true, ltb-false}
+use Rattle.words.specs.Lists.{tabulate}
 use Rattle.words.specs.laws.Lists.{get_d_tabulate}
-use Rattle.instruction.specs.Opcode as op
-use Rattle.instruction.specs.Class.{class_of, single}
+use Rattle.instruction.specs.Class.{class_of}
 use Rattle.instruction.specs.laws.Class.{class_past}
-use Rattle.instruction.specs.Instruction.{class}
 use Rattle.instruction.specs.declared.Instruction.{Instruction}
 use Rattle.instruction.specs.declared.Class.{Class}
 use Rattle.instruction.specs.declared.Class.TheVariants.{Hint, LoadInt, LoadConst, Copy, CopyN, Unary, Binary, Jump, JumpIf, JumpIfNot, ForLoop, Return, Panic, Outside, Invalid}
 use Rattle.effects.specs.declared.Range.{Range}
-use Rattle.effects.specs.Shape.{Tables, Cell, applies, value, range_of, met}
-use Rattle.effects.specs.Table.{read_shape, write_shape, array_shape, shape_in}
-use Rattle.effects.specs.Effects.{all_reads, sure_writes, perhaps_writes, writes, demands_met}
-use Rattle.effects.specs.laws.Form.{demand_at, demand_row_of, read_parts, write_parts}
 
 -- is it one of those two?
 unfoldable pub is_outside : Class → Bool

@@ -1,20 +1,16 @@
 -- The ranges of an instruction by number: those of SelectExec's cases, and those of an opcode's parts.
 -- Assumes nothing.
-use Rattle.std.specs.Prelude.{◌≡◌, Bool, true, false, cond, ◌&&◌, List, [], ◌∷◌, map, ℕ, zero, suc, ◌+◌, ◌*◌, ◌/◌, ◌%◌, ◌^◌, ◌≤◌, ◌<◌, eqb, length}
+use Rattle.std.specs.Prelude.{◌≡◌, cond, List, ℕ, zero, suc, ◌+◌, ◌*◌, ◌/◌, ◌≤◌, ◌<◌, eqb, length}
 use Rattle.std.proofs.Math.Path.{refl, ap}
-use Rattle.std.proofs.Common.{◌∙◌, append-nil, add-zero, add-suc, suc-add, arith}
-use Rattle.std.proofs.lemmas.List.{map-append, length-map}
-use Rattle.std.proofs.Math.ListN.{get_or, get_or-map}
-use borrow.Author.Tests.{eqb-true, eqb-false, eq-eqb, ne_eqb}
+use Rattle.std.proofs.Common.{◌∙◌, add-zero, add-suc, suc-add, arith}
+use Rattle.std.proofs.Math.ListN.{get_or}
 use Rattle.instruction.specs.Opcode as op
 use Rattle.unit.specs.Size.{case_size}
 use Rattle.unit.specs.Entry.{case_at}
 use Rattle.effects.specs.declared.Range.{Range}
-use Rattle.effects.specs.Shape.{Tables, Cell, Term, fixed, field_a, field_b, field_c, field_flags, first, second, both, first_flag, second_ok, array, params, results, returns, arguments, When, always, flags_are, flag_bit, closure, Part, tables_of, met, value, applies, range_of}
-use Rattle.effects.specs.Table.{shape_in, perhaps_shape, array_shape}
-use Rattle.effects.specs.Effects.{case_reads, case_writes, reads, arrays, sure_writes, perhaps_writes, writes, all_reads, demands_met}
-use Rattle.effects.specs.laws.Form.{forms, form_at, unpack, row_of, reads_of, writes_of, demand_row_of, read_parts, write_parts, empty_range, no_part, demand_at, demands, demands_of}
-use Rattle.effects.specs.laws.TableRows.{unpack_long, unpack_at, rows_read, rows_write, rows_demand}
+use Rattle.effects.specs.Shape.{Cell}
+use Rattle.effects.specs.Effects.{case_reads, case_writes}
+use Rattle.effects.specs.laws.Form.{empty_range}
 
 -- SelectExec's cases are inside their section
 abbrev pub CasesInside : List ℕ → Cell → Type 0

@@ -1,25 +1,11 @@
 -- Loads, copies and operators: they write slot a, and of single slots they read b and c at most. Most code is made of them, and its
 -- operands are checked by comparisons alone.
 -- Assumes nothing.
-use Rattle.std.specs.Prelude.{◌≡◌, refl, Bool, true, false, not, ◌&&◌, ◌||◌, [], ◌∷◌, ◌++◌, ℕ, ◌≤◌, ◌<◌, ltb}
-use Rattle.std.proofs.Common.{sym, ◌∙◌, arith, lt-ltb}
-use Rattle.std.proofs.Math.Bool.{and-true, and_assoc, or-true}
-use Prim.{tt}
+use Rattle.std.specs.Prelude.{Bool, not, ◌&&◌, ◌||◌, [], ◌∷◌, ℕ, ltb}
 use Rattle.words.specs.Lists.{is_in}
-use Rattle.instruction.specs.Opcode as op
-use Rattle.instruction.specs.Class.{number_of, named_class}
-use Rattle.instruction.specs.laws.Class.{Each, by_number}
-use Rattle.instruction.specs.Instruction.{class}
-use Rattle.instruction.specs.laws.Instruction.{Fields}
+use Rattle.instruction.specs.Class.{number_of}
 use Rattle.instruction.specs.declared.Instruction.{Instruction}
 use Rattle.instruction.specs.declared.Class.{Class}
-use Rattle.instruction.specs.declared.Class.TheVariants.{LoadInt, LoadConst, Copy, Unary, Binary}
-use Rattle.unit.specs.Refusal.{slot_outside}
-use Rattle.effects.specs.Shape.{Tables, Cell}
-use Rattle.effects.specs.Effects.{all_reads, writes, all_of}
-use Rattle.effects.specs.Check.{operand_refusal}
-use Rattle.effects.specs.laws.Operands.{slots, range_holds, holds_one, not_refused, refused_within}
-use Rattle.effects.specs.laws.ByClass.{is_outside, reads_by_class, writes_by_class, inside_valid}
 
 -- LoadInt, LoadConst, Copy, Unary, Binary
 abbrev pub is_single : Class → Bool

@@ -4,7 +4,8 @@ use Rattle.std.specs.Prelude.{◌≡◌, refl, Bool, true, false, cond, ◌&&◌
 use Rattle.std.proofs.Common.{sym, ◌∙◌, add-zero, add-suc, suc-add, arith, eqb-true, leb-true, ltb-false}
 use Rattle.instruction.specs.Opcode as op
 use Rattle.unit.specs.Refusal.{invalid_opcode, effect_error, slot_outside}
-use Rattle.effects.specs.declared.Check.TheVariants.{Passed, Refused}
+use Rattle.effects.specs.Check.{Passed}
+use Rattle.unit.specs.Refusal.{Refused}
 use Rattle.effects.specs.declared.Range.{Range}
 use Rattle.effects.specs.Shape.{Tables, Cell, cell_at}
 use Rattle.effects.specs.Effects.{all_reads, sure_writes, perhaps_writes, writes, demands_met, range_fits, range_within, all_of}

@@ -1,13 +1,17 @@
 -- A loop that looks, upward, for the lowest refused place: none below p is refused, so what is left decides. Of any cells, and of
 -- those in lent memory.
 -- Assumes nothing.
-use Rattle.std.specs.Prelude.{◌≡◌, refl, List, ◌∷◌, ℕ, suc, ◌+◌, ◌≤◌, ◌<◌, get_or, drop}
+use Rattle.std.specs.Prelude.{Err, ◌≡◌, refl, List, ◌∷◌, ℕ, suc, ◌+◌, ◌≤◌, ◌<◌, get_or, drop}
 use Rattle.std.proofs.Common.{sym, ap, ◌∙◌, add-one, drop-cons}
 use native.Mathlib.Omega.{arith}
 use Rattle.std.proofs.Math.ListN.{length}
 use Rattle.std.proofs.Math.Seq.{drop-length}
 use borrow.Author.Tests.{eq-eqb, ne_eqb}
-use Rattle.effects.specs.declared.Check.TheVariants.{Passed, Refused}
+use Rattle.effects.specs.Check.{Passed}
+use Rattle.unit.specs.declared.refusal.Reason.{Reason}
+use Rattle.unit.specs.declared.refusal.Refusal.{Refusal}
+use Rattle.unit.specs.Refusal.{reason_number, refusal, Refused}
+use Rattle.unit.specs.laws.Refusals.{some_number}
 use Rattle.effects.specs.Shape.{Cell, cell_at, no_cell}
 use Rattle.effects.specs.laws.Cells.{cell_of, cells_by, cells_long, cell_at_lem}
 use Rattle.effects.specs.Check.{lowest}
@@ -38,6 +42,10 @@ module _ {test : ℕ → Cell → ℕ} {cells : List Cell} {p : ℕ} (u : Clear 
     unfolding lowest
     clear_here z = rw (split, ← e, ne_eqb r 0 z) at u.decides
 
+    -- the same, of a reason and of the refusal that the code makes of it
+    pub clear_with : (x : Reason) {z : Refusal} → r ≡ reason_number x → z ≡ refusal (reason_number x) p → Err z ≡ lowest test 0 cells
+    clear_with x q s = ap Err (s ∙ ap (λ k. refusal k p) (sym q)) ∙ clear_here (λ f. let a = some_number x in omega (arith, q, f))
+
 -- the cells in lent memory
 pub record Unrefused (test : ℕ → Cell → ℕ) (words metadata : List ℕ) (p : ℕ) : Type 0 where
   pub clear : Clear test (cells_by words metadata) p
@@ -61,3 +69,6 @@ module _ {test : ℕ → Cell → ℕ} {words metadata : List ℕ} {p : ℕ} (u 
 
     pub refused_here : (r ≡ 0 → ⊥) → Refused r p ≡ lowest test 0 (cells_by words metadata)
     refused_here z = clear_here u.clear inside tested z
+
+    pub refused_with : (x : Reason) {z : Refusal} → r ≡ reason_number x → z ≡ refusal (reason_number x) p → Err z ≡ lowest test 0 (cells_by words metadata)
+    refused_with x q s = clear_with u.clear inside tested x q s

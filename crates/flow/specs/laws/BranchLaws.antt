@@ -12,7 +12,7 @@ use Rattle.instruction.specs.declared.Class.TheVariants.{Hint, LoadInt, LoadCons
 use Rattle.instruction.specs.Class.{number_of}
 use Rattle.instruction.specs.Instruction.{class, of_word, imm32, for_loop_distance}
 use Rattle.unit.specs.Refusal.{branch_outside}
-use Rattle.effects.specs.declared.Check.TheVariants.{Passed}
+use Rattle.effects.specs.Check.{Passed}
 use Rattle.effects.specs.laws.Cells.{cells_by, cells_long}
 use Rattle.flow.specs.Branch.{branches, target_by, target, branch_inside, branch_check_in, branch_check}
 use Rattle.flow.specs.laws.Checking.{passed_at, all_passed}

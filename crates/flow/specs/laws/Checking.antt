@@ -2,7 +2,7 @@
 -- Assumes nothing.
 use Rattle.std.specs.Prelude.{◌≡◌, ℕ, suc, ◌+◌, ◌<◌, List, [], ◌∷◌, length, slice_index, refl}
 use Rattle.std.proofs.Common.{sym, ap, ◌∙◌, add-zero, zero-add, add-suc, suc-add, arith, eq-eqb}
-use Rattle.effects.specs.declared.Check.TheVariants.{Passed}
+use Rattle.effects.specs.Check.{Passed}
 use Rattle.effects.specs.Shape.{Cell, cell_at}
 use Rattle.effects.specs.laws.Cells.{cell_of, cells_by, cells_long, cell_at_lem}
 use Rattle.effects.specs.Check.{lowest}

@@ -1,13 +1,16 @@
 -- A check of all places that looks at the control places alone, since it refuses none of the others.
 -- Assumes nothing.
-use Rattle.std.specs.Prelude.{◌≡◌, ℕ, ◌+◌, ◌<◌, ◌≤◌, false, List, length, ◌≢◌, slice_index, slice_index_or, refl}
+use Rattle.std.specs.Prelude.{Err, ◌≡◌, ℕ, ◌+◌, ◌<◌, ◌≤◌, false, List, length, ◌≢◌, slice_index, slice_index_or, refl}
 use Rattle.std.proofs.Common.{sym, arith}
 use Rattle.instruction.specs.Instruction.{class, of_word}
-use Rattle.effects.specs.declared.Check.TheVariants.{Passed, Refused}
+use Rattle.effects.specs.Check.{Passed}
+use Rattle.unit.specs.declared.refusal.Reason.{Reason}
+use Rattle.unit.specs.declared.refusal.Refusal.{Refusal}
+use Rattle.unit.specs.Refusal.{reason_number, refusal, Refused}
 use Rattle.effects.specs.Shape.{Cell}
 use Rattle.effects.specs.laws.Cells.{cell_of, cells_by}
 use Rattle.effects.specs.Check.{lowest}
-use Rattle.effects.specs.laws.Unrefused.{Unrefused, refused_first, refused_none, refused_later, refused_here}
+use Rattle.effects.specs.laws.Unrefused.{Unrefused, refused_first, refused_none, refused_later, refused_here, refused_with}
 use Rattle.flow.specs.laws.Control.{is_control, Controls, at_control, control_inside, skip_first, skip_next, skip_last}
 
 -- no place before the k-th of the list is refused
@@ -35,3 +38,6 @@ module _ {test : ℕ → Cell → ℕ} {words metadata list : List ℕ} (c : Con
 
       pub swept_here : (r ≢ 0) → Refused r (slice_index list k) ≡ lowest test 0 (cells_by words metadata)
       swept_here z = refused_here here (control_inside c k h) e z
+
+      pub swept_with : (x : Reason) {z : Refusal} → r ≡ reason_number x → z ≡ refusal (reason_number x) (slice_index list k) → Err z ≡ lowest test 0 (cells_by words metadata)
+      swept_with x q s = refused_with here (control_inside c k h) e x q s

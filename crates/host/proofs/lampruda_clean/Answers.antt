@@ -1,13 +1,12 @@
 use Rattle.std.proofs.Common.{ap, ◌∙◌}
 use Rattle.host.specs.Numbers.{cleaned_numbers_of}
-use Rattle.host.specs.laws.Numbers.{cleaned_numbers}
 use Rattle.host.proofs.lampruda_clean.Goals as goal
 
 pub returns : goal.returns
 returns c =
-    let e = c.clean-c.ensures in
+    let e = c.clean.ensures in
     record {
-      answer = cleaned_numbers c.clean-c.result c.in_numbers-n.result c.in_numbers-n.ensures ∙ ap cleaned_numbers_of e.answer;
+      answer = c.from.ensures ∙ ap cleaned_numbers_of e.answer;
       output = e.output;
       work32 = e.work32;
       work64 = e.work64;

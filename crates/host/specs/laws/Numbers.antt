@@ -1,7 +1,8 @@
 -- Laws of Numbers.
 -- Assumes nothing.
-use Rattle.std.specs.Prelude.{◌≡◌, refl, ℕ}
+use Rattle.std.specs.Prelude.{◌≡◌, refl, Result, ℕ}
 use Rattle.clean.specs.declared.Cleaned.{Cleaned}
+use Rattle.unit.specs.declared.refusal.Refusal.{Refusal}
 use Rattle.desk.specs.declared.Stop.{Stop}
 use Rattle.host.specs.declared.ChargedNumbers.{ChargedNumbers}
 use Rattle.host.specs.declared.Numbers.{Numbers}
@@ -14,7 +15,7 @@ pub cleaned_numbers : (c : Cleaned) (n : Numbers) → n ≡ numbers_of c.answer 
 unfolding cleaned_numbers_of
 cleaned_numbers c n e = rw e
 
-pub charged_numbers : {s t : Stop} {n : StopNumbers} {cents v : ℕ} → n ≡ stop_numbers_of s → s ≡ t → cents ≡ v
+pub charged_numbers : {s t : Result Stop Refusal} {n : StopNumbers} {cents v : ℕ} → n ≡ stop_numbers_of s → s ≡ t → cents ≡ v
     → ◌≡◌ {A = ChargedNumbers} (record { kind = n.kind; first = n.first; second = n.second; cents = cents }) (charged_numbers_of t v)
 unfolding charged_numbers_of
 charged_numbers e f g = rw (e, f, g) refl

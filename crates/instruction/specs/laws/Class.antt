@@ -4,9 +4,11 @@ use Rattle.std.specs.Prelude.{◌≡◌, refl, Bool, true, false, cond, not, Lis
 use Rattle.std.proofs.Common.{sym, ap, ◌∙◌, arith, eqb-true, lt-ltb}
 use Rattle.std.proofs.lemmas.Bool.{false≢true}
 use Prim.{Unit}
+use denote.Enum.Declared.{tag_of}
 use Rattle.words.specs.Lists.{is_in, every}
 use Rattle.words.specs.laws.Lists.{count, every_at}
 use Rattle.instruction.specs.Opcode as op
+use Rattle.instruction.specs.contracts.Class.{the_type}
 use Rattle.instruction.specs.declared.Class.{Class}
 use Rattle.instruction.specs.declared.Class.TheVariants.{Hint, LoadInt, LoadConst, Copy, CopyN, Unary, Binary, Jump, JumpIf, JumpIfNot, ForLoop, Return, Panic, Outside, Invalid}
 use Rattle.instruction.specs.Class.{class_of, is_pure, named_class, number_of, single}
@@ -65,6 +67,25 @@ number_below Panic = omega arith
 number_below Outside = omega arith
 number_below Invalid = omega arith
 
+-- what a class is as an integer
+pub tag : (x : Class) → number_of x ≡ tag_of the_type x
+unfolding number_of
+tag Hint = refl
+tag LoadInt = refl
+tag LoadConst = refl
+tag Copy = refl
+tag CopyN = refl
+tag Unary = refl
+tag Binary = refl
+tag Jump = refl
+tag JumpIf = refl
+tag JumpIfNot = refl
+tag ForLoop = refl
+tag Return = refl
+tag Panic = refl
+tag Outside = refl
+tag Invalid = refl
+
 -- what holds of the classes with these numbers, holds of each of them
 unfoldable pub Each : (Class → Type 0) → List ℕ → Type 0
 Each P [] = Unit {0}
@@ -93,6 +114,10 @@ class_bit set f e x k q =
     same true y e = sym e
     same false true e = absurd (false≢true e)
     same false false e = refl
+
+-- the same of a class as an integer
+pub class_cast : (set : ℕ) (f : Class → Bool) → every 15 (agrees set f) ≡ true → (x : Class) → eqb (set / 2 ^ tag_of the_type x % 2) 1 ≡ f x
+class_cast set f e x = class_bit set f e x _ (sym (tag x))
 
 pub pure_opcodes : count 256 (λ o. is_pure (class_of o)) ≡ 51
 unfolding is_pure class_of single

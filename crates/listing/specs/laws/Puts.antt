@@ -1,13 +1,15 @@
 -- Texts put one after the other into a buffer.
 -- Assumes nothing.
-use Rattle.std.specs.Prelude.{◌≡◌, refl, List, [], ◌∷◌, ◌++◌, ℕ, ◌+◌, ◌≤◌, ◌<◌, length, take, get_or, set}
+use Rattle.std.specs.Prelude.{Ok, Err, Result, ◌≡◌, refl, List, [], ◌∷◌, ◌++◌, ℕ, ◌+◌, ◌≤◌, ◌<◌, length, take, get_or, set}
 use Rattle.std.proofs.Common.{sym, ap, ◌∙◌, zero-add, arith, add-one, length-append, take-suc, length-take-le}
 use Rattle.std.proofs.Math.Seq.{take-length}
 use borrow.Rule.Slice.PartMut.{put_mid, put_same}
 use Rattle.words.specs.laws.Regions.{put_one, put_long, mid_put, put_put, put_more}
 use Rattle.unit.specs.Size.{result_size}
+use Rattle.unit.specs.declared.refusal.Refusal.{Refusal}
+use Rattle.unit.specs.Refusal.{Refused}
 use Rattle.optimize.specs.declared.Answer.{Answer}
-use Rattle.optimize.specs.declared.Answer.TheVariants.{Unchanged, Refused, Rewritten}
+use Rattle.optimize.specs.declared.Answer.TheVariants.{Unchanged, Rewritten}
 
 -- text' is text with xs from `at` to `end`
 pub record Puts (at : ℕ) (xs text text' : List ℕ) (end : ℕ) : Type 0 where
@@ -64,7 +66,7 @@ pub record Listed (n out : ℕ) : Type 0 where
   pub few : out ≤ 8192
 
 -- an answer's result does
-abbrev pub Fits : Answer → ℕ → Type 0
-Fits Unchanged out = Unit {0}
-Fits (Refused k p) out = Unit {0}
-Fits (Rewritten n) out = Listed n out
+abbrev pub Fits : Result Answer Refusal → ℕ → Type 0
+Fits (Ok Unchanged) out = Unit {0}
+Fits (Err r) out = Unit {0}
+Fits (Ok (Rewritten n)) out = Listed n out

@@ -1,10 +1,9 @@
 -- Rounds until one changes nothing, in lent words.
 -- Assumes nothing.
-use Rattle.std.specs.Prelude.{◌≡◌, refl, Bool, true, false, cond, List, length}
+use Rattle.std.specs.Prelude.{None, Some, ◌≡◌, refl, Bool, true, false, cond, List, length}
 use Rattle.std.proofs.Common.{sym, ◌∙◌}
 use Rattle.std.proofs.Math.Path.{ap}
 use Rattle.std.proofs.lemmas.Bool.{false≢true}
-use Rattle.std.proofs.Math.Option.{none, some}
 use Prim.Native.Nat.{ℕ, suc, ◌-◌, ◌<◌}
 use native.Mathlib.Omega.{arith}
 use Rattle.effects.specs.Shape.{Sections, Cell}
@@ -20,14 +19,14 @@ use Rattle.liveness.specs.declared.SetLayout.{SetLayout}
 -- rows are found, and shown
 pub record Found (S : Sections) (leaders keep : List ℕ) (cells : List Cell) (w limit : ℕ) (rows : List Row) (live : List ℕ) : Type 0 where
   pub found : List Row
-  pub solved : solve_in S (length cells) leaders keep limit cells rows ≡ some found
+  pub solved : solve_in S (length cells) leaders keep limit cells rows ≡ Some found
   pub wide : Wide S (length cells) leaders keep found
   pub each : length found ≡ block_count leaders
   pub shown : Shown w (no_row S (length cells) leaders keep) found live
 
 pub record Solved (S : Sections) (leaders keep : List ℕ) (cells : List Cell) (w limit : ℕ) (rows : List Row) (live : List ℕ) (r : Bool) : Type 0 where
   pub yes : r ≡ true → Found S leaders keep cells w limit rows live
-  pub no : r ≡ false → solve_in S (length cells) leaders keep limit cells rows ≡ none
+  pub no : r ≡ false → solve_in S (length cells) leaders keep limit cells rows ≡ None
 
 -- k rounds are left
 pub record Solving (S : Sections) (leaders keep : List ℕ) (cells : List Cell) (w count limit : ℕ) (rows : List Row) (blocks starts uses preserved live : List ℕ) (k : ℕ) : Type 0 where
@@ -44,7 +43,7 @@ module _ (S : Sections) (leaders keep : List ℕ) (cells : List Cell) (w count l
     abbrev next : List Row
     next = (round_from S (length cells) leaders keep 0 cells s.current).rows
 
-    one_more : solve_in S (length cells) leaders keep limit cells rows ≡ cond (same_rows s.current next) (some next) (solve_in S (length cells) leaders keep (k - 1) cells next)
+    one_more : solve_in S (length cells) leaders keep limit cells rows ≡ cond (same_rows s.current next) (Some next) (solve_in S (length cells) leaders keep (k - 1) cells next)
     unfolding solve_in
     one_more = let e : k ≡ suc (k - 1) = omega arith in s.left ∙ ap (λ (j : ℕ). solve_in S (length cells) leaders keep j cells s.current) e
 

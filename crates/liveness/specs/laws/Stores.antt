@@ -1,10 +1,9 @@
 -- From the walks over lent memory to the definitions: the rows that they find are `live_rows`, and what they leave of the kept places is `dead_stores`.
 -- Assumes nothing.
-use Rattle.std.specs.Prelude.{◌≡◌, Bool, List, ℕ, ◌+◌, ◌*◌, ◌/◌, ◌≤◌, ◌<◌, eqb, length, get_or, replicate}
+use Rattle.std.specs.Prelude.{Option, None, Some, ◌≡◌, Bool, List, ℕ, ◌+◌, ◌*◌, ◌/◌, ◌≤◌, ◌<◌, eqb, length, get_or, replicate}
 use Rattle.std.proofs.Math.Path.{refl}
 use Rattle.std.proofs.Common.{sym, ap, ◌∙◌, arith, ext_get_or}
 use Rattle.std.proofs.Math.Bool.{true, false, cond}
-use Rattle.std.proofs.Math.Option.{Option, none, some}
 use Rattle.std.proofs.lemmas.List.{length-replicate, get_or-replicate}
 use borrow.Author.Tests.{ne_eqb, le-leb, lt-leb}
 use Rattle.words.specs.laws.Regions.{mid_long, get_mid}
@@ -27,11 +26,11 @@ use Rattle.liveness.specs.laws.Droppable.{Droppable, enough_words, reads_within}
 -- ---- by the rows that are found, dead stores are dropped; where none are, they are skipped
 
 module _ (S : Sections) (leaders keep : List ℕ) (cells : List Cell) where
-  pub skipped : live_rows S leaders keep cells ≡ none → keep ≡ dead_stores S leaders keep cells
+  pub skipped : live_rows S leaders keep cells ≡ None → keep ≡ dead_stores S leaders keep cells
   unfolding dead_stores without_dead
   skipped e = rw e
 
-  pub dropped : (rows : List Row) → live_rows S leaders keep cells ≡ some rows → (sweep_from S (length cells) leaders keep rows 0 cells).keep ≡ dead_stores S leaders keep cells
+  pub dropped : (rows : List Row) → live_rows S leaders keep cells ≡ Some rows → (sweep_from S (length cells) leaders keep rows 0 cells).keep ≡ dead_stores S leaders keep cells
   unfolding dead_stores without_dead
   dropped rows e = rw e
 
@@ -126,15 +125,15 @@ module _ {T : Tables} {n count : ℕ} {words metadata types leaders blocks start
   abbrev answer : Option (List Row)
   answer = live_rows S leaders keep cells
 
-  pub no_words : w ≡ 0 → answer ≡ none
+  pub no_words : w ≡ 0 → answer ≡ None
   unfolding live_rows
   no_words e = rw (← ew, e)
 
-  pub too_many : max_set_words < w * count → answer ≡ none
+  pub too_many : max_set_words < w * count → answer ≡ None
   unfolding live_rows
   too_many h = rw (← d.total, ← ew, lt-leb (w * count) max_set_words h) (go (eqb w 0))
     where
-      go : (t : Bool) → cond {A = Option (List Row)} t none none ≡ none
+      go : (t : Bool) → cond {A = Option (List Row)} t None None ≡ None
       go true = refl
       go false = refl
 

@@ -1,12 +1,11 @@
 -- The sweep over all places in lent memory is the sweep over the rows; it leaves flags.
 -- Assumes nothing.
-use Rattle.std.specs.Prelude.{◌≡◌, Bool, ◌&&◌, get_or, drop}
+use Rattle.std.specs.Prelude.{Option, None, Some, ◌≡◌, Bool, ◌&&◌, get_or, drop}
 use Rattle.std.proofs.Math.Path.{refl, ap}
 use Rattle.std.proofs.Common.{sym, ◌∙◌, inl, inr, drop-cons, take-suc, get_or-take, length-take-le, eqb-true, eq-eqb}
 use Rattle.std.proofs.Math.Bool.{true, false, cond, not}
 use Rattle.std.proofs.lemmas.Bool.{false≢true, eqb-false}
 use mathlib.Core.List.{List, [], ◌∷◌, ◌++◌, append-nil}
-use Rattle.std.proofs.Math.Option.{Option, none, some}
 use Prim.Native.Nat.{ℕ, zero, suc, ◌≤◌, ◌<◌}
 use Rattle.std.proofs.Math.Decide.{dec_le}
 use native.Mathlib.Omega.{arith}
@@ -234,16 +233,16 @@ module _ (S : Sections) (leaders keep : List ℕ) (cells : List Cell) where
   dead_flags f = go (live_rows S leaders keep cells)
     where
       go : (o : Option (List Row)) → Flags (without_dead S leaders keep cells o)
-      go none = f
-      go (some rows) = sweep_flags rows 0 cells
+      go None = f
+      go (Some rows) = sweep_flags rows 0 cells
 
   pub dead_long : length keep ≡ length cells → length (dead_stores S leaders keep cells) ≡ length cells
   unfolding dead_stores without_dead
   dead_long e = go (live_rows S leaders keep cells)
     where
       go : (o : Option (List Row)) → length (without_dead S leaders keep cells o) ≡ length cells
-      go none = e
-      go (some rows) = sweep_long rows 0 cells
+      go None = e
+      go (Some rows) = sweep_long rows 0 cells
 
 -- what `sweep` promises of the table's flags: they are what the definition's sweep makes of them; nothing else of the table changes
 abbrev pub Sweeps : SetLayout → List ℕ → List ℕ → List ℕ → Tables → List ℕ → List ℕ → List ℕ → Type 0

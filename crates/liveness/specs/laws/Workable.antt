@@ -1,8 +1,7 @@
 -- Live rows and dead stores in lent memory: what each walk asks, and what all of them leave.
 -- Assumes nothing.
-use Rattle.std.specs.Prelude.{◌≡◌, Bool, true, false, List, ℕ, ◌+◌, ◌*◌, ◌-◌, ◌/◌, ◌≤◌, ◌<◌, length, get_or, take, replicate}
+use Rattle.std.specs.Prelude.{Option, None, Some, ◌≡◌, Bool, true, false, List, ℕ, ◌+◌, ◌*◌, ◌-◌, ◌/◌, ◌≤◌, ◌<◌, length, get_or, take, replicate}
 use Rattle.std.proofs.Common.{sym, ap, ◌∙◌, zero-add, mul-pos, arith, take-take}
-use Rattle.std.proofs.Math.Option.{Option, none, some}
 use Rattle.std.proofs.lemmas.List.{length-replicate}
 use borrow.Rule.Slice.PartMut.{mid_of, put_mid, put_same, take_put}
 use Rattle.words.specs.laws.Regions.{mid_long, get_mid, mid_put, put_long}
@@ -59,7 +58,7 @@ rows_by T n memory metadata types table constants = live_rows (sections (length 
 pub record RowsIn (s : SetLayout) (T : Tables) (memory metadata types table constants : List ℕ) : Type 0 where
   pub workable : Workable s T memory metadata types table
   pub rows : List Row
-  pub found : rows_by T s.code memory metadata types table constants ≡ some rows
+  pub found : rows_by T s.code memory metadata types table constants ≡ Some rows
   pub grounds : Grounds (sections (length types) types constants T) (leaders_of s.code table) (flags_of s.code table) (cells_by (code_words s memory) metadata) rows s.width (blocks_of s.code table) (live_of s memory)
 
 -- what the sweep that drops dead stores leaves of the table
@@ -215,7 +214,7 @@ module _ {s : SetLayout} {T : Tables} {memory metadata types table : List ℕ} (
         let uses : length (uses_of s m) ≡ size = let l = g.laid in mid_long m s.uses size (rw b.long (omega (arith, l.preserved, l.live, l.end))) in
         (rw (b.same, eb, es) at rounds) (all constants) leaders keep metadata _ (around_start g.known g.width constants (uses_of s m) (preserved_of s m) (live_of s m) b.empty uses b.summed)
 
-    pub rows_none : r ≡ false → rows_by T n memory metadata types table constants ≡ none
+    pub rows_none : r ≡ false → rows_by T n memory metadata types table constants ≡ None
     rows_none e = same_rows_lem g.known g.width constants g.some g.few ∙ solved.no e
 
     pub rows_found : r ≡ true → length m' ≡ length m → code_words s m' ≡ code_words s m → RowsIn s T m' metadata types table constants

@@ -1,9 +1,8 @@
 -- What the functions of the walk promise, and the walk over words alone.
 -- Assumes nothing.
-use Rattle.std.specs.Prelude.{◌≡◌, Bool, true, false, cond, ◌||◌, not, ℕ, suc, ◌+◌, ◌*◌, ◌%◌, ◌^◌, ◌≤◌, ◌<◌, eqb, length, get_or}
+use Rattle.std.specs.Prelude.{Option, None, Some, ◌≡◌, Bool, true, false, cond, ◌||◌, not, ℕ, suc, ◌+◌, ◌*◌, ◌%◌, ◌^◌, ◌≤◌, ◌<◌, eqb, length, get_or}
 use Rattle.std.proofs.Math.Path.{refl, ap}
 use mathlib.Core.List.{List, [], ◌∷◌, map}
-use Rattle.std.proofs.Math.Option.{Option, none, some}
 use Rattle.words.specs.Lists.{map_from}
 use Rattle.instruction.specs.declared.Instruction.{Instruction}
 use Rattle.instruction.specs.declared.Class.{Class}
@@ -23,12 +22,6 @@ use Rattle.values.specs.laws.Promises.{Kept, Same, Interns}
 use Rattle.values.specs.laws.Named.{Named}
 use Rattle.values.specs.declared.Atom.{Atom}
 use Rattle.values.specs.declared.Atom.TheVariants.{Integer}
-use Rattle.numbering.specs.declared.Loaded.{Loaded}
-use Rattle.numbering.specs.declared.Loaded.TheVariants.{Value, Unknown}
-use Rattle.values.specs.declared.Found.{Found}
-use Rattle.values.specs.declared.Found.TheVariants.{At}
-use Rattle.values.specs.declared.Folded.{Folded}
-use Rattle.values.specs.declared.Folded.TheVariants.{Word, Not}
 
 -- numbering looks at the types and the constants of a unit alone
 abbrev pub sections_with : List ℕ → List ℕ → ℕ → Tables → Sections
@@ -37,10 +30,6 @@ sections_with types constants locals tables = record { locals = locals; types = 
 -- LoadInt of a word that fits 32 bits
 abbrev pub load_of : Instruction → ℕ → Instruction
 load_of i v = with_imm32 (plain op.LoadInt i.a 0 0) (v % 2 ^ 32)
-
-unfoldable pub word_of : Folded → Option ℕ
-word_of (Word v) = some v
-word_of Not = none
 
 -- what is known of an instruction at place p: its fields fit, and its destination is that of the place
 pub record Stands (n p : ℕ) (i : Instruction) (dest : ℕ → ℕ) : Type 0 where
@@ -79,10 +68,10 @@ abbrev pub expression_with : ℕ → List ℕ → List ℕ → (ℕ → ℕ) →
 expression_with n types t dest op flags left right = expression_of op flags (atom_at n types t dest left) (atom_at n types t dest right)
 
 -- an operator whose operands have the numbers left and right, which folds to f, as it becomes
-abbrev pub Valued : ℕ → List ℕ → List ℕ → Instruction → ℕ → ℕ → ℕ → Folded → Instruction → List ℕ → Type 0
+abbrev pub Valued : ℕ → List ℕ → List ℕ → Instruction → ℕ → ℕ → ℕ → Option ℕ → Instruction → List ℕ → Type 0
 Valued n types t i p left right f x t' =
     Becomes n types 0 1 1 t x t' (λ dest constants. Stands n p i dest)
-    (λ dest S v. by_value S p i v (expression_with n types t dest i.op i.flags left right) (word_of f))
+    (λ dest S v. by_value S p i v (expression_with n types t dest i.op i.flags left right) f)
 
 -- the classes of two operands, of one or two, and of a jump on 0
 abbrev pub binary_class : Class → Bool
@@ -95,13 +84,13 @@ abbrev pub on_zero : Class → Bool
 on_zero k = eqb (number_of k) 9
 
 -- the value of what LoadConst gives
-unfoldable pub atom_of : Loaded → Option Atom
-atom_of (Value kind bits) = some (key_atom (constant_key kind bits))
-atom_of Unknown = none
+abbrev pub atom_of : Option (ℕ × ℕ) → Option Atom
+atom_of (Some p) = Some (key_atom (constant_key p.0 p.1))
+atom_of None = None
 
-unfoldable pub KindOf : Loaded → Type 0
-KindOf (Value kind bits) = kind ≤ 1
-KindOf Unknown = Unit {0}
+abbrev pub KindOf : Option (ℕ × ℕ) → Type 0
+KindOf (Some p) = p.0 ≤ 1
+KindOf None = Unit {0}
 
 -- the number of the second operand's value, where there is one; else that of Integer 0
 unfoldable pub second_number : ℕ → ℕ → Memory → ℕ → Bool → ℕ
@@ -121,15 +110,15 @@ pub record Coded (n S : ℕ) (m : Memory) (word : ℕ) : Type 0 where
   pub is : key word 0 ≡ expression_key op flags left right
 
 -- the number r of a word that an expression folds to
-pub record Interned (n S : ℕ) (t : List ℕ) (v : ℕ) (r : Found) (t' : List ℕ) : Type 0 where
+pub record Interned (n S : ℕ) (t : List ℕ) (v : ℕ) (r : Option ℕ) (t' : List ℕ) : Type 0 where
   pub number : ℕ
-  pub is : r ≡ At number
+  pub is : r ≡ Some number
   pub interns : Interns n S t 0 v number t'
 
 -- the number r of a value that is known: of a folded word, or of an equal expression, if there is one
-pub record Known (n S : ℕ) (t : List ℕ) (word : ℕ) (f : Folded) (r : Found) (t' : List ℕ) : Type 0 where
-  pub constant : (v : ℕ) → f ≡ Word v → Interned n S t v r t'
-  pub expression : f ≡ Not → (t' ≡ t) × (r ≡ expression_at n S (memory_of n S t) (key word 0))
+pub record Known (n S : ℕ) (t : List ℕ) (word : ℕ) (f : Option ℕ) (r : Option ℕ) (t' : List ℕ) : Type 0 where
+  pub constant : (v : ℕ) → f ≡ Some v → Interned n S t v r t'
+  pub expression : f ≡ None → (t' ≡ t) × (r ≡ expression_at n S (memory_of n S t) (key word 0))
 
 -- the second operand of a binary opcode
 pub record Second (n S : ℕ) (types : List ℕ) (t : List ℕ) (s : ℕ) (binary : Bool) (slot : ℕ) (t' : List ℕ) : Type 0 where

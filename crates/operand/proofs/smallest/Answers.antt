@@ -19,11 +19,11 @@ others o h none = rw (agree_same (is_in o folding_binary) (is_in o keys) (every_
 
 pub returns-in-19 : goal.returns-in-19
 unfolding fold_word
-returns-in-19 c = c.tested.ensures (rw c.in-19.is) (rw c.in-19.is (add_candidate _ _ (omega arith) (omega arith) c.wrapping_sub_u64.ensures.value))
+returns-in-19 c = c.tested.ensures (rw c.in-19.is) (rw c.in-19.is (add_candidate _ _ (omega arith) (omega arith) (omega arith)))
 
 pub returns-in-20 : goal.returns-in-20
 unfolding fold_word
-returns-in-20 c = c.tested-in-20.ensures (rw c.in-20.is) (rw c.in-20.is (sub_candidate _ _ (omega arith) (omega arith) c.wrapping_sub_u64-in-20.ensures.value))
+returns-in-20 c = c.tested-in-20.ensures (rw c.in-20.is) (rw c.in-20.is (sub_candidate _ _ (omega arith) (omega arith) (omega arith)))
 
 pub returns-in-21 : goal.returns-in-21
 returns-in-21 c = rw c.in-21.is c.factor.ensures
@@ -74,7 +74,7 @@ returns-in-48 c = c.tested-in-48.ensures (rw c.in-48.is) (rw c.in-48.is (and_can
 
 pub returns-in-49 : goal.returns-in-49
 unfolding fold_word
-returns-in-49 c = c.tested-in-49.ensures (rw c.in-49.is) (rw c.in-49.is (or_candidate _ _ (omega arith) (omega arith) c.wrapping_sub_u64-in-49.ensures.value))
+returns-in-49 c = c.tested-in-49.ensures (rw c.in-49.is) (rw c.in-49.is (or_candidate _ _ (omega arith) (omega arith) (omega arith)))
 
 pub returns-in-50 : goal.returns-in-50
 unfolding fold_word
@@ -82,7 +82,7 @@ returns-in-50 c = c.tested-in-50.ensures (rw c.in-50.is) (rw c.in-50.is (xor_can
 
 pub returns-in-51 : goal.returns-in-51
 unfolding fold_word
-returns-in-51 c = c.tested-in-51.ensures (rw c.in-51.is) (rw c.in-51.is (and_not_candidate _ _ (omega arith) (omega arith) c.wrapping_sub_u64-in-51.ensures.value))
+returns-in-51 c = c.tested-in-51.ensures (rw c.in-51.is) (rw c.in-51.is (and_not_candidate _ _ (omega arith) (omega arith) (omega arith)))
 
 pub returns-in_default : goal.returns-in_default
 unfolding RightOperand

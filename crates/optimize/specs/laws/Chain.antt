@@ -10,8 +10,9 @@ use Rattle.unit.specs.Entry.{metadata_at, good_metadata}
 use Rattle.unit.specs.laws.Region.{keep_at}
 use Rattle.unit.specs.Size.{metadata_size, case_size, sets_room, work64_room, max_local_slots}
 use Rattle.unit.specs.laws.Size.{sets_fit}
-use Rattle.effects.specs.declared.Check.{Check}
-use Rattle.effects.specs.declared.Check.TheVariants.{Passed, Refused}
+use Rattle.effects.specs.Check.{Check}
+use Rattle.effects.specs.Check.{Passed}
+use Rattle.unit.specs.Refusal.{Refused}
 use Rattle.effects.specs.Check.{operand_refusal, operand_check}
 use Rattle.effects.specs.Shape.{Sections, Cell, cell_at}
 use Rattle.effects.specs.laws.Cells.{cell_of, cells_by, cell_at_lem}

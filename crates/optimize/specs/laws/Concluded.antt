@@ -1,6 +1,6 @@
 -- "unchanged: same code, all kept", refusal 10 or rewritten, by what is in lent memory.
 -- Assumes nothing.
-use Rattle.std.specs.Prelude.{◌≡◌, refl, Bool, true, false, ◌&&◌, List, [], ◌∷◌, ℕ, suc, ◌+◌, ◌^◌, ◌≤◌, ◌<◌, eqb, length, get_or}
+use Rattle.std.specs.Prelude.{Ok, Err, Result, ◌≡◌, refl, Bool, true, false, ◌&&◌, List, [], ◌∷◌, ℕ, suc, ◌+◌, ◌^◌, ◌≤◌, ◌<◌, eqb, length, get_or}
 use Rattle.std.proofs.Math.Path.{sym}
 use Rattle.std.proofs.Common.{ap, ◌∙◌, inl, inr, zero-add, arith, eq-eqb, ne_eqb, eqb-true}
 use Rattle.std.proofs.Math.Decide.{dec_le}
@@ -11,7 +11,8 @@ use Rattle.words.specs.Lists.{map_from, sum}
 use Rattle.words.specs.laws.Lists.{get_d_tabulate}
 use Rattle.instruction.specs.Instruction.{instruction_at, to_word}
 use Rattle.instruction.specs.laws.Instruction.{to_of, to_word_fits}
-use Rattle.effects.specs.declared.Check.TheVariants.{Passed, Refused}
+use Rattle.effects.specs.Check.{Passed}
+use Rattle.unit.specs.Refusal.{Refused}
 use Rattle.effects.specs.Shape.{Cell}
 use Rattle.effects.specs.laws.Cells.{cell_of, cells_by, cells_long}
 use Rattle.flow.specs.laws.Flags.{Flags, flag, sum_whole, sum_most}
@@ -21,8 +22,8 @@ use Rattle.pc_map.specs.Relocate.{relocation_check, retain_from}
 use Rattle.pc_map.specs.laws.Retaining.{retain_all}
 use Rattle.answer.specs.Pass.{checked, same_code, all_kept, removal}
 use Rattle.run.proofs.Given.{instruction_fields}
+use Rattle.unit.specs.declared.refusal.Refusal.{Refusal}
 use Rattle.optimize.specs.declared.Answer.TheVariants.{Unchanged, Rewritten}
-use Rattle.optimize.specs.declared.Answer.TheVariants as answer
 use Rattle.optimize.specs.laws.Given.{words_in, words_long, same_words, cells_in}
 use Rattle.optimize.specs.PassAnswer.{answer_of}
 
@@ -99,18 +100,18 @@ module _ {code words keep bounds : List ℕ} (k : Known code words keep bounds) 
       rw (same_code_lem (length words) code words metadata k.bytes k.fits, ← all_kept_lem keep bounds k.mapped (length words) k.long)
       (and_turned (same_words (words_in (length words) code) words) (eqb (get_or bounds (length words) 0) (length words)))
 
-  pub conclude_unchanged : (eqb (get_or bounds (length words) 0) (length words) && same_words (words_in (length words) code) words) ≡ true → Unchanged ≡ answer_of (removal given cells keep)
+  pub conclude_unchanged : (eqb (get_or bounds (length words) 0) (length words) && same_words (words_in (length words) code) words) ≡ true → Ok Unchanged ≡ answer_of (removal given cells keep)
   unfolding removal answer_of
   conclude_unchanged e = rw (test ∙ e)
 
   module _ (other : (eqb (get_or bounds (length words) 0) (length words) && same_words (words_in (length words) code) words) ≡ false) where
-    pub conclude_refused : (k p : ℕ) → relocation_check keep cells ≡ Refused k p → answer.Refused k p ≡ answer_of (removal given cells keep)
+    pub conclude_refused : (k p : ℕ) → relocation_check keep cells ≡ Refused k p → Refused k p ≡ answer_of (removal given cells keep)
     unfolding removal checked answer_of
     conclude_refused k p r = rw (test ∙ other, r)
 
     retained_long : length (retain_from keep 0 cells) ≡ boundary keep (length words)
     retained_long = retain_all keep k.mapped.flags cells (k.long ∙ sym (cells_long words metadata)) ∙ ap (boundary keep) (cells_long words metadata)
 
-    pub conclude_rewritten : relocation_check keep cells ≡ Passed → Rewritten (get_or bounds (length words) 0) ≡ answer_of (removal given cells keep)
+    pub conclude_rewritten : relocation_check keep cells ≡ Passed → Ok (Rewritten (get_or bounds (length words) 0)) ≡ answer_of (removal given cells keep)
     unfolding removal checked answer_of
-    conclude_rewritten r = rw (test ∙ other, r) (ap Rewritten (mapped_at keep bounds k.mapped (length words) (omega (arith, k.long)) ∙ sym retained_long))
+    conclude_rewritten r = rw (test ∙ other, r) (ap (λ n. Ok (Rewritten n)) (mapped_at keep bounds k.mapped (length words) (omega (arith, k.long)) ∙ sym retained_long))

@@ -1,7 +1,7 @@
 -- What a pass decides: the answer, and where it is rewritten the work that holds what is retained, from which the result is written. The
 -- 32-bit work has the kept places at `keep_at n` with their map behind them, the 64-bit work the code at [0, n).
 -- Assumes nothing.
-use Rattle.std.specs.Prelude.{◌≡◌, refl, Bool, true, false, cond, ◌&&◌, List, [], ℕ, ◌+◌, ◌*◌, ◌-◌, ◌^◌, ◌≤◌, eqb, get_or}
+use Rattle.std.specs.Prelude.{Ok, Err, Result, ◌≡◌, refl, Bool, true, false, cond, ◌&&◌, List, [], ℕ, ◌+◌, ◌*◌, ◌-◌, ◌^◌, ◌≤◌, eqb, get_or}
 use Rattle.std.proofs.Math.Path.{sym, ap}
 use Rattle.std.proofs.Common.{◌∙◌, add-zero, zero-add, arith}
 use Rattle.std.proofs.Math.ListN.{length}
@@ -13,9 +13,9 @@ use Rattle.words.specs.laws.Regions.{mid_long, put_long, get_mid, Outside, outsi
 use Rattle.unit.specs.laws.Region.{keep_at, list_in, list_at}
 use Rattle.unit.specs.Result.{Retained, result_bytes}
 use Rattle.unit.specs.Size.{metadata_size, result_size, work32_room, max_instructions}
-use Rattle.effects.specs.declared.Check.{Check}
-use Rattle.effects.specs.declared.Check.TheVariants.{Passed}
-use Rattle.effects.specs.declared.Check.TheVariants as check
+use Rattle.effects.specs.Check.{Check}
+use Rattle.effects.specs.Check.{Passed}
+use Rattle.unit.specs.Refusal.{Refused}
 use Rattle.effects.specs.Shape.{Cell}
 use Rattle.effects.specs.laws.Cells.{cells_by, cells_long}
 use Rattle.flow.specs.laws.BranchLaws.{BranchesInside}
@@ -28,8 +28,9 @@ use Rattle.pc_map.specs.laws.Listed.{kept_list, Listed, kept_many}
 use Rattle.pc_map.specs.laws.Movable.{Writable, writable}
 use Rattle.pc_map.specs.laws.Retaining.{retain_all}
 use Rattle.answer.specs.Pass.{Outcome, unchanged, refused, rewritten, output_after, checked, same_code, all_kept, removal}
+use Rattle.unit.specs.declared.refusal.Refusal.{Refusal}
 use Rattle.optimize.specs.declared.Answer.{Answer}
-use Rattle.optimize.specs.declared.Answer.TheVariants.{Unchanged, Refused, Rewritten}
+use Rattle.optimize.specs.declared.Answer.TheVariants.{Unchanged, Rewritten}
 use Rattle.optimize.specs.PassAnswer.{answer_of, Answers}
 use Rattle.optimize.specs.laws.Given.{words_in, same_words, cells_in, answers_unchanged, answers_refused}
 use Rattle.optimize.specs.laws.Concluded.{Words, Known, conclude_unchanged, conclude_refused, conclude_rewritten}
@@ -61,7 +62,7 @@ abbrev pub Holds : Outcome → ℕ → List ℕ → List ℕ → List ℕ → Ty
 Holds o n metadata work32 work64 = (kept : List Retained) → o ≡ rewritten kept → Relocatable n metadata work32 work64 × (retained_in n metadata work32 work64 ≡ kept)
 
 -- an answer decides an outcome
-abbrev pub Decides : Outcome → ℕ → List ℕ → Answer → List ℕ → List ℕ → Type 0
+abbrev pub Decides : Outcome → ℕ → List ℕ → Result Answer Refusal → List ℕ → List ℕ → Type 0
 Decides o n metadata r work32 work64 = (r ≡ answer_of o) × Holds o n metadata work32 work64
 
 pub decides_refused : (o : Outcome) (k p n : ℕ) (metadata work32 work64 : List ℕ) → o ≡ refused k p → Decides o n metadata (Refused k p) work32 work64
@@ -77,17 +78,17 @@ removal_kept cells code keep kept e = go (same_code cells code && all_kept keep)
         → (relocation_check keep code ≡ Passed) × (retain_from keep 0 code ≡ kept)
     go true e c q = let z : ◌≡◌ {A = ℕ} 0 1 = cc in absurd (omega arith)
     go false e Passed q = let f : rewritten (retain_from keep 0 code) ≡ rewritten kept = rw q at e in (q, cc)
-    go false e (check.Refused k p) q = let f : refused k p ≡ rewritten kept = rw q at e in let z : ◌≡◌ {A = ℕ} 0 1 = cc in absurd (omega arith)
+    go false e (Err r) q = let f : refused r.number r.place ≡ rewritten kept = rw q at e in let z : ◌≡◌ {A = ℕ} 0 1 = cc in absurd (omega arith)
 
 -- the answers of what was decided, and of what was written then
-module _ {o : Outcome} {n : ℕ} {metadata work32 work64 : List ℕ} {r : Answer} (d : Decides o n metadata r work32 work64) where
-  pub decided_relocatable : (k : ℕ) → r ≡ Rewritten k → Relocatable n metadata work32 work64
+module _ {o : Outcome} {n : ℕ} {metadata work32 work64 : List ℕ} {r : Result Answer Refusal} (d : Decides o n metadata r work32 work64) where
+  pub decided_relocatable : (k : ℕ) → r ≡ Ok (Rewritten k) → Relocatable n metadata work32 work64
   decided_relocatable k e = let t = outcome_rewritten o k (sym e ∙ d.0) in (d.1 t.kept t.is).0
 
-  pub answers_written : (k : ℕ) (out out' : List ℕ) → r ≡ Rewritten k → ((kept : List Retained) → retained_in n metadata work32 work64 ≡ kept → out' ≡ output_after (rewritten kept) [] out) → Answers o (Rewritten k) out out'
+  pub answers_written : (k : ℕ) (out out' : List ℕ) → r ≡ Ok (Rewritten k) → ((kept : List Retained) → retained_in n metadata work32 work64 ≡ kept → out' ≡ output_after (rewritten kept) [] out) → Answers o (Ok (Rewritten k)) out out'
   answers_written k out out' e w = let t = outcome_rewritten o k (sym e ∙ d.0) in (sym e ∙ d.0, rw t.is (w t.kept (d.1 t.kept t.is).1))
 
-  pub answers_decided_unchanged : (out : List ℕ) → r ≡ Unchanged → Answers o Unchanged out out
+  pub answers_decided_unchanged : (out : List ℕ) → r ≡ Ok Unchanged → Answers o (Ok Unchanged) out out
   answers_decided_unchanged out e = answers_unchanged o out (outcome_unchanged o (sym e ∙ d.0))
 
   pub answers_decided_refused : (k p : ℕ) (out : List ℕ) → r ≡ Refused k p → Answers o (Refused k p) out out
@@ -136,7 +137,7 @@ module _ {n : ℕ} {metadata work32 work64 : List ℕ} (d : Finished n metadata 
           → (eqb (get_or (mid_of (keep_at n + n) (n + 1) work32) (length (mid_of 0 n work64)) 0) (length (mid_of 0 n work64)) && same_words (words_in (length (mid_of 0 n work64)) code) (mid_of 0 n work64)) ≡ t
       same_test t h = rw count (rw e at h)
 
-      pub concluded_unchanged : (eqb retained (length (mid_of 0 k work64)) && same_words (words_in (length (mid_of 0 k work64)) code) (mid_of 0 k work64)) ≡ true → Unchanged ≡ answer_of (concluded n code metadata work32 work64)
+      pub concluded_unchanged : (eqb retained (length (mid_of 0 k work64)) && same_words (words_in (length (mid_of 0 k work64)) code) (mid_of 0 k work64)) ≡ true → Ok Unchanged ≡ answer_of (concluded n code metadata work32 work64)
       concluded_unchanged h = rw code_size at (conclude_unchanged known metadata (same_test true h))
 
       module _ (other : (eqb retained (length (mid_of 0 k work64)) && same_words (words_in (length (mid_of 0 k work64)) code) (mid_of 0 k work64)) ≡ false) (c : Check)
@@ -144,14 +145,14 @@ module _ {n : ℕ} {metadata work32 work64 : List ℕ} (d : Finished n metadata 
         relocation : c ≡ relocation_check (mid_of (keep_at n) n work32) (cells_by (mid_of 0 n work64) metadata)
         relocation = rw (e, f) at r
 
-        pub concluded_refused : (i p : ℕ) → c ≡ check.Refused i p → Refused i p ≡ answer_of (concluded n code metadata work32 work64)
+        pub concluded_refused : (i p : ℕ) → c ≡ Refused i p → Refused i p ≡ answer_of (concluded n code metadata work32 work64)
         concluded_refused i p q = rw code_size at (conclude_refused known metadata (same_test false other) i p (sym relocation ∙ q))
 
-        pub concluded_rewritten : c ≡ Passed → Rewritten retained ≡ answer_of (concluded n code metadata work32 work64)
-        concluded_rewritten q = ap Rewritten (sym count) ∙ conclude_rewritten known metadata (same_test false other) (sym relocation ∙ q) ∙ rw code_size
+        pub concluded_rewritten : c ≡ Passed → Ok (Rewritten retained) ≡ answer_of (concluded n code metadata work32 work64)
+        concluded_rewritten q = ap (λ n. Ok (Rewritten n)) (sym count) ∙ conclude_rewritten known metadata (same_test false other) (sym relocation ∙ q) ∙ rw code_size
 
   -- so it is decided
-  pub conclude_decides : (code : List ℕ) (o : Outcome) (r : Answer) → o ≡ concluded n code metadata work32 work64 → r ≡ answer_of (concluded n code metadata work32 work64) → Decides o n metadata r work32 work64
+  pub conclude_decides : (code : List ℕ) (o : Outcome) (r : Result Answer Refusal) → o ≡ concluded n code metadata work32 work64 → r ≡ answer_of (concluded n code metadata work32 work64) → Decides o n metadata r work32 work64
   conclude_decides code o r e q = (
     rw e q,
     λ kept z.

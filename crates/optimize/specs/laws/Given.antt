@@ -1,6 +1,6 @@
 -- What a pass is given, and what its steps make of it.
 -- Assumes nothing.
-use Rattle.std.specs.Prelude.{◌≡◌, Bool, true, false, ◌&&◌, List, [], ◌∷◌, map, ℕ, ◌*◌, ◌/◌, ◌≤◌, ◌<◌, eqb, length}
+use Rattle.std.specs.Prelude.{Ok, Err, Result, ◌≡◌, Bool, true, false, ◌&&◌, List, [], ◌∷◌, map, ℕ, ◌*◌, ◌/◌, ◌≤◌, ◌<◌, eqb, length}
 use Rattle.std.proofs.Math.Path.{refl}
 use Rattle.std.proofs.Common.{sym, ap, ◌∙◌, ext_get_or}
 use Rattle.words.specs.Bytes.{Bytes}
@@ -11,7 +11,7 @@ use Rattle.instruction.specs.laws.Instruction.{of_to}
 use Rattle.unit.specs.Entry.{metadata_at, good_metadata}
 use Rattle.unit.specs.Layout.{is_unit}
 use Rattle.unit.specs.Size.{instruction_size, metadata_size, case_size, work32_room, work64_room, max_instructions, max_local_slots}
-use Rattle.effects.specs.declared.Check.TheVariants.{Passed}
+use Rattle.effects.specs.Check.{Passed}
 use Rattle.effects.specs.Check.{operand_check}
 use Rattle.effects.specs.Shape.{Sections, Cell, no_cell}
 use Rattle.effects.specs.laws.Cells.{cell_of, cells_by, cells_long, cell_at_lem}
@@ -22,11 +22,13 @@ use Rattle.values.specs.Number.{number_code}
 use Rattle.answer.specs.Pass.{Outcome, unchanged, refused, output_after, checked, removal, kept_places, after_loops, after_branches, after_operands, optimized}
 use Rattle.answer.specs.Answer.{sections_of}
 use Rattle.run.proofs.Given.{instruction_fields}
+use Rattle.unit.specs.declared.refusal.Refusal.{Refusal}
+use Rattle.unit.specs.Refusal.{Refused}
 use Rattle.optimize.specs.declared.Answer.{Answer}
-use Rattle.optimize.specs.declared.Answer.TheVariants.{Unchanged, Refused}
+use Rattle.optimize.specs.declared.Answer.TheVariants.{Unchanged}
 use Rattle.optimize.specs.PassAnswer.{answer_of, Answers}
 
-pub answers_unchanged : (o : Outcome) (out : List ℕ) → o ≡ unchanged → Answers o Unchanged out out
+pub answers_unchanged : (o : Outcome) (out : List ℕ) → o ≡ unchanged → Answers o (Ok Unchanged) out out
 unfolding answer_of output_after
 answers_unchanged o out e = rw e (refl, refl)
 
@@ -34,7 +36,7 @@ pub answers_refused : (o : Outcome) (k p : ℕ) (out : List ℕ) → o ≡ refus
 unfolding answer_of output_after
 answers_refused o k p out e = rw e (refl, refl)
 
-pub answers_same : (o o' : Outcome) (r : Answer) (out out' : List ℕ) → o ≡ o' → Answers o' r out out' → Answers o r out out'
+pub answers_same : (o o' : Outcome) (r : Result Answer Refusal) (out out' : List ℕ) → o ≡ o' → Answers o' r out out' → Answers o r out out'
 answers_same o o' r out out' e t = rw e t
 
 -- the words of the first n instructions of a code section

@@ -1,6 +1,6 @@
 -- Lines added to the result of a rewritten answer.
 -- Assumes nothing.
-use Rattle.std.specs.Prelude.{◌≡◌, refl, Bool, true, ℕ, ◌+◌, ◌-◌, ◌/◌, ◌^◌, ◌≤◌, ◌<◌, get_or, take, drop}
+use Rattle.std.specs.Prelude.{Ok, Err, Result, ◌≡◌, refl, Bool, true, ℕ, ◌+◌, ◌-◌, ◌/◌, ◌^◌, ◌≤◌, ◌<◌, get_or, take, drop}
 use Rattle.std.proofs.Math.Path.{sym, ap}
 use Rattle.std.proofs.Common.{◌∙◌, take_at, drop-drop}
 use mathlib.Core.List.{List, [], ◌++◌}
@@ -29,8 +29,10 @@ use Rattle.run.specs.Given.{Worked}
 use Rattle.run.proofs.Given.{answer_returnable, clean_kept}
 use Rattle.run.specs.Returned.{given_function}
 use Rattle.run.proofs.laws.MovedLines.{places_long, place_of}
+use Rattle.unit.specs.declared.refusal.Refusal.{Refusal}
+use Rattle.unit.specs.Refusal.{Refused}
 use Rattle.optimize.specs.declared.Answer.{Answer}
-use Rattle.optimize.specs.declared.Answer.TheVariants.{Unchanged, Refused, Rewritten}
+use Rattle.optimize.specs.declared.Answer.TheVariants.{Unchanged, Rewritten}
 use Rattle.optimize.specs.PassAnswer.{answer_of, Answers}
 use Rattle.optimize.specs.laws.Whole.{room_out}
 use Rattle.optimize.specs.laws.Outcomes.{To, outcome_unchanged, outcome_refused, outcome_rewritten}
@@ -42,12 +44,12 @@ pub record Addable (u : List ℕ) (k out : ℕ) : Type 0 where
   pub room : result_size k (length (lines_of u) / line_size) ≤ out
   pub fits : length (lines_of u) / line_size < 2 ^ 32
 
-abbrev pub Linable : List ℕ → Answer → ℕ → Type 0
-Linable u Unchanged out = Unit {0}
-Linable u (Refused k p) out = Unit {0}
-Linable u (Rewritten k) out = Addable u k out
+abbrev pub Linable : List ℕ → Result Answer Refusal → ℕ → Type 0
+Linable u (Ok Unchanged) out = Unit {0}
+Linable u (Err r) out = Unit {0}
+Linable u (Ok (Rewritten k)) out = Addable u k out
 
-pub linable_to : (u : List ℕ) (a : Answer) (k out : ℕ) → a ≡ Rewritten k → Linable u a out → Addable u k out
+pub linable_to : (u : List ℕ) (a : Result Answer Refusal) (k out : ℕ) → a ≡ Ok (Rewritten k) → Linable u a out → Addable u k out
 linable_to u a k out e l = rw e at l
 
 -- the lines and the old places of a result rise, as they do after a pass and after the cleaning
@@ -92,11 +94,11 @@ put_over out xs ys j m e h =
     let all : j + (m - j) ≡ m = omega arith in
     ap (λ (l : List ℕ). ys ++ l) (ap (λ (i : ℕ). drop i (xs ++ drop j out)) size ∙ drop-append-add xs (drop j out) (m - j) ∙ drop-drop (m - j) j out ∙ rw all)
 
-module _ (u : List ℕ) (o : Outcome) (a : Answer) (before out : List ℕ) (w : Answers o a before out) where
+module _ (u : List ℕ) (o : Outcome) (a : Result Answer Refusal) (before out : List ℕ) (w : Answers o a before out) where
   abbrev given : List Line
   given = lines_in (lines_of u)
 
-  pub lined_unchanged : a ≡ Unchanged → out ≡ output_after o (lines_after (lines_in (lines_of u)) o) before
+  pub lined_unchanged : a ≡ Ok Unchanged → out ≡ output_after o (lines_after (lines_in (lines_of u)) o) before
   unfolding output_after
   lined_unchanged e = let is = outcome_unchanged o (sym e ∙ w.0) in w.1 ∙ rw is
 
@@ -104,7 +106,7 @@ module _ (u : List ℕ) (o : Outcome) (a : Answer) (before out : List ℕ) (w : 
   unfolding output_after
   lined_refused k p e = let is = outcome_refused o k p (sym e ∙ w.0) in w.1 ∙ rw is
 
-  module _ (k : ℕ) (e : a ≡ Rewritten k) where
+  module _ (k : ℕ) (e : a ≡ Ok (Rewritten k)) where
     made : To o k
     made = outcome_rewritten o k (sym e ∙ w.0)
 
@@ -146,7 +148,7 @@ module _ (u : List ℕ) (b : Bytes u) (out work32 work64 : ℕ) where
     addable_in : room_for (header_of u).counts lent ≡ true → Addable u (length kept) out
     addable_in e = returned_addable u b kept w r out (room_out u out work32 work64 e)
 
-  pub pass_linable : (a : Answer) (k : ℕ) → a ≡ answer_of (pass_answer u (lent_of out work32 work64)) → k ≡ out → Linable u a k
+  pub pass_linable : (a : Result Answer Refusal) (k : ℕ) → a ≡ answer_of (pass_answer u (lent_of out work32 work64)) → k ≡ out → Linable u a k
   unfolding pass_answer
   pass_linable a k e f =
       rw (e, f)
@@ -158,7 +160,7 @@ module _ (u : List ℕ) (b : Bytes u) (out work32 work64 : ℕ) where
   pass_moves kept e = returned_moves u b kept (answer_worked u _ kept e) (answer_returnable u b _ kept e)
 
   module _ (first second : ℕ) where
-    pub clean_linable : (a : Answer) (k : ℕ) → a ≡ answer_of (clean_answer u (lent_of out work32 work64) first second).outcome → k ≡ out → Linable u a k
+    pub clean_linable : (a : Result Answer Refusal) (k : ℕ) → a ≡ answer_of (clean_answer u (lent_of out work32 work64) first second).outcome → k ≡ out → Linable u a k
     clean_linable a k e f =
         rw (e, f)
         (linable u (clean_answer u lent first second).outcome out

@@ -10,7 +10,7 @@ use Rattle.instruction.specs.Instruction.{class, of_word}
 use Rattle.unit.specs.laws.Region.{keep_at}
 use Rattle.unit.specs.Size.{work32_room, work64_room, sets_room, max_instructions, max_local_slots}
 use Rattle.unit.specs.laws.Size.{sets_fit}
-use Rattle.effects.specs.declared.Check.{Check}
+use Rattle.effects.specs.Check.{Check}
 use Rattle.effects.specs.Shape.{Sections, Cell}
 use Rattle.effects.specs.laws.Cells.{cells_by}
 use Rattle.values.specs.Number.{number_code}

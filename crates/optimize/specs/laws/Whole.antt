@@ -1,6 +1,6 @@
 -- A pass on a unit that was admitted: the answers from each row on.
 -- Assumes nothing.
-use Rattle.std.specs.Prelude.{◌≡◌, Bool, true, ◌&&◌, List, ℕ, ◌*◌, ◌/◌, ◌≤◌}
+use Rattle.std.specs.Prelude.{Ok, Err, Result, ◌≡◌, Bool, true, ◌&&◌, List, ℕ, ◌*◌, ◌/◌, ◌≤◌}
 use Rattle.std.proofs.Common.{◌∙◌}
 use native.Mathlib.Omega.{arith}
 use Rattle.std.proofs.Math.Dec.{leb}
@@ -12,13 +12,14 @@ use Rattle.words.specs.laws.Truth.{left_true, right_true}
 use Rattle.unit.proofs.laws.UnitLaws.{unit_laid}
 use Rattle.unit.specs.Layout.{header_of, code_of, metadata_of, types_of, cases_of}
 use Rattle.unit.specs.Size.{instruction_size, constant_size, case_size, output_room, work32_room, work64_room}
+use Rattle.unit.specs.declared.refusal.Refusal.{Refusal}
 use Rattle.answer.specs.declared.Admission.TheVariants.{Admitted, Unchanged}
-use Rattle.answer.specs.declared.Admission.TheVariants as variant
 use Rattle.answer.specs.Pass.{unchanged, refused, optimized}
 use Rattle.answer.specs.Answer.{lent_of, cells_of, sections_of, room_for, admission, after_admission, answer_with}
 use Rattle.run.proofs.Given.{cells_long}
 use Rattle.run.specs.Given.{Worked}
 use Rattle.run.proofs.laws.Passed.{worked_size}
+use Rattle.unit.specs.Refusal.{Refused}
 use Rattle.optimize.specs.laws.Given.{Given, WorkRoom, Workable, cells_in, cells_in_lem, outcome_in}
 
 -- ---- what it is given
@@ -82,14 +83,14 @@ module _ {u : List ℕ} {room : Bool} (b : Bytes u) (w : Worked u room) (n : ℕ
 
 -- ---- the rows before the work
 module _ (u : List ℕ) (room : Bool) where
-  pub answer_refused : (k p : ℕ) → admission room u ≡ variant.Refused k p → answer_with room u ≡ refused k p
+  pub answer_refused : (k p : ℕ) → admission room u ≡ Refused k p → answer_with room u ≡ refused k p
   unfolding answer_with after_admission
   answer_refused k p e = rw e
 
-  pub answer_unchanged : admission room u ≡ Unchanged → answer_with room u ≡ unchanged
+  pub answer_unchanged : admission room u ≡ Ok Unchanged → answer_with room u ≡ unchanged
   unfolding answer_with after_admission
   answer_unchanged e = rw e
 
-  pub answer_admitted : admission room u ≡ Admitted → answer_with room u ≡ optimized (sections_of u) (cells_of u)
+  pub answer_admitted : admission room u ≡ Ok Admitted → answer_with room u ≡ optimized (sections_of u) (cells_of u)
   unfolding answer_with after_admission
   answer_admitted e = rw e

@@ -1,14 +1,9 @@
-use Rattle.words.specs.laws.Every.{none_passed, more_passed, all_passed, one_failed}
+use Rattle.std.proofs.Common.{rules, arith, refl, length, ◌/◌}
+use Rattle.std.proofs.lemmas.Iterator.{YieldsList-from_range}
+use Rattle.unit.specs.Size.{case_size}
+use Rattle.unit.specs.Entry.{good_case, case_at}
+use Rattle.parse.proofs.Passing.{every_passed}
 use Rattle.parse.proofs.every_case.Goals as goal
 
-pub loop-k-init : goal.loop-k-init
-loop-k-init c = none_passed _ _
-
-pub returns-then-not-good_case : goal.returns-then-not-good_case
-returns-then-not-good_case c = one_failed _ _ _ c.loop-k-test.true (cc c.if-not-good_case.true)
-
-pub loop-k-preserved : goal.loop-k-preserved
-loop-k-preserved c = more_passed _ _ _ c.loop-k.invariant c.loop-k-test.true (cc c.if-not-good_case.false)
-
 pub returns : goal.returns
-returns c = all_passed _ _ _ c.loop-k.invariant c.loop-k-test.false
+returns c = every_passed (length c.args.section.now / case_size) (λ k. good_case (case_at c.args.section.now k)) _ _ c.all.ensures.ran (YieldsList-from_range 0 _ _ refl (omega arith)) (λ x b q k. search rules)

@@ -1,14 +1,9 @@
-use Rattle.words.specs.laws.Every.{none_passed, more_passed, all_passed, one_failed}
+use Rattle.std.proofs.Common.{rules, arith, refl, length, ◌/◌}
+use Rattle.std.proofs.lemmas.Iterator.{YieldsList-from_range}
+use Rattle.unit.specs.Size.{line_size}
+use Rattle.unit.specs.Entry.{good_line}
+use Rattle.parse.proofs.Passing.{every_passed}
 use Rattle.parse.proofs.every_line.Goals as goal
 
-pub loop-k-init : goal.loop-k-init
-loop-k-init c = none_passed _ _
-
-pub returns-then-not-good_line : goal.returns-then-not-good_line
-returns-then-not-good_line c = one_failed _ _ _ c.loop-k-test.true (cc c.if-not-good_line.true)
-
-pub loop-k-preserved : goal.loop-k-preserved
-loop-k-preserved c = more_passed _ _ _ c.loop-k.invariant c.loop-k-test.true (cc c.if-not-good_line.false)
-
 pub returns : goal.returns
-returns c = all_passed _ _ _ c.loop-k.invariant c.loop-k-test.false
+returns c = every_passed (length c.args.section.now / line_size) (λ k. good_line c.args.n c.args.section.now k) _ _ c.all.ensures.ran (YieldsList-from_range 0 _ _ refl (omega arith)) (λ x b q k. search rules)

@@ -10,7 +10,6 @@ use Rattle.unit.specs.Size.{line_size}
 use Rattle.unit.specs.Entry.{line_at, good_line}
 use Rattle.unit.specs.declared.Line.{Line}
 use Rattle.parse.proofs.good_line.Goals as goal
-use Rattle.parse.proofs.good_line.Goals.{After-line-place}
 
 -- below the next one, and below n
 next-line : (l : List ℕ) (k n : ℕ) (e f : Line) → k + 1 < length l / line_size → e ≡ line_at l k → f ≡ line_at l (k + 1) → ltb e.place f.place ≡ good_line n l k
@@ -23,14 +22,12 @@ last_line l k n e h r = rw (r, le-ltb (suc k) (length l / line_size) (omega arit
 
 pub returns-then-k-l : goal.returns-then-k-l
 returns-then-k-l c =
-    let first = (goal.at.returns-then-k-l c).After-line-place in
-    let a = first.args in
-    let there = first.requires.1 in
-    next-line a.section.now a.k a.n _ _ (omega arith) first.line-place.ensures c.line.ensures
+    let a = c.args in
+    let there = c.requires.1 in
+    next-line a.section.now a.k a.n _ _ (omega arith) c.line-place.ensures c.line.ensures
 
 pub returns-else-k-l : goal.returns-else-k-l
 returns-else-k-l c =
-    let first = (goal.at.returns-else-k-l c).After-line-place in
-    let a = first.args in
-    let there = first.requires.1 in
-    last_line a.section.now a.k a.n _ (omega arith) first.line-place.ensures
+    let a = c.args in
+    let there = c.requires.1 in
+    last_line a.section.now a.k a.n _ (omega arith) c.line-place.ensures

@@ -9,19 +9,16 @@ use Rattle.unit.specs.Entry.{good_line}
 use Rattle.unit.specs.Layout.{header_of, lines_of, lines_rise}
 use Rattle.unit.specs.laws.UnitLaws.{Lengths, lengths, within}
 use Rattle.parse.proofs.lines_rise.Goals as goal
-use Rattle.parse.proofs.lines_rise.Goals.{After-word-n, Start}
 
 by_length : (u : List ℕ) → Lengths u → every (length (lines_of u) / line_size) (λ k. good_line (header_of u).counts.instructions (lines_of u) k) ≡ lines_rise u
 unfolding lines_rise
 by_length u l = let lines : length (lines_of u) / line_size ≡ (header_of u).counts.lines = omega (arith, l.lines) in rw lines
 
-pub part-requires : goal.part-requires
+pub part-requires-clause-within : goal.part-requires-clause-within
 unfolding header_of
-part-requires c = (omega arith, omega arith, omega arith, omega arith, (within _ _ c.requires).lines)
+part-requires-clause-within c = (within _ _ c.requires).lines
 
 pub returns : goal.returns
 unfolding header_of
 returns c =
-    let word = (goal.at.returns c).After-word-n in
-    let start = (goal.at.returns c).Start in
-    rw (c.every_line.ensures, c.part.ensures, word.word-n.ensures.0) (by_length start.args.unit.now (lengths _ (within _ _ start.requires)))
+    rw (c.every_line.ensures, c.part.ensures, c.word-n.ensures.0) (by_length c.args.unit.now (lengths _ (within _ _ c.requires)))

@@ -11,7 +11,6 @@ use Rattle.unit.specs.Entry.{good_metadata, is_wide_select, metadata_at, good_ty
 use Rattle.unit.specs.Layout.{header_of, metadata_of, types_of, constants_of, cases_of, good_entries, wide_select}
 use Rattle.unit.specs.laws.UnitLaws.{Lengths, lengths, within}
 use Rattle.parse.proofs.sweep.Goals as goal
-use Rattle.parse.proofs.sweep.Goals.{After-every_constant, After-every_type, After-sweep_metadata-metadata, After-word, Start}
 
 -- the number of a section's entries is its length by an entry's size
 by_lengths : (u : List ℕ) → Lengths u
@@ -31,49 +30,38 @@ wide-by-lengths : (u : List ℕ) → Lengths u → lowest_below (length (metadat
 unfolding wide_select
 wide-by-lengths u l = let metadata : length (metadata_of u) / metadata_size ≡ (header_of u).counts.metadata = omega (arith, l.metadata) in rw metadata
 
-pub part-requires : goal.part-requires
+pub part-requires-clause-within : goal.part-requires-clause-within
 unfolding header_of
-part-requires c = (omega arith, omega arith, omega arith, omega arith, (within _ _ c.requires).metadata)
+part-requires-clause-within c = (within _ _ c.requires).metadata
 
-pub part-requires-2 : goal.part-requires-2
+pub part-requires-2-clause-within : goal.part-requires-2-clause-within
 unfolding header_of
-part-requires-2 c =
-    let w = within _ _ c.requires in
-    (omega arith, omega arith, omega arith, omega arith, omega (arith, w.types))
+part-requires-2-clause-within c = let w = within _ _ c.requires in omega (arith, w.types)
 
-pub part-requires-3 : goal.part-requires-3
+pub part-requires-3-clause-within : goal.part-requires-3-clause-within
 unfolding header_of
-part-requires-3 c =
-    let w = within _ _ c.requires in
-    (omega arith, omega arith, omega arith, omega arith, w.constants)
+part-requires-3-clause-within c = (within _ _ c.requires).constants
 
-pub part-requires-4 : goal.part-requires-4
+pub part-requires-4-clause-within : goal.part-requires-4-clause-within
 unfolding header_of
-part-requires-4 c =
-    let w = within _ _ c.requires in
-    (omega arith, omega arith, omega arith, omega arith, w.cases)
+part-requires-4-clause-within c = (within _ _ c.requires).cases
 
 pub returns : goal.returns
 unfolding header_of
 returns c =
-    let constants = (goal.at.returns c).After-every_constant in
-    let types = (goal.at.returns c).After-every_type in
-    let metadata = (goal.at.returns c).After-sweep_metadata-metadata in
-    let word = (goal.at.returns c).After-word in
-    let start = (goal.at.returns c).Start in
-    let sizes = lengths _ (within _ _ start.requires) in (
+    let sizes = lengths _ (within _ _ c.requires) in (
       rw (
-        metadata.sweep_metadata-metadata.ensures.0,
-        types.every_type.ensures,
-        constants.every_constant.ensures,
+        c.sweep_metadata-metadata.ensures.0,
+        c.every_type.ensures,
+        c.every_constant.ensures,
         c.every_case.ensures,
-        word.part.ensures,
-        types.part-2.ensures,
-        constants.part-3.ensures,
+        c.part.ensures,
+        c.part-2.ensures,
+        c.part-3.ensures,
         c.part-4.ensures,
-        word.word.ensures.0,
+        c.word.ensures.0,
         one-mul,
       )
-          (by_lengths start.args.unit.now sizes),
-      rw (metadata.sweep_metadata-metadata.ensures.1, word.part.ensures) (wide-by-lengths start.args.unit.now sizes),
+          (by_lengths c.args.unit.now sizes),
+      rw (c.sweep_metadata-metadata.ensures.1, c.part.ensures) (wide-by-lengths c.args.unit.now sizes),
     )

@@ -7,7 +7,7 @@ use Rattle.instruction.specs.Instruction.{of_word, imm32_unsigned, class}
 use Rattle.unit.specs.Entry.{metadata_at}
 use Rattle.unit.specs.Refusal.{lost_loop}
 use Rattle.unit.specs.Size.{max_instructions, metadata_size, result_size}
-use Rattle.effects.specs.declared.Check.TheVariants.{Passed}
+use Rattle.effects.specs.Check.{Passed}
 use Rattle.effects.specs.laws.Cells.{cell_of, cells_by, cells_long}
 use Rattle.flow.specs.Branch.{branches, target}
 use Rattle.flow.specs.laws.BranchLaws.{BranchesInside, inside_target}

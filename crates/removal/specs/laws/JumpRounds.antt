@@ -159,6 +159,11 @@ module _ {words list work₀ : List ℕ} (r : Rounds words (length work₀)) (c 
           let s : get_or list (suc (k - 1)) (length words) ≡ end = rw (← add-one (k - 1)) last in
           omega (arith, c.rising (k - 1) few, same_default list (k - 1) 0 (length words) few, s)
 
+      -- the lowest place above it that was kept, by what a search of the flags answers
+      pub walk_found : {m : ℕ} → ((keep : List ℕ) → ((q : ℕ) → q < end → get_or work q 0 ≡ get_or keep q 0) → next ≡ kept_from keep end → m ≡ kept_from keep (p + 1))
+          → m ≡ next_kept (keep_in words work₀) p
+      walk_found f = f (keep_in words work₀) walk_flags w.lowest ∙ rw add-one refl
+
       before : Cleared (idle_at words work₀) work₀ work (p + 1) (length words)
       before = back_next c (λ q. Cleared (idle_at words work₀) work₀ work q (length words)) (none_idle work) (k - 1) few (rw last w.cleared)
 

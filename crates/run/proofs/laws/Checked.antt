@@ -1,12 +1,11 @@
 -- A function whose checks passed: its numbered code can be numbered and removed from, and its fields stay fields.
 -- Assumes nothing.
-use Rattle.std.specs.Prelude.{◌≡◌, Bool, ◌||◌, eqb}
+use Rattle.std.specs.Prelude.{Some, ◌≡◌, Bool, ◌||◌, eqb}
 use Rattle.std.proofs.Math.Path.{refl, sym}
 use Rattle.std.proofs.Common.{ap, ◌∙◌, inl, inr, true≢false, add-zero, suc-add, add-suc}
 use Rattle.std.proofs.Math.Bool.{true, false, cond, or-true}
 use Rattle.std.proofs.lemmas.Bool.{false≢true}
 use mathlib.Core.List.{List, [], ◌∷◌}
-use Rattle.std.proofs.Math.Option.{some}
 use Prim.Native.Nat.{ℕ, zero, suc, ◌+◌, ◌≤◌, ◌<◌}
 use Rattle.std.proofs.Math.Nat.{zero-add}
 use native.Mathlib.Omega.{arith}
@@ -23,7 +22,7 @@ use Rattle.instruction.specs.laws.Instruction.{Fields}
 use Rattle.unit.specs.Refusal.{branch_outside}
 use Rattle.unit.specs.Entry.{constant_at}
 use Rattle.unit.specs.Result.{Retained}
-use Rattle.effects.specs.declared.Check.TheVariants.{Passed}
+use Rattle.effects.specs.Check.{Passed}
 use Rattle.effects.specs.Shape.{Sections, Cell, cell_at}
 use Rattle.effects.specs.Check.{operand_check}
 use Rattle.effects.specs.laws.Sound.{lowest_passed, passed_at}
@@ -231,7 +230,7 @@ pub record Well (F : Function) : Type 0 where
   pub typed : length F.sections.types ≤ F.sections.locals
   pub fields : (p : ℕ) → p < length F.cells → Fields (cell_at F.cells p).instruction
   -- known constants are words of 64 bits
-  pub constants : (k : ℕ) (v : Atom) → constant_atom (constant_at F.sections.constants k) ≡ some v → (p : ℕ) → Below p v
+  pub constants : (k : ℕ) (v : Atom) → constant_atom (constant_at F.sections.constants k) ≡ Some v → (p : ℕ) → Below p v
 
 module _ (F : Function) (w : Well F) (some_code : 0 < length F.cells) (few : length F.cells ≤ 65536)
     (checked-operands : operand_check F.sections.locals F.sections.tables F.cells ≡ Passed) (checked-branches : branch_check F.cells ≡ Passed) where

@@ -3,11 +3,10 @@
 -- Assumes nothing.
 use Rattle.std.proofs.Math.Path.{◌≡◌, refl, sym, ap}
 use Rattle.std.proofs.Common.{ap₂, ◌∙◌, inl, inr, arith}
-use Rattle.std.specs.Prelude.{Bool, cond, not, ◌&&◌, ℕ, suc, ◌+◌, ◌*◌, ◌-◌, ◌/◌, ◌%◌, ◌^◌, ◌<◌, ◌≤◌, eqb, leb, ltb}
+use Rattle.std.specs.Prelude.{Option, Some, None, Bool, cond, not, ◌&&◌, ℕ, suc, ◌+◌, ◌*◌, ◌-◌, ◌/◌, ◌%◌, ◌^◌, ◌<◌, ◌≤◌, eqb, leb, ltb}
 use Rattle.std.proofs.Math.Bool.{true, false, or-false}
 use Rattle.std.proofs.lemmas.Bool.{false≢true}
 use mathlib.Core.List.{List, [], ◌∷◌, map}
-use Rattle.std.proofs.Math.Option.{some}
 use borrow.Author.Tests.{eqb-true, eqb-false, eq-eqb, le-leb, lt-ltb, ltb-true, leb-true}
 use Rattle.words.specs.Word.{sign_extend}
 use Rattle.words.specs.laws.Word.{sign_plus, sign_minus}
@@ -18,7 +17,7 @@ use Rattle.instruction.specs.declared.Class.TheVariants.{Hint, LoadInt, LoadCons
 use Rattle.instruction.specs.Class.{class_of, single, number_of}
 use Rattle.instruction.specs.Instruction.{imm32, plain, with_imm32, class}
 use Rattle.unit.specs.declared.Constant.{Constant}
-use Rattle.unit.specs.declared.Constant.TheVariants.{Nil, Bool as BoolConstant, Int, Float as FloatConstant, String, Missing}
+use Rattle.unit.specs.declared.Constant.TheVariants.{Nil, Bool as BoolConstant, Int, Float as FloatConstant, String}
 use Rattle.unit.specs.Entry.{constant_at}
 use Rattle.effects.specs.Shape.{Tables, Sections, Cell}
 use Rattle.effects.specs.Effects.{all_reads, range_has, any_of}
@@ -295,14 +294,14 @@ module _ (F : Function) (W : World) (p : ℕ) (σ : Words) (R : List Event) wher
     holds_word : {r : ℕ} {v : Atom} → value_of t r ≡ v → σ r ≡ word_of ρ v
     holds_word {r} e = sym (H.slot= r) ∙ ap (word_of ρ) e
 
-    constant_word_lem : (b : ℕ) (c : Constant) (v : Atom) → constant_atom c ≡ some v → constant_word W b c ≡ word_of ρ v
+    constant_word_lem : (b : ℕ) (c : Option Constant) (v : Atom) → constant_atom c ≡ Some v → constant_word W b c ≡ word_of ρ v
     unfolding constant_atom constant_word word_of
-    constant_word_lem b Nil v e = let z : Integer 0 ≡ v = cc in ap (word_of ρ) z
-    constant_word_lem b (BoolConstant x) v e = let z : Integer x ≡ v = cc in ap (word_of ρ) z
-    constant_word_lem b (Int x) v e = let z : Integer x ≡ v = cc in ap (word_of ρ) z
-    constant_word_lem b (FloatConstant x) v e = let z : Float x ≡ v = cc in ap (word_of ρ) z
-    constant_word_lem b String v e = let z : ◌≡◌ {A = ℕ} 0 1 = cc in absurd (omega arith)
-    constant_word_lem b Missing v e = let z : ◌≡◌ {A = ℕ} 0 1 = cc in absurd (omega arith)
+    constant_word_lem b (Some Nil) v e = let z : Integer 0 ≡ v = cc in ap (word_of ρ) z
+    constant_word_lem b (Some (BoolConstant x)) v e = let z : Integer x ≡ v = cc in ap (word_of ρ) z
+    constant_word_lem b (Some (Int x)) v e = let z : Integer x ≡ v = cc in ap (word_of ρ) z
+    constant_word_lem b (Some (FloatConstant x)) v e = let z : Float x ≡ v = cc in ap (word_of ρ) z
+    constant_word_lem b (Some String) v e = let z : ◌≡◌ {A = ℕ} 0 1 = cc in absurd (omega arith)
+    constant_word_lem b None v e = let z : ◌≡◌ {A = ℕ} 0 1 = cc in absurd (omega arith)
 
     -- a unary or binary instruction gives the word of its expression
     pub word_one : (x : Cell) → class x.instruction ≡ Unary

@@ -1,11 +1,10 @@
 -- The places that the pass keeps where it found live slots.
 -- Assumes nothing.
-use Rattle.std.specs.Prelude.{◌≡◌, Bool, cond, not, ◌&&◌, ◌||◌, List, [], ◌∷◌, eqb, leb, ltb, length, get_or, replicate}
+use Rattle.std.specs.Prelude.{Option, None, Some, ◌≡◌, Bool, cond, not, ◌&&◌, ◌||◌, List, [], ◌∷◌, eqb, leb, ltb, length, get_or, replicate}
 use Rattle.std.proofs.Math.Path.{refl}
 use Rattle.std.proofs.Common.{sym, ap, ◌∙◌, true≢false, arith, leb-true, ltb-true}
 use Rattle.std.proofs.Math.Bool.{true, false}
 use Rattle.std.proofs.lemmas.Bool.{false≢true}
-use Rattle.std.proofs.Math.Option.{Option, none, some}
 use Prim.Native.Nat.{ℕ, suc, ◌+◌, ◌*◌, ◌-◌, ◌/◌, ◌≤◌, ◌<◌}
 use Rattle.std.proofs.Math.ListN.{length-replicate}
 use Rattle.words.specs.laws.Lists.{every_at}
@@ -141,11 +140,11 @@ module _ (G : Function) (leaders : List ℕ) (N : Removing G leaders) where
   Reach p = (p ≤ n) × (p < n → Marked marks p)
 
   -- rows that were found make an analysis
-  pub analysed : (rows : List Row) → live_rows S leaders useful code ≡ some rows → Analysed S leaders useful code rows
+  pub analysed : (rows : List Row) → live_rows S leaders useful code ≡ Some rows → Analysed S leaders useful code rows
   unfolding live_rows
   analysed rows e = go (eqb (set_words S.locals) 0) (leb (set_words S.locals * block_count leaders) max_set_words) e
     where
-      found : solve_in S n leaders useful (max_liveness_work / (set_words S.locals * block_count leaders)) code (replicate (block_count leaders) (no_row S n leaders useful)) ≡ some rows
+      found : solve_in S n leaders useful (max_liveness_work / (set_words S.locals * block_count leaders)) code (replicate (block_count leaders) (no_row S n leaders useful)) ≡ Some rows
           → Analysed S leaders useful code rows
       found f = record {
         long = N.long;
@@ -160,13 +159,13 @@ module _ (G : Function) (leaders : List ℕ) (N : Removing G leaders) where
       }
 
       go : (a b : Bool)
-          → cond a none (cond b (solve_in S n leaders useful (max_liveness_work / (set_words S.locals * block_count leaders)) code (replicate (block_count leaders) (no_row S n leaders useful))) none) ≡ some rows
+          → cond a None (cond b (solve_in S n leaders useful (max_liveness_work / (set_words S.locals * block_count leaders)) code (replicate (block_count leaders) (no_row S n leaders useful))) None) ≡ Some rows
           → Analysed S leaders useful code rows
       go true b e = let z : ◌≡◌ {A = ℕ} 0 1 = cc in absurd (omega arith)
       go false true e = found e
       go false false e = let z : ◌≡◌ {A = ℕ} 0 1 = cc in absurd (omega arith)
 
-  module _ (rows : List Row) (found : live_rows S leaders useful code ≡ some rows) where
+  module _ (rows : List Row) (found : live_rows S leaders useful code ≡ Some rows) where
     abbrev A : Analysed S leaders useful code rows
     A = analysed rows found
 
@@ -277,8 +276,8 @@ module _ (G : Function) (leaders : List ℕ) (N : Removing G leaders) where
     where
       go : (o : Option (List Row)) → live_rows S leaders useful code ≡ o
           → (live : ℕ → ℕ → Type 0) × Removable G (jump_rounds 16 (anchors marks code) code (without_dead S leaders useful code o)) Reach live
-      go none e = (_, plain_removable G leaders N)
-      go (some rows) e = (_, live_removable rows e)
+      go None e = (_, plain_removable G leaders N)
+      go (Some rows) e = (_, live_removable rows e)
 
   -- the places that the pass keeps, relocated, run as all of them do
   pub kept_visits : SameVisits (program_of G) (program_of (result_function S kept)) (noted_at (places_of kept))

@@ -1,12 +1,11 @@
 -- The numbered function runs as the given one: in lock step, with all slots equal.
 -- Assumes nothing.
-use Rattle.std.specs.Prelude.{◌≡◌, Bool, eqb, length, get_or}
+use Rattle.std.specs.Prelude.{Some, ◌≡◌, Bool, eqb, length, get_or}
 use Rattle.std.proofs.Math.Path.{refl, ap}
 use Rattle.std.proofs.Common.{sym, ◌∙◌, arith, eq-eqb}
 use Rattle.std.proofs.Math.Bool.{true, false, cond}
 use Rattle.std.proofs.lemmas.Bool.{false≢true}
 use mathlib.Core.List.{List, [], ◌∷◌}
-use Rattle.std.proofs.Math.Option.{some}
 use Prim.Native.Nat.{ℕ, zero, suc, ◌+◌, ◌≤◌, ◌<◌}
 use Rattle.std.proofs.Math.Nat.{add-zero, zero-add, suc-add, add-suc}
 use Rattle.instruction.specs.declared.Instruction.{Instruction}
@@ -83,7 +82,7 @@ pub record Numberable (F : Function) (leaders : List ℕ) : Type 0 where
   pub operands : (p : ℕ) → p < length F.cells → operand_refusal F.sections.locals F.sections.tables (cell_at F.cells p) ≡ 0
   pub fields : (p : ℕ) → p < length F.cells → Fields (cell_at F.cells p).instruction
   -- known constants are words of 64 bits
-  pub constants : (k : ℕ) (v : Atom) → constant_atom (constant_at F.sections.constants k) ≡ some v → (p : ℕ) → Below p v
+  pub constants : (k : ℕ) (v : Atom) → constant_atom (constant_at F.sections.constants k) ≡ Some v → (p : ℕ) → Below p v
   -- a block starts at each branch's target, and after each branch
   pub targets : (p : ℕ) → p < length F.cells → branches (class (cell_at F.cells p).instruction) ≡ true
       → get_or leaders (target p (cell_at F.cells p).instruction) 0 ≡ 1

@@ -2,9 +2,8 @@
 -- Assumes nothing.
 use Rattle.std.proofs.Math.Path.{◌≡◌, refl}
 use Rattle.std.proofs.Common.{sym, inl, inr}
-use Rattle.std.specs.Prelude.{◌⊎◌, Bool, ◌&&◌, List, length, get_or}
+use Rattle.std.specs.Prelude.{Option, None, Some, ◌⊎◌, Bool, ◌&&◌, List, length, get_or}
 use Rattle.std.proofs.Math.Bool.{true, false, cond, not}
-use Rattle.std.proofs.Math.Option.{Option, none, some}
 use Prim.Native.Nat.{ℕ, suc, ◌+◌, ◌*◌, ◌%◌, ◌^◌, ◌<◌, ◌≤◌}
 use native.Mathlib.Omega.{arith}
 use Rattle.std.proofs.Math.Dec.{eqb}
@@ -43,8 +42,8 @@ unfolding representative
 stands types t s = go (lowest_slot types t (value_of t s) (get_or types s 0)) refl
   where
     go : (o : Option ℕ) → lowest_slot types t (value_of t s) (get_or types s 0) ≡ o → value_of t (or_itself s o) ≡ value_of t s
-    go none e = unfold or_itself in refl
-    go (some r) e = unfold or_itself in (lowest_found t (value_of t s) (get_or types s 0) types r e).0
+    go None e = unfold or_itself in refl
+    go (Some r) e = unfold or_itself in (lowest_found t (value_of t s) (get_or types s 0) types r e).0
 
 -- and is a slot of the function
 stands_inside : (types : List ℕ) (t : Values) (s : ℕ) {width : ℕ} → length types ≤ width → s < width → representative types t s < width
@@ -52,8 +51,8 @@ unfolding representative
 stands_inside types t s {width} typed l = go (lowest_slot types t (value_of t s) (get_or types s 0)) refl
   where
     go : (o : Option ℕ) → lowest_slot types t (value_of t s) (get_or types s 0) ≡ o → or_itself s o < width
-    go none e = unfold or_itself in l
-    go (some r) e = unfold or_itself in (omega (arith, (lowest_found t (value_of t s) (get_or types s 0) types r e).1))
+    go None e = unfold or_itself in l
+    go (Some r) e = unfold or_itself in (omega (arith, (lowest_found t (value_of t s) (get_or types s 0) types r e).1))
 
 store_valid : {W : World} {ρ : Valuation} {t : Values} {σ : Words} (a : ℕ) (v : Atom) (w : ℕ) → Valid W ρ t σ → word_of ρ v ≡ w
     → Valid W ρ (store t a v) (put (one_slot a) (λ s. w) σ)
@@ -111,18 +110,18 @@ module _ (F : Function) (W : World) (p : ℕ) (σ : Words) (R : List Event) wher
     -- folded, equal to an earlier expression, or fresh
     module _ (j : Instruction) (e : Expression) (a= : j.a ≡ i.a) (s : is_single (class i) ≡ true) (replaced : Justified S t i j)
         (word : (ρ : Valuation) → Valid W ρ t σ → gave F W p σ R (class i) x ≡ word_of_expression W ρ e) (below : BelowBoth p e)
-        (equals : (v : Atom) → expression_in t.expressions e ≡ some v → Stores S t i v) where
+        (equals : (v : Atom) → expression_in t.expressions e ≡ Some v → Stores S t i v) where
       copy_sound : (v : Atom) → Stores S t i v → (o : Option ℕ) → lowest_slot S.types t v (get_or S.types j.a 0) ≡ o → Justified S t i (copy_or_stay S j o)
       unfolding copy_or_stay
-      copy_sound v st none q = replaced
-      copy_sound v st (some r) q =
+      copy_sound v st None q = replaced
+      copy_sound v st (Some r) q =
           let c = lowest_found t v (get_or S.types j.a 0) S.types r q in
           rw a= (copied s st c.0 (omega (arith, c.1)))
 
       copy_a : (o : Option ℕ) → (copy_or_stay S j o).a ≡ i.a
       unfolding copy_or_stay
-      copy_a none = a=
-      copy_a (some r) = a=
+      copy_a None = a=
+      copy_a (Some r) = a=
 
       folded_sound : (v : ℕ) → Stores S t i (Integer v) → v < 2 ^ 64 → Justified S t i (folded S (held_or_stays S) j t v)
       unfolding folded copiedOf
@@ -142,7 +141,7 @@ module _ (F : Function) (W : World) (p : ℕ) (σ : Words) (R : List Event) wher
 
       expression_sound : (o : Option Atom) → expression_in t.expressions e ≡ o → Sound (by_expression S p j t e o)
       unfolding by_expression stored copiedOf
-      expression_sound (some v) q =
+      expression_sound (Some v) q =
           let st : Stores S t i v = equals v q in
           let a : (copy_or_stay S j (lowest_slot S.types t v (get_or S.types j.a 0))).a ≡ i.a = copy_a (lowest_slot S.types t v (get_or S.types j.a 0)) in
           record {
@@ -150,7 +149,7 @@ module _ (F : Function) (W : World) (p : ℕ) (σ : Words) (R : List Event) wher
             static = rw a (told_static v (Q.expression< e v q).0);
             after = λ ρ H. rw a (told v s st ρ H);
           }
-      expression_sound none q =
+      expression_sound None q =
           let w : ℕ = gave F W p σ R (class i) x in
           let n : p < suc p = omega arith in
           record {
@@ -162,16 +161,16 @@ module _ (F : Function) (W : World) (p : ℕ) (σ : Words) (R : List Event) wher
                 (store_valid i.a (Definition p i.a) w (valid_learn e i.a w early Q H below (sym (word ρ H))) (word_new ρ p i.a w early)));
           }
 
-      value_sound : (o : Option ℕ) → ((v : ℕ) → o ≡ some v → Stores S t i (Integer v) × (v < 2 ^ 64)) → Sound (by_value S p j t e o)
+      value_sound : (o : Option ℕ) → ((v : ℕ) → o ≡ Some v → Stores S t i (Integer v) × (v < 2 ^ 64)) → Sound (by_value S p j t e o)
       unfolding by_value_with stored
-      value_sound (some v) folds =
+      value_sound (Some v) folds =
           let f = folds v refl in
           record {
             justified = folded_sound v f.0 f.1;
             static = rw (folded_a v) (told_static (Integer v) (integer f.1));
             after = λ ρ H. rw (folded_a v) (told (Integer v) s f.0 ρ H);
           }
-      value_sound none folds = expression_sound (expression_in t.expressions e) refl
+      value_sound None folds = expression_sound (expression_in t.expressions e) refl
 
     -- ---- class by class
 
@@ -182,24 +181,24 @@ module _ (F : Function) (W : World) (p : ℕ) (σ : Words) (R : List Event) wher
     int_inside v u q (before l) = let z : ◌≡◌ {A = ℕ} 0 1 = cc in absurd (omega arith)
 
     -- what a fold tells
-    fold_one_lem : (e : Expression) (u : Atom) (v : ℕ) → fold_unary e u ≡ some v
+    fold_one_lem : (e : Expression) (u : Atom) (v : ℕ) → fold_unary e u ≡ Some v
         → (y : ℕ) × (u ≡ Integer y) × (is_in e.opcode folding_unary ≡ true) × (fold_word e.opcode e.flags y 0 ≡ v)
     unfolding fold_unary
     fold_one_lem e (Integer y) v q = go (is_in e.opcode folding_unary) refl q
       where
-        go : (b : Bool) → is_in e.opcode folding_unary ≡ b → cond b (some (fold_word e.opcode e.flags y 0)) none ≡ some v
+        go : (b : Bool) → is_in e.opcode folding_unary ≡ b → cond b (Some (fold_word e.opcode e.flags y 0)) None ≡ Some v
             → (z : ℕ) × (Integer y ≡ Integer z) × (is_in e.opcode folding_unary ≡ true) × (fold_word e.opcode e.flags z 0 ≡ v)
         go true b q = (y, refl, b, cc)
         go false b q = let z : ◌≡◌ {A = ℕ} 0 1 = cc in absurd (omega arith)
     fold_one_lem e (Float y) v q = let z : ◌≡◌ {A = ℕ} 0 1 = cc in absurd (omega arith)
     fold_one_lem e (Definition q' s) v q = let z : ◌≡◌ {A = ℕ} 0 1 = cc in absurd (omega arith)
 
-    fold_two_lem : (e : Expression) (u w : Atom) (v : ℕ) → fold_binary e u w ≡ some v
+    fold_two_lem : (e : Expression) (u w : Atom) (v : ℕ) → fold_binary e u w ≡ Some v
         → (y z : ℕ) × (u ≡ Integer y) × (w ≡ Integer z) × (is_in e.opcode folding_binary ≡ true) × (fold_word e.opcode e.flags y z ≡ v)
     unfolding fold_binary
     fold_two_lem e (Integer y) (Integer z) v q = go (is_in e.opcode folding_binary) refl q
       where
-        go : (b : Bool) → is_in e.opcode folding_binary ≡ b → cond b (some (fold_word e.opcode e.flags y z)) none ≡ some v
+        go : (b : Bool) → is_in e.opcode folding_binary ≡ b → cond b (Some (fold_word e.opcode e.flags y z)) None ≡ Some v
             → (a c : ℕ) × (Integer y ≡ Integer a) × (Integer z ≡ Integer c) × (is_in e.opcode folding_binary ≡ true) × (fold_word e.opcode e.flags a c ≡ v)
         go true b q = (y, z, refl, refl, b, cc)
         go false b q = let z : ◌≡◌ {A = ℕ} 0 1 = cc in absurd (omega arith)
@@ -260,16 +259,16 @@ module _ (F : Function) (W : World) (p : ℕ) (σ : Words) (R : List Event) wher
           after = λ ρ H. told (Integer (imm32 i)) (rw c refl) (loads c) ρ H;
         }
 
-    constant_sound : class i ≡ LoadConst → ((v : Atom) → constant_atom (constant_at S.constants i.b) ≡ some v → Below p v)
+    constant_sound : class i ≡ LoadConst → ((v : Atom) → constant_atom (constant_at S.constants i.b) ≡ Some v → Below p v)
         → Sound (number_constant S i t (constant_atom (constant_at S.constants i.b)))
     unfolding number_of
     constant_sound c small = go (constant_atom (constant_at S.constants i.b)) refl
       where
         go : (o : Option Atom) → constant_atom (constant_at S.constants i.b) ≡ o → Sound (number_constant S i t o)
-        go (some v) q =
+        go (Some v) q =
             unfold number_constant stored in
             record { justified = stays; static = told_static v (small v q); after = λ ρ H. told v (rw c refl) (constant c q) ρ H }
-        go none q = unfold number_constant in clear_sound
+        go None q = unfold number_constant in clear_sound
 
     -- an operand that is read, of an instruction after which a block ends
     read_sound : Justified S t i (set_a i (representative S.types t i.a)) → After x t → Sound (number_read S i t)
@@ -321,7 +320,7 @@ module _ (F : Function) (W : World) (p : ℕ) (σ : Words) (R : List Event) wher
         go false e = passed_if_not c q e
 
     -- Numbering an instruction makes a justified one, and the table stays true.
-    pub number_sound : (k : Class) → class i ≡ k → Fields i → ((v : Atom) → constant_atom (constant_at S.constants i.b) ≡ some v → Below p v)
+    pub number_sound : (k : Class) → class i ≡ k → Fields i → ((v : Atom) → constant_atom (constant_at S.constants i.b) ≡ Some v → Below p v)
         → Sound (number_by S k p i t)
     unfolding number_by_with branches falls Named
     number_sound Hint c f small = clear_sound

@@ -1,13 +1,12 @@
 -- What stands for an instruction: what numbering makes of it, what relocation does, and that no plain hint is retained.
 -- Assumes nothing.
-use Rattle.std.specs.Prelude.{◌≡◌, ◌⊎◌, Bool, cond, ◌&&◌, eqb, length, get_or}
+use Rattle.std.specs.Prelude.{Option, None, Some, ◌≡◌, ◌⊎◌, Bool, cond, ◌&&◌, eqb, length, get_or}
 use Rattle.std.proofs.Math.Path.{refl}
 use Rattle.std.proofs.Common.{sym, ap, ◌∙◌, inr, true≢false}
 use Rattle.std.proofs.Math.Logic.{inl}
 use Rattle.std.proofs.Math.Bool.{true, false}
 use Rattle.std.proofs.lemmas.Bool.{false≢true}
 use mathlib.Core.List.{List, [], ◌∷◌}
-use Rattle.std.proofs.Math.Option.{Option, none, some}
 use Prim.Native.Nat.{ℕ, zero, suc, ◌+◌, ◌<◌}
 use native.Mathlib.Omega.{arith}
 use Rattle.instruction.specs.declared.Instruction.{Instruction}
@@ -70,8 +69,8 @@ module _ (S : Sections) (p : ℕ) where
   module _ (i : Instruction) (t : Values) (operator : is_operator (class i) ≡ true) where
     copied_op : (o : Option ℕ) → StandsFor i (copy_or_stay S i o)
     unfolding copy_or_stay
-    copied_op (some r) = copy operator refl
-    copied_op none = itself
+    copied_op (Some r) = copy operator refl
+    copied_op None = itself
 
     folded_op : (v : ℕ) → StandsFor i (folded S (held_or_stays S) i t v)
     unfolding folded copied
@@ -79,13 +78,13 @@ module _ (S : Sections) (p : ℕ) where
 
     expression_op : (e : Expression) (o : Option Atom) → StandsFor i (by_expression S p i t e o).instruction
     unfolding by_expression stored copied
-    expression_op e (some v) = copied_op _
-    expression_op e none = itself
+    expression_op e (Some v) = copied_op _
+    expression_op e None = itself
 
     value_op : (e : Expression) (o : Option ℕ) → StandsFor i (by_value S p i t e o).instruction
     unfolding by_value_with stored
-    value_op e (some v) = folded_op v
-    value_op e none = expression_op e (expression_in t.expressions e)
+    value_op e (Some v) = folded_op v
+    value_op e None = expression_op e (expression_in t.expressions e)
 
   abbrev Numbers : Instruction → Numbered → Type 0
   Numbers i r = StandsFor i r.instruction ⊎ (is_plain_hint r.instruction ≡ true)
@@ -99,8 +98,8 @@ module _ (S : Sections) (p : ℕ) where
 
   constant_op : (i : Instruction) (t : Values) (o : Option Atom) → Numbers i (number_constant S i t o)
   unfolding number_constant stored
-  constant_op i t (some v) = inl itself
-  constant_op i t none = inl itself
+  constant_op i t (Some v) = inl itself
+  constant_op i t None = inl itself
 
   -- an instruction that may stand for the given one, or a plain hint for a conditional jump
   pub number_op : (k : Class) (i : Instruction) (t : Values) → class i ≡ k → Numbers i (number_by S k p i t)
@@ -126,8 +125,8 @@ module _ (S : Sections) (p : ℕ) where
 module _ (S : Sections) (leaders marks : List ℕ) (code : List Cell) where
   dead_fewer : (keep : List ℕ) (o : Option (List Row)) (p : ℕ) → p < length code → is_kept keep p ≡ false → is_kept (without_dead S leaders keep code o) p ≡ false
   unfolding without_dead
-  dead_fewer keep none p h e = e
-  dead_fewer keep (some rows) p h e = rw (stays_at S leaders keep code rows p h, e) refl
+  dead_fewer keep None p h e = e
+  dead_fewer keep (Some rows) p h e = rw (stays_at S leaders keep code rows p h, e) refl
 
   pub kept_plain : (p : ℕ) → p < length code → is_kept (kept_places S leaders marks code) p ≡ true → is_plain_hint (cell_at code p).instruction ≡ false
   unfolding kept_places dead_stores

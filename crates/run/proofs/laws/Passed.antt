@@ -1,6 +1,6 @@
 -- One pass over cells: what it returns runs as what it was given.
 -- Assumes nothing.
-use Rattle.std.specs.Prelude.{◌≡◌, refl, Bool, true, cond, not, ◌&&◌, List, ℕ, ◌+◌, ◌≤◌, ◌<◌, ltb}
+use Rattle.std.specs.Prelude.{Err, ◌≡◌, refl, Bool, true, cond, not, ◌&&◌, List, ℕ, ◌+◌, ◌≤◌, ◌<◌, ltb}
 use Rattle.std.proofs.Common.{sym, ◌∙◌, arith, ltb-true, ltb-false}
 use Rattle.std.proofs.Math.Logic.{inl, inr}
 use Rattle.std.proofs.Math.Bool.{false}
@@ -10,8 +10,9 @@ use Rattle.std.proofs.Math.ListN.{length}
 use Rattle.std.proofs.lemmas.List.{length-map}
 use Rattle.unit.specs.Result.{Retained}
 use Rattle.unit.specs.Size.{max_instructions}
-use Rattle.effects.specs.declared.Check.{Check}
-use Rattle.effects.specs.declared.Check.TheVariants.{Passed, Refused}
+use Rattle.effects.specs.Check.{Check}
+use Rattle.effects.specs.Check.{Passed}
+use Rattle.unit.specs.Refusal.{Refused}
 use Rattle.effects.specs.Shape.{Sections, Cell, cell_at}
 use Rattle.effects.specs.Check.{operand_check}
 use Rattle.flow.specs.Branch.{branch_check}
@@ -44,7 +45,7 @@ pub record Good (F : Function) (kept : List Retained) : Type 0 where
 passed_check : (c : Check) (rest : Outcome) (kept : List Retained) → checked c rest ≡ rewritten kept → (c ≡ Passed) × (rest ≡ rewritten kept)
 unfolding checked
 passed_check Passed rest kept e = (refl, e)
-passed_check (Refused k p) rest kept e = let z : ◌≡◌ {A = ℕ} 0 1 = cc in absurd (omega arith)
+passed_check (Err r) rest kept e = let z : ◌≡◌ {A = ℕ} 0 1 = cc in absurd (omega arith)
 
 -- how many instructions are worked on
 pub worked_size : (n : ℕ) → is_worked_on n ≡ true → (1 < n) × (n ≤ max_instructions)

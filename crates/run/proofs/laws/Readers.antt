@@ -2,12 +2,11 @@
 -- Assumes nothing.
 use Rattle.std.proofs.Math.Path.{◌≡◌, refl}
 use Rattle.std.proofs.Common.{sym, ap, ◌∙◌, true≢false, drop_of_length-le, drop-cons, get_or-set_same, get_or-set_other}
-use Rattle.std.specs.Prelude.{◌⊎◌, Bool, ◌&&◌, ◌||◌, eqb, leb, get_or, set, drop, replicate}
+use Rattle.std.specs.Prelude.{Some, ◌⊎◌, Bool, ◌&&◌, ◌||◌, eqb, leb, get_or, set, drop, replicate}
 use Rattle.std.proofs.Math.Logic.{inl, inr}
 use Rattle.std.proofs.Math.Bool.{true, false, cond, not}
 use Rattle.std.proofs.lemmas.Bool.{false≢true}
 use mathlib.Core.List.{List, [], ◌∷◌, ◌++◌}
-use Rattle.std.proofs.Math.Option.{some}
 use Prim.Native.Nat.{ℕ, zero, suc, ◌+◌, ◌≤◌, ◌<◌}
 use native.Mathlib.Omega.{arith}
 use Rattle.std.proofs.Math.Dec.{ltb}
@@ -216,7 +215,7 @@ module _ (G : Function) (leaders : List ℕ) (N : Removing G leaders) (kept : Li
       (place_inside r.rows ih.0 w.0 c r.before w.1 p h ih.1, λ t l b. place_reader r.rows ih.0 w.0 c r.before w.1 p h ih.1 t l b)
 
   -- all rounds
-  pub solved_inside : (k : ℕ) (rows found : List Row) → Wide S n leaders useful rows → length rows ≡ block_count leaders → Inside rows → solve_in S n leaders useful k code rows ≡ some found → Inside found
+  pub solved_inside : (k : ℕ) (rows found : List Row) → Wide S n leaders useful rows → length rows ≡ block_count leaders → Inside rows → solve_in S n leaders useful k code rows ≡ Some found → Inside found
   unfolding solve_in
   solved_inside zero rows found w c I e = let z : ◌≡◌ {A = ℕ} 0 1 = cc in absurd (omega arith)
   solved_inside (suc k) rows found w c I e =
@@ -224,8 +223,8 @@ module _ (G : Function) (leaders : List ℕ) (N : Removing G leaders) (kept : Li
       let inside : Inside next = (round_inside rows w c I n 0 (omega arith)).0 in
       go (same_rows rows next) e inside (solved_inside k next found (round_wide S n leaders useful 0 code rows w).0 (rows_long S n leaders useful 0 code rows ∙ c) inside)
     where
-      go : (t : Bool) → cond t (some (round_from S n leaders useful 0 code rows).rows) (solve_in S n leaders useful k code (round_from S n leaders useful 0 code rows).rows) ≡ some found
-          → Inside (round_from S n leaders useful 0 code rows).rows → (solve_in S n leaders useful k code (round_from S n leaders useful 0 code rows).rows ≡ some found → Inside found) → Inside found
+      go : (t : Bool) → cond t (Some (round_from S n leaders useful 0 code rows).rows) (solve_in S n leaders useful k code (round_from S n leaders useful 0 code rows).rows) ≡ Some found
+          → Inside (round_from S n leaders useful 0 code rows).rows → (solve_in S n leaders useful k code (round_from S n leaders useful 0 code rows).rows ≡ Some found → Inside found) → Inside found
       go true e i ih = let f : (round_from S n leaders useful 0 code rows).rows ≡ found = cc in rw (← f) i
       go false e i ih = ih e
 
@@ -327,7 +326,7 @@ module _ (G : Function) (leaders : List ℕ) (N : Removing G leaders) (kept : Li
         -- what is live in the sweep has a reader
         pub before_reader : (d p t : ℕ) → p + d ≡ n → t < S.locals → bit (liveAt S leaders useful code rows p) t ≡ true → ReaderOf t false p
         unfolding flow
-        before_reader zero p t e l b = let none : liveAt S leaders useful code rows p ≡ [] = at_end S leaders useful code rows A p (omega arith) in absurd (false≢true (rw none at b))
+        before_reader zero p t e l b = let nothing : liveAt S leaders useful code rows p ≡ [] = at_end S leaders useful code rows A p (omega arith) in absurd (false≢true (rw nothing at b))
         before_reader (suc d) p t e l b =
             let h : p < n = omega arith in
             place h (λ w a. after_reader rows I p t false (liveAt S leaders useful code rows (suc p)) h l w (λ q c. before_reader d (suc p) t (omega arith) l c) a)

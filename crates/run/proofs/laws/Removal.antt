@@ -1,10 +1,9 @@
 -- Removal: places that are not kept go, and the kept ones are moved to the number of kept places before them.
 use Rattle.std.proofs.Math.Path.{◌≡◌, refl, sym, ap, subst}
 use Rattle.std.proofs.Common.{◌∙◌, lt-ltb}
-use Rattle.std.specs.Prelude.{◌⊎◌, Bool, true, cond, ◌||◌, List, [], ◌∷◌, ℕ, ◌-◌, ◌≤◌, ◌<◌}
+use Rattle.std.specs.Prelude.{None, Some, ◌⊎◌, Bool, true, cond, ◌||◌, List, [], ◌∷◌, ℕ, ◌-◌, ◌≤◌, ◌<◌}
 use Rattle.std.proofs.Math.Logic.{inl, inr}
 use Rattle.std.proofs.Math.Bool.{false}
-use Rattle.std.proofs.Math.Option.{none, some}
 use native.Mathlib.Omega.{arith}
 use Rattle.run.specs.System.{Same}
 use Rattle.run.specs.laws.Simulation.{NotedSim, noted_simulated}
@@ -133,7 +132,7 @@ module _ (I : ℕ → Words → Type 0) (live : ℕ → ℕ → Type 0) (bnd : �
 
   abbrev Moves : State → State → Type 0
   Moves x y =
-      ((way_of P' y ≡ none) × (visit f' y ≡ visit f x) × Related (step W P x) (step W P' y))
+      ((way_of P' y ≡ None) × (visit f' y ≡ visit f x) × Related (step W P x) (step W P' y))
       ⊎ ((visit f x ≡ []) × Related (step W P x) y × (left (step W P x) < left x))
 
   move_at : (p : ℕ) (σ σ' : Words) (R : List Event) → p < P.size → Holds I (step W P (at p σ R)) → Agree (live p) σ σ'
@@ -153,7 +152,7 @@ module _ (I : ℕ → Words → Type 0) (live : ℕ → ℕ → Type 0) (bnd : �
         rw (step_in P p σ R h) (gone_less p σ N R w.0 w.1 (rw (step_in P p σ R h) at i) h),
       )
 
-  rel_move : (x y : State) → Related x y → way_of P x ≡ none → Moves x y
+  rel_move : (x y : State) → Related x y → way_of P x ≡ None → Moves x y
   unfolding way_of
   rel_move x y (held {p = p} {σ = σ} {R = R} i, on {σ' = σ'} ag) e =
       let h = lt_of_way P p σ R e in move_at p σ σ' R h (G.invariant.keeps p σ R h i) ag (G.place p σ h i)
@@ -164,7 +163,7 @@ module _ (I : ℕ → Words → Type 0) (live : ℕ → ℕ → Type 0) (bnd : �
   rel_log x y (h, on ag) = refl
   rel_log x y (h, off) = refl
 
-  rel_end : (x y : State) (w : Way) → Related x y → way_of P x ≡ some w → way_of P' y ≡ some w
+  rel_end : (x y : State) (w : Way) → Related x y → way_of P x ≡ Some w → way_of P' y ≡ Some w
   unfolding way_of
   rel_end x y w (held {p = p} {σ = σ} {R = R} i, on {σ' = σ'} ag) e =
       let le = le_of_way P p σ R w e in

@@ -3,10 +3,9 @@
 -- Assumes nothing.
 use Rattle.std.proofs.Math.Path.{◌≡◌, refl, ap₂}
 use Rattle.std.proofs.Common.{sym, ap, ◌∙◌, arith, eqb-true, eq-eqb, ne_eqb}
-use Rattle.std.specs.Prelude.{Bool, ◌&&◌, ℕ, suc, ◌^◌, ◌<◌, eqb}
+use Rattle.std.specs.Prelude.{Some, Bool, ◌&&◌, ℕ, suc, ◌^◌, ◌<◌, eqb}
 use Rattle.std.proofs.Math.Bool.{true, false, cond}
 use Rattle.std.proofs.lemmas.Bool.{false≢true}
-use Rattle.std.proofs.Math.Option.{some}
 use Rattle.instruction.specs.declared.Class.{Class}
 use Rattle.instruction.specs.declared.Class.TheVariants.{Hint, LoadInt, LoadConst, Copy, CopyN, Unary, Binary, Jump, JumpIf, JumpIfNot, ForLoop, Return, Panic, Outside, Invalid}
 use Rattle.instruction.specs.Class.{class_of}
@@ -112,12 +111,12 @@ word_new ρ p s w h = rw (ne_eqb p at_start (λ e. omega arith), eq-eqb p p refl
 -- What holds of the table before place p whatever the slots hold: it names no later definition.
 pub record Static (t : Values) (p : ℕ) : Type 0 where
   pub slot< : (s : ℕ) → Below p (value_of t s)
-  pub expression< : (e : Expression) (v : Atom) → expression_in t.expressions e ≡ some v → Below p v × BelowBoth p e
+  pub expression< : (e : Expression) (v : Atom) → expression_in t.expressions e ≡ Some v → Below p v × BelowBoth p e
 
 -- It is true of the words of the slots.
 pub record Valid (W : World) (ρ : Valuation) (t : Values) (σ : Words) : Type 0 where
   pub slot= : (s : ℕ) → word_of ρ (value_of t s) ≡ σ s
-  pub expression= : (e : Expression) (v : Atom) → expression_in t.expressions e ≡ some v → word_of ρ v ≡ word_of_expression W ρ e
+  pub expression= : (e : Expression) (v : Atom) → expression_in t.expressions e ≡ Some v → word_of ρ v ≡ word_of_expression W ρ e
 
 pub static_empty : (p : ℕ) → Static empty p
 unfolding value_in expression_in
@@ -143,7 +142,7 @@ pub static_learn : {t : Values} {p : ℕ} (e : Expression) (a : ℕ) → Static 
 unfolding learn expression_in
 static_learn {t} {p} e a h be = record { slot< = λ s. below_suc (h.slot< s); expression< = λ d v m. go d v (same_expression e d) refl m }
   where
-    go : (d : Expression) (v : Atom) (u : Bool) → same_expression e d ≡ u → cond u (some (Definition p a)) (expression_in t.expressions d) ≡ some v
+    go : (d : Expression) (v : Atom) (u : Bool) → same_expression e d ≡ u → cond u (Some (Definition p a)) (expression_in t.expressions d) ≡ Some v
         → Below (suc p) v × BelowBoth (suc p) d
     go d v true i m =
         let d= : e ≡ d = same_expression_lem e d i in
@@ -183,7 +182,7 @@ module _ {W : World} where
       old_expression : (d : Expression) → BelowBoth p d → word_of_expression W (define ρ p w) d ≡ word_of_expression W ρ d
       old_expression d b = ap₂ (λ (x y : ℕ). expression_word (class_of d.opcode) W d.opcode d.flags x y) (word_old ρ w b.left) (word_old ρ w b.right)
 
-      eq : (d : Expression) (v : Atom) (u : Bool) → same_expression e d ≡ u → cond u (some (Definition p a)) (expression_in t.expressions d) ≡ some v
+      eq : (d : Expression) (v : Atom) (u : Bool) → same_expression e d ≡ u → cond u (Some (Definition p a)) (expression_in t.expressions d) ≡ Some v
           → word_of (define ρ p w) v ≡ word_of_expression W (define ρ p w) d
       eq d v true i m =
           let d= : e ≡ d = same_expression_lem e d i in

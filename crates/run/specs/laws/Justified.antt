@@ -2,9 +2,8 @@
 -- apart from how a pass finds such instructions.
 -- Assumes nothing.
 use Rattle.std.proofs.Math.Path.{◌≡◌}
-use Rattle.std.specs.Prelude.{◌⊎◌, ℕ, ◌%◌, ◌^◌, ◌<◌, eqb}
+use Rattle.std.specs.Prelude.{Some, ◌⊎◌, ℕ, ◌%◌, ◌^◌, ◌<◌, eqb}
 use Rattle.std.proofs.Math.Bool.{true, false}
-use Rattle.std.proofs.Math.Option.{some}
 use Rattle.words.specs.Lists.{is_in}
 use Rattle.instruction.specs.Opcode as op
 use Rattle.instruction.specs.declared.Instruction.{Instruction}
@@ -29,13 +28,13 @@ binary_expression i v w = record { opcode = i.op; flags = i.flags; left = v; rig
 -- The value that an instruction gives its destination, as far as a table of values tells.
 pub data Stores (S : Sections) (t : Values) (i : Instruction) : Atom → Type 0 where
   loads : class i ≡ LoadInt → Stores S t i (Integer (imm32 i))
-  constant : {v : Atom} → class i ≡ LoadConst → constant_atom (constant_at S.constants i.b) ≡ some v → Stores S t i v
+  constant : {v : Atom} → class i ≡ LoadConst → constant_atom (constant_at S.constants i.b) ≡ Some v → Stores S t i v
   copies : class i ≡ Copy → Stores S t i (value_of t i.b)
   folds_one : {x : ℕ} → class i ≡ Unary → is_in i.op folding_unary ≡ true → value_of t i.b ≡ Integer x → Stores S t i (Integer (fold_word i.op i.flags x 0))
   folds_two : {x y : ℕ} → class i ≡ Binary → is_in i.op folding_binary ≡ true → value_of t i.b ≡ Integer x → value_of t i.c ≡ Integer y
       → Stores S t i (Integer (fold_word i.op i.flags x y))
-  equals_one : {v : Atom} → class i ≡ Unary → expression_in t.expressions (unary_expression i (value_of t i.b)) ≡ some v → Stores S t i v
-  equals_two : {v : Atom} → class i ≡ Binary → expression_in t.expressions (binary_expression i (value_of t i.b) (value_of t i.c)) ≡ some v → Stores S t i v
+  equals_one : {v : Atom} → class i ≡ Unary → expression_in t.expressions (unary_expression i (value_of t i.b)) ≡ Some v → Stores S t i v
+  equals_two : {v : Atom} → class i ≡ Binary → expression_in t.expressions (binary_expression i (value_of t i.b) (value_of t i.c)) ≡ Some v → Stores S t i v
 
 -- What may stand for instruction i where the table is true.
 pub data Justified (S : Sections) (t : Values) (i : Instruction) : Instruction → Type 0 where

@@ -1,11 +1,10 @@
 -- Bits of joined rows, and that every row that is found has a bit for each slot.
 -- Assumes nothing.
 use Rattle.std.proofs.Math.Path.{◌≡◌}
-use Rattle.std.specs.Prelude.{refl, Bool, ◌||◌, List, get_or}
+use Rattle.std.specs.Prelude.{Some, refl, Bool, ◌||◌, List, get_or}
 use Rattle.std.proofs.Common.{◌∙◌, arith}
 use Rattle.std.proofs.Math.Bool.{true, false, cond}
 use Rattle.std.proofs.lemmas.Bool.{false≢true}
-use Rattle.std.proofs.Math.Option.{some}
 use Prim.Native.Nat.{ℕ, zero, suc}
 use Rattle.effects.specs.Shape.{Sections, Cell}
 use Rattle.flow.specs.Block.{block_of}
@@ -31,13 +30,13 @@ module _ (S : Sections) (n : ℕ) (leaders keep : List ℕ) where
       ∙ or_right (bit (get_or rows (block_of leaders t) (no_row S n leaders keep)) s) (bit (joined S n leaders keep rows l) s) (joined_bit rows s i e)
 
   -- all rounds keep rows wide
-  pub solve_wide : (k : ℕ) (cells : List Cell) (rows found : List Row) → Wide S n leaders keep rows → solve_in S n leaders keep k cells rows ≡ some found → Wide S n leaders keep found
+  pub solve_wide : (k : ℕ) (cells : List Cell) (rows found : List Row) → Wide S n leaders keep rows → solve_in S n leaders keep k cells rows ≡ Some found → Wide S n leaders keep found
   unfolding solve_in
   solve_wide zero cells rows found w e = let z : ◌≡◌ {A = ℕ} 0 1 = cc in absurd (omega arith)
   solve_wide (suc k) cells rows found w e =
       go (same_rows rows (round_from S n leaders keep 0 cells rows).rows) e (solve_wide k cells (round_from S n leaders keep 0 cells rows).rows found (round_wide S n leaders keep 0 cells rows w).0)
     where
-      go : (t : Bool) → cond t (some (round_from S n leaders keep 0 cells rows).rows) (solve_in S n leaders keep k cells (round_from S n leaders keep 0 cells rows).rows) ≡ some found
-          → (solve_in S n leaders keep k cells (round_from S n leaders keep 0 cells rows).rows ≡ some found → Wide S n leaders keep found) → Wide S n leaders keep found
+      go : (t : Bool) → cond t (Some (round_from S n leaders keep 0 cells rows).rows) (solve_in S n leaders keep k cells (round_from S n leaders keep 0 cells rows).rows) ≡ Some found
+          → (solve_in S n leaders keep k cells (round_from S n leaders keep 0 cells rows).rows ≡ Some found → Wide S n leaders keep found) → Wide S n leaders keep found
       go true e ih = let f : (round_from S n leaders keep 0 cells rows).rows ≡ found = cc in rw (← f) (round_wide S n leaders keep 0 cells rows w).0
       go false e ih = ih e

@@ -2,9 +2,8 @@
 -- Assumes nothing.
 use Rattle.std.proofs.Math.Path.{◌≡◌, refl, sym, ap}
 use Rattle.std.proofs.Common.{◌∙◌, le_refl, not-suc-le-zero, arith}
-use Rattle.std.specs.Prelude.{◌⊎◌, List, []}
+use Rattle.std.specs.Prelude.{Option, None, Some, ◌⊎◌, List, []}
 use Rattle.std.proofs.Math.Logic.{inl, inr}
-use Rattle.std.proofs.Math.Option.{Option, none, some}
 use Prim.Native.Nat.{ℕ, zero, suc, ◌+◌, ◌≤◌, ◌<◌, zero-le, suc-le-suc}
 use Rattle.std.proofs.Math.Nat.{le_step, zero-add, suc-add}
 use Rattle.run.specs.System.{System, after, Same}
@@ -17,12 +16,12 @@ module _ {R W : Type 0} where
     pub rel : S.State → S'.State → Type 0
     pub size : S.State → ℕ
     pub log= : (x : S.State) (y : S'.State) → rel x y → S'.log y ≡ S.log x
-    pub end= : (x : S.State) (y : S'.State) (w : W) → rel x y → S.way x ≡ some w → S'.way y ≡ some w
-    pub move : (x : S.State) (y : S'.State) → rel x y → S.way x ≡ none
-        → ((S'.way y ≡ none) × Both x y × rel (S.next x) (S'.next y)) ⊎ (Alone x × rel (S.next x) y × (size (S.next x) < size x))
+    pub end= : (x : S.State) (y : S'.State) (w : W) → rel x y → S.way x ≡ Some w → S'.way y ≡ Some w
+    pub move : (x : S.State) (y : S'.State) → rel x y → S.way x ≡ None
+        → ((S'.way y ≡ None) × Both x y × rel (S.next x) (S'.next y)) ⊎ (Alone x × rel (S.next x) y × (size (S.next x) < size x))
 
   -- an ended state is the same for ever
-  pub after_stays : (T : System R W) (k : ℕ) (x : T.State) (w : W) → T.way x ≡ some w → after T k x ≡ x
+  pub after_stays : (T : System R W) (k : ℕ) (x : T.State) (w : W) → T.way x ≡ Some w → after T k x ≡ x
   unfolding after
   after_stays T zero x w e = refl
   after_stays T (suc k) x w e = ap (after T k) (T.stays x w e) ∙ after_stays T k x w e
@@ -48,30 +47,30 @@ module _ {R W : Type 0} where
     forward (suc k) x y r = go (forward k) (S.way x) refl
       where
         go : ((x₁ : S.State) (y₁ : S'.State) → rel x₁ y₁ → Ahead k x₁ y₁) → (o : Option W) → S.way x ≡ o → Ahead (suc k) x y
-        go ih none e = elim (move x y r e) [ inl m ↦ ahead_both k x y (ih _ _ m.2) | inr m ↦ ahead_alone k x y (ih _ _ m.1) ]
-        go ih (some w) e = ahead_alone k x y (ih (S.next x) y (rw (S.stays x w e) r))
+        go ih None e = elim (move x y r e) [ inl m ↦ ahead_both k x y (ih _ _ m.2) | inr m ↦ ahead_alone k x y (ih _ _ m.1) ]
+        go ih (Some w) e = ahead_alone k x y (ih (S.next x) y (rw (S.stays x w e) r))
 
     -- where the returned run has ended, the given one gets to its end by steps that it takes alone
     abbrev Settled : S.State → S'.State → W → Type 0
-    Settled x y w = (k : ℕ) × (S.way (after S k x) ≡ some w) × rel (after S k x) y
+    Settled x y w = (k : ℕ) × (S.way (after S k x) ≡ Some w) × rel (after S k x) y
 
     settled_alone : (x : S.State) (y : S'.State) (w : W) → Settled (S.next x) y w → Settled x y w
     unfolding after
     settled_alone x y w a = (suc a.0, a.1, a.2)
 
-    settle : (fuel : ℕ) (x : S.State) (y : S'.State) (w : W) → size x < fuel → rel x y → S'.way y ≡ some w → Settled x y w
+    settle : (fuel : ℕ) (x : S.State) (y : S'.State) (w : W) → size x < fuel → rel x y → S'.way y ≡ Some w → Settled x y w
     unfolding after
     settle zero x y w b r e = absurd (not-suc-le-zero b)
     settle (suc f) x y w b r e = go (settle f) (S.way x) refl
       where
-        go : ((x₁ : S.State) (y₁ : S'.State) (w₁ : W) → size x₁ < f → rel x₁ y₁ → S'.way y₁ ≡ some w₁ → Settled x₁ y₁ w₁)
+        go : ((x₁ : S.State) (y₁ : S'.State) (w₁ : W) → size x₁ < f → rel x₁ y₁ → S'.way y₁ ≡ Some w₁ → Settled x₁ y₁ w₁)
             → (o : Option W) → S.way x ≡ o → Settled x y w
-        go ih none p =
+        go ih None p =
             elim (move x y r p) [
-              | inl m ↦ let q : S'.way y ≡ none = m.0 in let z : ◌≡◌ {A = ℕ} 0 1 = cc in absurd (omega arith)
+              | inl m ↦ let q : S'.way y ≡ None = m.0 in let z : ◌≡◌ {A = ℕ} 0 1 = cc in absurd (omega arith)
               | inr m ↦ settled_alone x y w (ih (S.next x) y w (let h = m.2 in omega arith) m.1 e)
             ]
-        go ih (some v) p = let q : S'.way y ≡ some v = end= x y v r p in (zero, cc, r)
+        go ih (Some v) p = let q : S'.way y ≡ Some v = end= x y v r p in (zero, cc, r)
 
     -- one step of the returned run, by as many of the given one as it takes
     abbrev Caught : S.State → S'.State → Type 0
@@ -87,12 +86,12 @@ module _ {R W : Type 0} where
     catch (suc f) x y b r = go (catch f) (S.way x) refl
       where
         go : ((x₁ : S.State) (y₁ : S'.State) → size x₁ < f → rel x₁ y₁ → Caught x₁ y₁) → (o : Option W) → S.way x ≡ o → Caught x y
-        go ih none p =
+        go ih None p =
             elim (move x y r p) [
               | inl m ↦ (1, m.2)
               | inr m ↦ caught_alone x y (ih (S.next x) y (let h = m.2 in omega arith) m.1)
             ]
-        go ih (some v) p = (zero, rw (S'.stays y v (end= x y v r p)) r)
+        go ih (Some v) p = (zero, rw (S'.stays y v (end= x y v r p)) r)
 
     after_add : (T : System R W) (k m : ℕ) (x : T.State) → after T (k + m) x ≡ after T m (after T k x)
     unfolding after
@@ -132,8 +131,8 @@ module _ {R W : Type 0} where
     noting_log : (x : Noted S.State) (y : Noted S'.State) → Noting x y → (noting S' note').log y ≡ (noting S note).log x
     noting_log x y r = rw (M.log= x.content y.content r.0, r.1)
 
-    noting_move : (x : Noted S.State) (y : Noted S'.State) → Noting x y → S.way x.content ≡ none
-        → ((S'.way y.content ≡ none) × Unit {0} × Noting (note_step S note x) (note_step S' note' y))
+    noting_move : (x : Noted S.State) (y : Noted S'.State) → Noting x y → S.way x.content ≡ None
+        → ((S'.way y.content ≡ None) × Unit {0} × Noting (note_step S note x) (note_step S' note' y))
         ⊎ (Unit {0} × Noting (note_step S note x) y × (M.size (S.next x.content) < M.size x.content))
     unfolding noted
     noting_move x y r e =

@@ -2,10 +2,9 @@
 -- Assumes nothing.
 use Rattle.std.proofs.Math.Path.{◌≡◌, refl}
 use Rattle.std.proofs.Common.{sym, ap, ◌∙◌, arith, length-drop, drop-cons, get_or-set_same, get_or-set_other, ext_get_or, eqb-true, eq-eqb}
-use Rattle.std.specs.Prelude.{Bool, eqb, get_or, set, drop}
+use Rattle.std.specs.Prelude.{Some, Bool, eqb, get_or, set, drop}
 use Rattle.std.proofs.Math.Bool.{true, false, cond}
 use mathlib.Core.List.{List, [], ◌∷◌}
-use Rattle.std.proofs.Math.Option.{some}
 use Prim.Native.Nat.{ℕ, zero, suc, ◌+◌, ◌≤◌, ◌<◌}
 use Rattle.std.proofs.Math.Decide.{ℕ_discrete}
 use Rattle.std.proofs.Math.ListN.{length}
@@ -35,14 +34,14 @@ module _ (S : Sections) (leaders keep : List ℕ) (cells : List Cell) where
   n = length cells
 
   -- rows that are found are at rest
-  pub solved : (k : ℕ) (rows found : List Row) → solve_in S n leaders keep k cells rows ≡ some found → (round_from S n leaders keep 0 cells found).rows ≡ found
+  pub solved : (k : ℕ) (rows found : List Row) → solve_in S n leaders keep k cells rows ≡ Some found → (round_from S n leaders keep 0 cells found).rows ≡ found
   unfolding solve_in
   solved zero rows found e = let z : ◌≡◌ {A = ℕ} 0 1 = cc in absurd (omega arith)
   solved (suc k) rows found e = go (same_rows rows (round_from S n leaders keep 0 cells rows).rows) refl e (solved k (round_from S n leaders keep 0 cells rows).rows found)
     where
       go : (t : Bool) → same_rows rows (round_from S n leaders keep 0 cells rows).rows ≡ t
-          → cond t (some (round_from S n leaders keep 0 cells rows).rows) (solve_in S n leaders keep k cells (round_from S n leaders keep 0 cells rows).rows) ≡ some found
-          → (solve_in S n leaders keep k cells (round_from S n leaders keep 0 cells rows).rows ≡ some found → (round_from S n leaders keep 0 cells found).rows ≡ found)
+          → cond t (Some (round_from S n leaders keep 0 cells rows).rows) (solve_in S n leaders keep k cells (round_from S n leaders keep 0 cells rows).rows) ≡ Some found
+          → (solve_in S n leaders keep k cells (round_from S n leaders keep 0 cells rows).rows ≡ Some found → (round_from S n leaders keep 0 cells found).rows ≡ found)
           → (round_from S n leaders keep 0 cells found).rows ≡ found
       go true q r ih =
           let same : rows ≡ (round_from S n leaders keep 0 cells rows).rows = same_rows_lem rows (round_from S n leaders keep 0 cells rows).rows q in
@@ -52,13 +51,13 @@ module _ (S : Sections) (leaders keep : List ℕ) (cells : List Cell) where
       go false q r ih = ih r
 
   -- the number of rows stays over all rounds
-  pub solve_long : (k : ℕ) (rows found : List Row) → solve_in S n leaders keep k cells rows ≡ some found → length found ≡ length rows
+  pub solve_long : (k : ℕ) (rows found : List Row) → solve_in S n leaders keep k cells rows ≡ Some found → length found ≡ length rows
   unfolding solve_in
   solve_long zero rows found e = let z : ◌≡◌ {A = ℕ} 0 1 = cc in absurd (omega arith)
   solve_long (suc k) rows found e = go (same_rows rows (round_from S n leaders keep 0 cells rows).rows) e (solve_long k (round_from S n leaders keep 0 cells rows).rows found)
     where
-      go : (t : Bool) → cond t (some (round_from S n leaders keep 0 cells rows).rows) (solve_in S n leaders keep k cells (round_from S n leaders keep 0 cells rows).rows) ≡ some found
-          → (solve_in S n leaders keep k cells (round_from S n leaders keep 0 cells rows).rows ≡ some found → length found ≡ length (round_from S n leaders keep 0 cells rows).rows)
+      go : (t : Bool) → cond t (Some (round_from S n leaders keep 0 cells rows).rows) (solve_in S n leaders keep k cells (round_from S n leaders keep 0 cells rows).rows) ≡ Some found
+          → (solve_in S n leaders keep k cells (round_from S n leaders keep 0 cells rows).rows ≡ Some found → length found ≡ length (round_from S n leaders keep 0 cells rows).rows)
           → length found ≡ length rows
       go true e ih = let f : (round_from S n leaders keep 0 cells rows).rows ≡ found = cc in rw (← f) (rows_long S n leaders keep 0 cells rows)
       go false e ih = ih e ∙ rows_long S n leaders keep 0 cells rows

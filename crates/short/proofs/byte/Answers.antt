@@ -7,22 +7,19 @@ use Rattle.short.proofs.byte.Goals as goal
 
 pub returns-then-i-lt-HEADER : goal.returns-then-i-lt-HEADER
 returns-then-i-lt-HEADER c =
-    let header = c.before in
-    let a = header.args in
-    c.byte_of.ensures ∙ rw header.header_word.ensures (at_header a.n a.rank a.i header.if-i-lt-HEADER.true)
+    let a = c.args in
+    c.byte_of.ensures ∙ rw c.header_word.ensures (at_header a.n a.rank a.i c.if-i-lt-HEADER.true)
 
 pub word-requires : goal.word-requires
 word-requires c = c.digit.ensures.1
 
 pub returns-then-at-n : goal.returns-then-at-n
 returns-then-at-n c =
-    let word = c.before in
-    let digit = word.before in
-    let inside = digit.if-at-n.true in
-    let low = digit.if-i-lt-HEADER.false in
-    let a = digit.args in
+    let inside = c.if-at-n.true in
+    let low = c.if-i-lt-HEADER.false in
+    let a = c.args in
     c.byte_of-then-at-n.ensures
-    ∙ rw (word.word.ensures, digit.digit.ensures.0) (at_code a.n a.rank a.i ((a.i - header_size) / 8) low (omega arith) refl)
+    ∙ rw (c.word.ensures, c.digit.ensures.0) (at_code a.n a.rank a.i ((a.i - header_size) / 8) low (omega arith) refl)
 
 pub returns : goal.returns
 returns c =

@@ -1,33 +1,12 @@
-use mathlib.Core.Path.{◌≡◌}
-use native.Mathlib.Nat.{div-one}
-use native.Mathlib.Omega.{arith}
-use Rattle.words.specs.laws.Keys.{past}
-use Prim.Native.Nat.{zero-le}
+use mathlib.Core.Path.{◌∙◌, ap}
+use mathlib.Core.List.{List}
+use Prim.Native.Nat.{ℕ}
+use lib.ListN.{get_or}
+use Rattle.words.specs.laws.Le.{to_le_low}
+use Rattle.short.specs.laws.Digits.{byte_in}
 use Rattle.short.proofs.byte_of.Goals as goal
 
-pub returns-in_default : goal.returns-in_default
-returns-in_default c =
-    let low = past 0 7 zero-le c.in_default.in_default-own.rest in
-    let seven : c.args.i ≡ 7 = omega (arith, c.requires) in
-    rw seven
-
-pub returns-in-0 : goal.returns-in-0
-returns-in-0 c = rw (c.in-0.is, div-one)
-
-pub returns-in-1 : goal.returns-in-1
-returns-in-1 c = rw c.in-1.is
-
-pub returns-in-2 : goal.returns-in-2
-returns-in-2 c = rw c.in-2.is
-
-pub returns-in-3 : goal.returns-in-3
-returns-in-3 c = rw c.in-3.is
-
-pub returns-in-4 : goal.returns-in-4
-returns-in-4 c = rw c.in-4.is
-
-pub returns-in-5 : goal.returns-in-5
-returns-in-5 c = rw c.in-5.is
-
-pub returns-in-6 : goal.returns-in-6
-returns-in-6 c = rw c.in-6.is
+pub returns : goal.returns
+returns c =
+    let a = c.args in
+    ap (λ (l : List ℕ). get_or l a.i 0) (c.to_le_bytes.ensures ∙ to_le_low 8 a.w) ∙ byte_in 8 a.w a.i c.requires

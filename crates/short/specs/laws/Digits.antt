@@ -37,7 +37,7 @@ digit_at (suc n) r (suc p) e h = digit_at n r p e (omega arith)
 
 -- ---- numbers of w bytes each
 
-byte_in : (w v j : ℕ) → j < w → get_or (to_le w v) j 0 ≡ v / 256 ^ j % 256
+pub byte_in : (w v j : ℕ) → j < w → get_or (to_le w v) j 0 ≡ v / 256 ^ j % 256
 unfolding to_le
 byte_in zero v j h = absurd (omega arith)
 byte_in (suc w) v zero h = rw (div-one v)

@@ -1,22 +1,11 @@
 -- What holds of every unit; what is written is read back; the length of a result.
 -- Assumes nothing.
-use Rattle.std.specs.Prelude.{◌≡◌, refl, Bool, true, false, cond, List, [], ◌∷◌, ◌++◌, ℕ, ◌+◌, ◌*◌, ◌/◌, ◌%◌, ◌^◌, ◌≤◌, ◌<◌, leb, ltb, length, get_or}
-use Rattle.std.proofs.Common.{sym, ap, ◌∙◌, add-zero, mul-zero, mul-suc, arith, length-append, eqb-true, leb-true, lt-ltb, le-ltb}
-use Rattle.words.specs.laws.Inside.{get_inside, mid_inside}
-use Rattle.words.specs.Le.{to_le}
-use Rattle.words.specs.laws.Le.{from_to}
-use Rattle.words.specs.laws.Lists.{every_at}
-use Rattle.words.specs.laws.Regions.{mid_long}
+use Rattle.std.specs.Prelude.{◌≡◌, true, List, ℕ, leb, length}
+use Rattle.std.proofs.Common.{eqb-true, leb-true}
 use Rattle.words.specs.laws.Truth.{both}
-use Rattle.unit.specs.Entry.{metadata_at, metadata_bytes, line_bytes, good_metadata, type_at, good_type, good_constant, case_at, good_case}
-use Rattle.unit.specs.Layout.{header_of, sections_follow, good_counts, good_entries, has_sections, is_unit, lines_rise, wide_select, after_lines, after_unit, layout_of, code_of, metadata_of, types_of, constants_of, functions_of, externs_of, cases_of, lines_of}
-use Rattle.unit.specs.Refusal.{not_unit, line_places, too_many_cases}
-use Rattle.unit.specs.Result.{Retained, result_header, code_bytes, metadata_bytes_all, place_bytes, line_bytes_all, result_bytes}
-use Rattle.unit.specs.Size.{header_size, instruction_size, metadata_size, constant_size, function_size, extern_size, case_size, line_size, max_local_slots, result_header_size, result_size}
+use Rattle.unit.specs.Layout.{header_of, sections_follow, good_counts, good_entries, has_sections, is_unit}
+use Rattle.unit.specs.Size.{header_size}
 use Rattle.unit.specs.declared.Header.{Header}
-use Rattle.unit.specs.declared.Layout.TheVariants.{Unit, Refused}
-use Rattle.unit.specs.declared.Line.{Line}
-use Rattle.unit.specs.declared.Metadata.{Metadata}
 use Rattle.unit.specs.laws.UnitLaws.{Sections, WellFormed, Within, entries, has_counts, has_header, lengths, passed, within}
 
 pub sections_follow_lem : (h : Header) (size : ℕ) → sections_follow h size ≡ true → Sections h size

@@ -1,7 +1,7 @@
 -- What holds of every unit; what is written is read back; the length of a result.
 -- Assumes nothing.
-use Rattle.std.specs.Prelude.{◌≡◌, refl, Bool, true, false, cond, List, [], ◌∷◌, ◌++◌, ℕ, ◌+◌, ◌*◌, ◌/◌, ◌%◌, ◌^◌, ◌≤◌, ◌<◌, leb, ltb, length, get_or}
-use Rattle.std.proofs.Common.{sym, ap, ◌∙◌, add-zero, mul-zero, mul-suc, arith, length-append, eqb-true, leb-true, lt-ltb, le-ltb}
+use Rattle.std.specs.Prelude.{Ok, ◌≡◌, refl, Bool, true, false, cond, List, [], ◌∷◌, ◌++◌, ℕ, ◌+◌, ◌*◌, ◌/◌, ◌%◌, ◌^◌, ◌≤◌, ◌<◌, leb, ltb, length, get_or}
+use Rattle.std.proofs.Common.{sym, ap, ◌∙◌, add-zero, mul-zero, mul-suc, arith, length-append, leb-true, lt-ltb, le-ltb}
 use Rattle.words.specs.laws.Inside.{get_inside, mid_inside}
 use Rattle.words.specs.Le.{to_le}
 use Rattle.words.specs.laws.Le.{from_to}
@@ -10,11 +10,10 @@ use Rattle.words.specs.laws.Regions.{mid_long}
 use Rattle.words.specs.laws.Truth.{both}
 use Rattle.unit.specs.Entry.{metadata_at, metadata_bytes, line_bytes, good_metadata, type_at, good_type, good_constant, case_at, good_case}
 use Rattle.unit.specs.Layout.{header_of, sections_follow, good_counts, good_entries, has_sections, is_unit, lines_rise, wide_select, after_lines, after_unit, layout_of, code_of, metadata_of, types_of, constants_of, functions_of, externs_of, cases_of, lines_of}
-use Rattle.unit.specs.Refusal.{not_unit, line_places, too_many_cases}
+use Rattle.unit.specs.Refusal.{not_unit, line_places, too_many_cases, Refused}
 use Rattle.unit.specs.Result.{Retained, result_header, code_bytes, metadata_bytes_all, place_bytes, line_bytes_all, result_bytes}
 use Rattle.unit.specs.Size.{header_size, instruction_size, metadata_size, constant_size, function_size, extern_size, case_size, line_size, max_local_slots, result_header_size, result_size}
 use Rattle.unit.specs.declared.Header.{Header}
-use Rattle.unit.specs.declared.Layout.TheVariants.{Unit, Refused}
 use Rattle.unit.specs.declared.Line.{Line}
 use Rattle.unit.specs.declared.Metadata.{Metadata}
 
@@ -133,16 +132,16 @@ pub too_many_cases_lem : (u : List ℕ) → is_unit u ≡ true → lines_rise u 
 unfolding layout_of after_unit after_lines
 too_many_cases_lem u e f h = rw (e, f, lt-ltb (wide_select u) (header_of u).counts.metadata h)
 
-pub laid_out_lem : (u : List ℕ) → is_unit u ≡ true → lines_rise u ≡ true → (header_of u).counts.metadata ≤ wide_select u → layout_of u ≡ Unit (header_of u)
+pub laid_out_lem : (u : List ℕ) → is_unit u ≡ true → lines_rise u ≡ true → (header_of u).counts.metadata ≤ wide_select u → layout_of u ≡ Ok (header_of u)
 unfolding layout_of after_unit after_lines
 laid_out_lem u e f h = rw (e, f, le-ltb (wide_select u) (header_of u).counts.metadata h)
 
-pub layout_unit : (u : List ℕ) (h : Header) → layout_of u ≡ Unit h → (is_unit u ≡ true) × (h ≡ header_of u) × (lines_rise u ≡ true)
+pub layout_unit : (u : List ℕ) (h : Header) → layout_of u ≡ Ok h → (is_unit u ≡ true) × (h ≡ header_of u) × (lines_rise u ≡ true)
 unfolding layout_of after_unit after_lines
 layout_unit u h = go (is_unit u) refl (lines_rise u) refl (ltb (wide_select u) (header_of u).counts.metadata)
   where
     go : (t : Bool) → is_unit u ≡ t → (l : Bool) → lines_rise u ≡ l → (w : Bool)
-        → cond t (cond l (cond w (Refused too_many_cases (wide_select u)) (Unit (header_of u))) (Refused line_places 0)) (Refused not_unit 0) ≡ Unit h → (is_unit u ≡ true) × (h ≡ header_of u) × (lines_rise u ≡ true)
+        → cond t (cond l (cond w (Refused too_many_cases (wide_select u)) (Ok (header_of u))) (Refused line_places 0)) (Refused not_unit 0) ≡ Ok h → (is_unit u ≡ true) × (h ≡ header_of u) × (lines_rise u ≡ true)
     go true r true f true e = let z : ◌≡◌ {A = ℕ} 0 1 = cc in absurd (omega arith)
     go true r true f false e = (r, cc, f)
     go true r false f w e = let z : ◌≡◌ {A = ℕ} 0 1 = cc in absurd (omega arith)

@@ -1,25 +1,18 @@
 -- What folding two values answers: the known integer, where there is one.
 -- Assumes nothing.
-use Rattle.std.specs.Prelude.{◌≡◌, ℕ, ◌<◌, Bool, true, false, cond, nat_le, nat_lt, refl}
-use Rattle.std.proofs.Math.Option.{Option, none, some}
+use Rattle.std.specs.Prelude.{Option, None, Some, ◌≡◌, ℕ, ◌<◌, Bool, true, false, cond, nat_le, nat_lt, refl}
 use Rattle.words.specs.Lists.{is_in, every}
 use Rattle.words.specs.laws.Lists.{every_at}
 use Rattle.values.specs.Fold.{folding_binary}
 use Rattle.values.specs.Values.{Expression}
 use Rattle.values.specs.declared.Atom.{Atom}
 use Rattle.values.specs.declared.Atom.TheVariants.{Integer, Float, Definition}
-use Rattle.values.specs.declared.Folded.{Folded}
-use Rattle.values.specs.declared.Folded.TheVariants.{Word, Not}
 
 -- the known integer of a value: what folding looks at
 unfoldable pub integer_of : Atom → Option ℕ
-integer_of (Integer x) = some x
-integer_of (Float x) = none
-integer_of (Definition p s) = none
-
-unfoldable pub folded_as : Option ℕ → Folded
-folded_as (some v) = Word v
-folded_as none = Not
+integer_of (Integer x) = Some x
+integer_of (Float x) = None
+integer_of (Definition p s) = None
 
 abbrev pub expression_of : ℕ → ℕ → Atom → Atom → Expression
 expression_of o flags left right = record { opcode = o; flags = flags; left = left; right = right }

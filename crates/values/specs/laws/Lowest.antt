@@ -1,13 +1,11 @@
 -- The laws of `lowest_slot`: what is found is the lowest slot that holds the value and has the type.
 -- Assumes nothing.
-use Rattle.std.specs.Prelude.{◌≡◌, ℕ, zero, suc, ◌+◌, ◌<◌, Bool, true, false, cond, ◌&&◌, List, [], ◌∷◌, length, ◌==◌, slice_index}
+use Rattle.std.specs.Prelude.{◌≡◌, ℕ, Bool, true, ◌&&◌, ◌==◌}
 use Rattle.std.proofs.Math.Path.{refl}
 use Rattle.std.proofs.Common.{ap, ap₂, eqb-true, eq-eqb}
 use Rattle.std.proofs.lemmas.Bool.{false≢true}
-use Rattle.std.proofs.Math.Option.{none, some}
-use native.Mathlib.Omega.{arith}
 use Rattle.words.specs.laws.Truth.{both}
-use Rattle.values.specs.Values.{Values, same_atom, value_of, lowest_from, lowest_slot}
+use Rattle.values.specs.Values.{Values, same_atom, value_of}
 use Rattle.values.specs.declared.Atom.{Atom}
 use Rattle.values.specs.declared.Atom.TheVariants.{Integer, Float, Definition}
 

@@ -1,15 +1,12 @@
 -- The table of values in lent memory, by value numbers: each slot has the number of its value, each number has bounds of the slots
 -- that hold it, and two tables of entries give the numbers of constants and of expressions.
 -- Assumes nothing.
-use Rattle.std.specs.Prelude.{◌≡◌, ℕ, zero, suc, ◌+◌, ◌-◌, ◌*◌, ◌/◌, ◌%◌, ◌<◌, ◌≤◌, Bool, true, false, cond, ◌&&◌, List, length, ◌==◌, ◌≢◌, nat_lt, slice_index}
-use Rattle.std.proofs.Math.Option.{Option, none, some}
+use Rattle.std.specs.Prelude.{Option, None, Some, ◌≡◌, ℕ, zero, suc, ◌+◌, ◌-◌, ◌*◌, ◌/◌, ◌%◌, ◌<◌, ◌≤◌, Bool, true, false, cond, ◌&&◌, List, length, ◌==◌, ◌≢◌, nat_lt, slice_index}
 use borrow.Rule.Slice.PartMut.{mid_of}
 use Rattle.values.specs.Values.{Values, Expression, at_start, value_in, expression_in}
 use Rattle.values.specs.laws.Entries.{Key, key, key_at, value, newest, Linked}
 use Rattle.values.specs.declared.Atom.{Atom}
 use Rattle.values.specs.declared.Atom.TheVariants.{Integer, Float, Definition}
-use Rattle.values.specs.declared.Found.{Found}
-use Rattle.values.specs.declared.Found.TheVariants.{At, Nothing}
 
 -- ---- regions
 
@@ -116,15 +113,15 @@ module _ (n S : ℕ) where
   -- the known integer with a number
   unfoldable pub integer_at : List ℕ → ℕ → Option ℕ
   integer_at c d =
-      cond (nat_lt d (S + n)) none
-      (cond (d == S + n) (some 0) (cond ((key_at c n (d - (S + n + 1))).right == 0) (some (key_at c n (d - (S + n + 1))).left) none))
+      cond (nat_lt d (S + n)) None
+      (cond (d == S + n) (Some 0) (cond ((key_at c n (d - (S + n + 1))).right == 0) (Some (key_at c n (d - (S + n + 1))).left) None))
 
   -- the number of an expression's value
-  unfoldable pub expression_if : List ℕ → ℕ → Found
-  expression_if w zero = Nothing
-  expression_if w (suc j) = At (value w n j)
+  unfoldable pub expression_if : List ℕ → ℕ → Option ℕ
+  expression_if w zero = None
+  expression_if w (suc j) = Some (value w n j)
 
-  abbrev pub expression_at : Memory → Key → Found
+  abbrev pub expression_at : Memory → Key → Option ℕ
   expression_at m k = expression_if m.expression_table (newest m.expression_table n m.expressions k)
 
   -- the tables of entries are in order, and what the words say is of this epoch or an earlier one
@@ -158,9 +155,9 @@ module _ (n S : ℕ) (dest : ℕ → ℕ) where
   abbrev pub atom_in : Memory → ℕ → Atom
   atom_in m d = atom_at n S dest m.constant_table d
 
-  unfoldable pub atom_found : Memory → Found → Option Atom
-  atom_found m (At d) = some (atom_in m d)
-  atom_found m Nothing = none
+  unfoldable pub atom_found : Memory → Option ℕ → Option Atom
+  atom_found m (Some d) = Some (atom_in m d)
+  atom_found m None = None
 
   -- a value that has a number
   pub record HasNumber (m : Memory) (w : Atom) : Type 0 where
@@ -177,5 +174,5 @@ module _ (n S : ℕ) (types : List ℕ) (dest : ℕ → ℕ) where
     pub expressions : (op flags left right : ℕ) → op < 256 → flags < 256 → left < limit n S m → right < limit n S m
         → atom_found n S dest m (expression_at n S m (expression_key op flags left right))
         ≡ expression_in v.expressions (record { opcode = op; flags = flags; left = atom_in n S dest m left; right = atom_in n S dest m right })
-    pub left_numbered : (e : Expression) (w : Atom) → expression_in v.expressions e ≡ some w → HasNumber n S dest m e.left
-    pub right_numbered : (e : Expression) (w : Atom) → expression_in v.expressions e ≡ some w → HasNumber n S dest m e.right
+    pub left_numbered : (e : Expression) (w : Atom) → expression_in v.expressions e ≡ Some w → HasNumber n S dest m e.left
+    pub right_numbered : (e : Expression) (w : Atom) → expression_in v.expressions e ≡ Some w → HasNumber n S dest m e.right

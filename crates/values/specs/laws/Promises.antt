@@ -1,7 +1,7 @@
 -- What the functions of the table of values promise: what stays in order, and which table of values the memory then holds.
 -- Assumes nothing.
-use Rattle.std.specs.Prelude.{◌≡◌, ℕ, ◌+◌, ◌*◌, ◌<◌, ◌≤◌, List, length, slice_index, slice_set}
-use Rattle.values.specs.Values.{Values, empty, lowest_slot, or_itself, representative, store, learn}
+use Rattle.std.specs.Prelude.{◌≡◌, ℕ, ◌+◌, ◌*◌, ◌<◌, ◌≤◌, List, length, slice_index, slice_set, Option}
+use Rattle.values.specs.Values.{Values, empty, lowest_slot, representative, store, learn}
 use Rattle.values.specs.laws.Memory.{slots_at, memory_of, number_at, key_atom, constant_key, limit, atom_in, Ready, Holds}
 
 -- the memory stays in order; at most c constants and e expressions more, at most k epochs later
@@ -50,11 +50,11 @@ pub record Stores (n S : ℕ) (types : List ℕ) (t : List ℕ) (s d : ℕ) (t' 
   pub holds : (dest : ℕ → ℕ) (v : Values) → Holds n S types dest v (memory_of n S t)
       → Holds n S types dest (store v s (atom_in n S dest (memory_of n S t) d)) (memory_of n S t')
 
--- the same, and the lowest slot of the type of s that held the value before, or S
-pub record Shares (n S : ℕ) (types : List ℕ) (t : List ℕ) (s d slot : ℕ) (t' : List ℕ) : Type 0 where
+-- the same, and the lowest slot of the type of s that held the value before, where there is one
+pub record Shares (n S : ℕ) (types : List ℕ) (t : List ℕ) (s d : ℕ) (found : Option ℕ) (t' : List ℕ) : Type 0 where
   pub stores : Stores n S types t s d t'
   pub lowest : (dest : ℕ → ℕ) (v : Values) → Holds n S types dest v (memory_of n S t)
-      → slot ≡ or_itself S (lowest_slot types v (atom_in n S dest (memory_of n S t) d) (slice_index types s))
+      → found ≡ lowest_slot types v (atom_in n S dest (memory_of n S t) d) (slice_index types s)
 
 -- the number d of a constant
 pub record Interns (n S : ℕ) (t : List ℕ) (kind bits d : ℕ) (t' : List ℕ) : Type 0 where

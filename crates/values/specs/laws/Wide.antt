@@ -1,9 +1,8 @@
 -- A folded value that does not fit 32 bits: where no slot holds it, document 02's rule is document 01's.
 -- Assumes nothing.
-use Rattle.std.specs.Prelude.{◌≡◌, ℕ, suc, ◌%◌, ◌^◌, Bool, true, false, cond, List, [], ◌∷◌, ◌==◌, slice_index}
+use Rattle.std.specs.Prelude.{Option, None, Some, ◌≡◌, ℕ, suc, ◌%◌, ◌^◌, Bool, true, false, cond, List, [], ◌∷◌, ◌==◌, slice_index}
 use Rattle.std.proofs.Math.Path.{refl, ap}
 use Rattle.std.proofs.Common.{◌∙◌}
-use Rattle.std.proofs.Math.Option.{Option, none, some}
 use Rattle.instruction.specs.Opcode as op
 use Rattle.instruction.specs.declared.Instruction.{Instruction}
 use Rattle.instruction.specs.declared.Class.{Class}
@@ -18,8 +17,8 @@ use Rattle.values.specs.declared.Atom.TheVariants.{Integer}
 
 -- the known integer that an instruction folds to
 pub data Folds (t : Values) (i : Instruction) (v : ℕ) : Type 0 where
-  one : class i ≡ Unary → fold_unary (expression_of i.op i.flags (value_of t i.b) (Integer 0)) (value_of t i.b) ≡ some v → Folds t i v
-  two : class i ≡ Binary → fold_binary (expression_of i.op i.flags (value_of t i.b) (value_of t i.c)) (value_of t i.b) (value_of t i.c) ≡ some v → Folds t i v
+  one : class i ≡ Unary → fold_unary (expression_of i.op i.flags (value_of t i.b) (Integer 0)) (value_of t i.b) ≡ Some v → Folds t i v
+  two : class i ≡ Binary → fold_binary (expression_of i.op i.flags (value_of t i.b) (value_of t i.c)) (value_of t i.b) (value_of t i.c) ≡ Some v → Folds t i v
 
 module _ (S : Sections) where
   -- "a folded value outside 32 bits and such a slot": one of the destination's type that holds the same known integer
@@ -28,7 +27,7 @@ module _ (S : Sections) where
     pub folds : Folds t i value
     pub wide : fits_imm32 value ≡ false
     pub slot : ℕ
-    pub held : lowest_slot S.types t (Integer value) (slice_index S.types i.a) ≡ some slot
+    pub held : lowest_slot S.types t (Integer value) (slice_index S.types i.a) ≡ Some slot
 
   module _ (leaders : List ℕ) where
     -- the table that place p starts with
@@ -52,13 +51,13 @@ module _ (S : Sections) where
           go : (b : Bool) → fits_imm32 v ≡ b → (o : Option ℕ) → lowest_slot S.types t (Integer v) (slice_index S.types j.a) ≡ o
               → cond b (with_imm32 (plain op.LoadInt j.a 0 0) (v % 2 ^ 32)) (copy_or_stay S j o) ≡ cond b (with_imm32 (plain op.LoadInt j.a 0 0) (v % 2 ^ 32)) j
           go true e o q = refl
-          go false e none q = refl
-          go false e (some r) q = absurd (apart (record { value = v; folds = f; wide = e; slot = r; held = rw a= at q }))
+          go false e None q = refl
+          go false e (Some r) q = absurd (apart (record { value = v; folds = f; wide = e; slot = r; held = rw a= at q }))
 
-      value_same : (e : Expression) (o : Option ℕ) → ((v : ℕ) → o ≡ some v → Folds t i v) → by_value_with S (held_or_stays S) p j t e o ≡ by_value_with S stays p j t e o
+      value_same : (e : Expression) (o : Option ℕ) → ((v : ℕ) → o ≡ Some v → Folds t i v) → by_value_with S (held_or_stays S) p j t e o ≡ by_value_with S stays p j t e o
       unfolding by_value_with
-      value_same e (some v) f = ap (λ (x : Instruction). stored S x t (Integer v)) (folded_same v (f v refl))
-      value_same e none f = refl
+      value_same e (Some v) f = ap (λ (x : Instruction). stored S x t (Integer v)) (folded_same v (f v refl))
+      value_same e None f = refl
 
     scalar_same : (x y : Numbered) → x ≡ y → cond (is_scalar S i.a) x (cleared S i) ≡ cond (is_scalar S i.a) y (cleared S i)
     scalar_same x y e = rw e

@@ -1,7 +1,9 @@
 -- Laws of Le.
 -- Assumes nothing.
-use Rattle.std.specs.Prelude.{◌≡◌, ℕ, zero, suc, ◌+◌, ◌*◌, ◌/◌, ◌%◌, ◌^◌, ◌<◌, ◌≤◌, List, [], ◌∷◌, ◌++◌, length, slice_index, slice_set, refl}
-use Rattle.std.proofs.Common.{ap, ◌∙◌, mul-add, mul_assoc, mul_comm, one-mul, pow-suc, div-one, zero-add, suc-add, arith, drop-cons, lit<}
+use Rattle.std.specs.Prelude.{◌≡◌, ℕ, zero, suc, ◌+◌, ◌*◌, ◌/◌, ◌%◌, ◌^◌, ◌<◌, ◌≤◌, List, [], ◌∷◌, ◌++◌, length, slice_index, slice_set, take, refl}
+use Rattle.std.specs.Int.{byte_worth, bytes_low_first, sum_through}
+use Rattle.std.proofs.Common.{ap, sym, add-one, ◌∙◌, mul-add, mul_assoc, mul_comm, one-mul, pow-suc, div-one, zero-add, suc-add, arith, drop-cons, lit<}
+use Rattle.std.proofs.lemmas.List.{take_all}
 use Rattle.std.proofs.Math.Nat.{one-le-pow, div-div-eq-div-mul}
 use Rattle.std.proofs.Math.Arith.{mod-mul}
 use borrow.Rule.Slice.PartMut.{mid_of, put_mid}
@@ -78,3 +80,28 @@ put_two xs i v h f =
     let more : i + 1 < length xs = omega arith in
     let high : v / 256 % 256 ≡ v / 256 = omega arith in
     rw (put_one xs i (v % 256) room, high) (put_more xs i 1 (v % 256 ∷ []) refl room (v / 256) more)
+
+-- std's `to_le_bytes` writes these bytes
+low_first : (i k v : ℕ) → bytes_low_first i k v ≡ to_le k (v / 256 ^ i)
+unfolding to_le
+low_first i zero v = refl
+low_first zero (suc k) v = rw (low_first 1 k v, div-one)
+low_first (suc i) (suc k) v = rw (low_first (suc (suc i)) k v, div-div-eq-div-mul, pow-suc 256 (suc i))
+
+pub to_le_low : (k v : ℕ) → bytes_low_first 0 k v ≡ to_le k v
+to_le_low k v = rw (low_first 0 k v, div-one)
+
+-- and `from_le_bytes` reads the number of a region
+sum_le : (l : List ℕ) (k : ℕ) → k < length l → sum_through (λ i. byte_worth i (slice_index l i)) k ≡ le_at (suc k) l 0
+sum_le l zero h = sym (le_at_one l 0 h)
+sum_le l (suc k) h =
+    let low : k < length l = omega arith in
+    let room : 0 + suc k ≤ length l = omega arith in
+    rw (← add-one (suc k), le_at_add (suc k) 1 l 0 room, sum_le l k low, zero-add, le_at_one l (suc k) h, mul_comm (slice_index l (suc k)))
+
+pub mid_le : (k : ℕ) (l ys : List ℕ) (i : ℕ) → ys ≡ mid_of i (suc k) l → i + suc k ≤ length l
+    → sum_through (λ j. byte_worth j (slice_index ys j)) k ≡ le_at (suc k) l i
+mid_le k l ys i e h =
+    let long : length ys ≡ suc k = rw e (mid_long l i (suc k) h) in
+    let whole : take (suc k) ys ≡ ys = take_all (suc k) ys (omega arith) in
+    sum_le ys k (omega arith) ∙ ap from_le (whole ∙ e)

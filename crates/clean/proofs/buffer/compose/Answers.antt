@@ -5,31 +5,20 @@ use Rattle.clean.proofs.buffer.compose.Goals as goal
 
 pub loop-p-init : goal.loop-p-init
 unfolding composed
-loop-p-init c = (omega arith, refl, refl)
-
-pub read_u32-old-requires : goal.read_u32-old-requires
-read_u32-old-requires c = omega (arith, c.loop-p.invariant.1, c.requires.1)
+loop-p-init c = refl
 
 pub read_u32-requires : goal.read_u32-requires
 read_u32-requires c =
-    let old = c.read_u32-old.ensures ∙ place_left c.args.from.now c.args.to.now c.loop-p.to c.loop-p.p c.loop-p.invariant.2 in
-    rw old (c.requires.2 c.loop-p.p (omega arith))
-
-pub write_u32-requires : goal.write_u32-requires
-write_u32-requires c = omega (arith, c.loop-p.invariant.1, c.requires.1)
+    let old = c.read_u32-old.ensures ∙ place_left c.args.from.now c.args.to.now c.loop-p.to c.loop-p.p c.loop-p.invariant in
+    rw old (c.requires.2 c.loop-p.p c.loop-p-test.true)
 
 pub loop-p-preserved : goal.loop-p-preserved
 loop-p-preserved c =
-    let old = c.read_u32-old.ensures ∙ place_left c.args.from.now c.args.to.now c.loop-p.to c.loop-p.p c.loop-p.invariant.2 in (
-      omega arith,
-      c.write_u32.auto.d ∙ c.loop-p.invariant.1,
-      compose_turn c.args.from.now c.args.to.now c.loop-p.to c.loop-p.p c.loop-p.invariant.2 _ c.read_u32.result (omega (arith, c.requires.1)) (c.read_u32.ensures ∙ rw old) c.write_u32.ensures,
-    )
-
-pub shape_of-to : goal.shape_of-to
-shape_of-to c = c.loop-p.invariant.1
+    let l = c.loop-p in
+    let old = c.read_u32-old.ensures ∙ place_left c.args.from.now c.args.to.now l.to l.p l.invariant in
+    compose_turn c.args.from.now c.args.to.now l.to l.p l.invariant _ c.read_u32.result (omega arith) (c.read_u32.ensures ∙ rw old) c.write_u32.ensures
 
 pub returns : goal.returns
 returns c =
     let e : c.loop-p.p ≡ c.args.k = omega arith in
-    compose_end c.args.from.now c.args.to.now c.loop-p.to c.args.k (c.loop-p.invariant.2 ∙ rw e) c.requires.1
+    compose_end c.args.from.now c.args.to.now c.loop-p.to c.args.k (c.loop-p.invariant ∙ rw e) c.requires.1

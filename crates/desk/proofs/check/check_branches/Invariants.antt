@@ -1,4 +1,4 @@
-use Rattle.std.proofs.Common.{suc, ◌-◌, length}
+use Rattle.std.proofs.Common.{suc, length}
 use Rattle.answer.specs.Answer.{cells_of}
 use Rattle.effects.specs.laws.Unrefused.{Clear}
 use Rattle.desk.proofs.laws.Checking.{branch_test}
@@ -7,6 +7,3 @@ use Rattle.desk.proofs.check.check_branches.Given as goal
 -- no branch before p is refused
 abbrev pub invariant-loop-p : goal.invariant-loop-p
 invariant-loop-p l = Clear (branch_test (suc (length (cells_of l.unit)))) (cells_of l.unit) l.p
-
-abbrev pub decreases-loop-p : goal.decreases-loop-p
-decreases-loop-p l = l.n - l.p

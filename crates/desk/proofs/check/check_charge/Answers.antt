@@ -1,12 +1,14 @@
-use Rattle.std.proofs.Common.{sym, ◌∙◌}
+use Rattle.std.proofs.lemmas.Result.{err_from_is_err_and}
+use Rattle.std.proofs.Common.{refl, sym, ◌∙◌}
 use Rattle.desk.specs.Answer.{and_then}
 use Rattle.desk.specs.Charge.{charge_check}
 use Rattle.desk.proofs.check.check_charge.Goals as goal
 
-pub returns-in-Refused : goal.returns-in-Refused
+pub returns-in_err-check : goal.returns-in_err-check
 unfolding charge_check and_then
-returns-in-Refused c = record { answer = rw (sym c.check.ensures.answer ∙ c.in-Refused.is) }
+returns-in_err-check c =
+    let p = err_from_is_err_and c.from_residual.result c.from_residual.ensures.1 in record { answer = rw (p.1, p.2) (rw (sym c.check.ensures.answer ∙ c.in_err-check.was) refl) }
 
-pub returns-in-Passed : goal.returns-in-Passed
+pub returns : goal.returns
 unfolding charge_check and_then
-returns-in-Passed c = record { answer = rw (sym c.check.ensures.answer ∙ c.in-Passed.is) c.check_tariff.ensures.answer }
+returns c = record { answer = rw (sym c.check.ensures.answer ∙ c.in_ok-check.was) c.check_tariff.ensures.answer }

@@ -1,4 +1,3 @@
-use Rattle.std.proofs.Common.{◌-◌}
 use Rattle.answer.specs.Answer.{cells_of}
 use Rattle.effects.specs.laws.Unrefused.{Clear}
 use Rattle.desk.proofs.laws.Checking.{operand_test}
@@ -7,6 +6,3 @@ use Rattle.desk.proofs.check.check_operands.Given as goal
 -- no operands before p are refused
 abbrev pub invariant-loop-p : goal.invariant-loop-p
 invariant-loop-p l = Clear (operand_test l.unit) (cells_of l.unit) l.p
-
-abbrev pub decreases-loop-p : goal.decreases-loop-p
-decreases-loop-p l = l.n - l.p

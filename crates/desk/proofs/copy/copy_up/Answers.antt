@@ -1,42 +1,18 @@
-use Rattle.std.proofs.Common.{◌≡◌, ◌+◌, get_or, refl, ◌∙◌, arith, length-set}
+use Rattle.std.proofs.Common.{◌≡◌, refl, ◌∙◌, arith}
 use Rattle.desk.specs.laws.Copying.{none_copied, up_more}
 use Rattle.desk.proofs.copy.copy_up.Goals as goal
 
 pub loop-k-init : goal.loop-k-init
-loop-k-init c = let a = c.args in (omega arith, refl, none_copied a.frame.now a.a a.b 0 refl)
-
-pub overflow_add-frame : goal.overflow_add-frame
-overflow_add-frame c = omega (arith, c.requires.order, c.requires.read, c.loop-k.invariant.0, c.loop-k.invariant.1)
-
-pub offset_bounds-frame-b : goal.offset_bounds-frame-b
-offset_bounds-frame-b c = omega (arith, c.requires.order, c.requires.read, c.loop-k.invariant.0, c.loop-k.invariant.1)
-
-pub bounds-frame-b : goal.bounds-frame-b
-bounds-frame-b c = omega (arith, c.requires.order, c.requires.read, c.loop-k.invariant.0, c.loop-k.invariant.1)
-
-pub overflow_add-frame-in-loop-k : goal.overflow_add-frame-in-loop-k
-overflow_add-frame-in-loop-k c = omega (arith, c.requires.order, c.requires.read, c.loop-k.invariant.0, c.loop-k.invariant.1)
-
-pub offset_bounds-frame-a : goal.offset_bounds-frame-a
-offset_bounds-frame-a c = omega (arith, c.requires.order, c.requires.read, c.loop-k.invariant.0, c.loop-k.invariant.1)
-
-pub bounds-frame-a : goal.bounds-frame-a
-bounds-frame-a c = omega (arith, c.requires.order, c.requires.read, c.loop-k.invariant.0, c.loop-k.invariant.1)
+loop-k-init c = let a = c.args in none_copied a.frame.now a.a a.b 0 refl
 
 pub loop-k-preserved : goal.loop-k-preserved
 loop-k-preserved c =
     let a = c.args in
-    let l = c.loop-k in (
-      omega arith,
-      length-set l.frame (a.a + l.k) (get_or l.frame (a.b + l.k) 0) ∙ l.invariant.1,
-      up_more a.frame.now a.a a.b a.c l.frame l.k _ c.requires.order c.requires.read c.loop-k-test.true l.invariant.2 refl,
-    )
-
-pub shape_of-frame : goal.shape_of-frame
-shape_of-frame c = c.loop-k.invariant.1
+    let l = c.loop-k in
+    up_more a.frame.now a.a a.b a.c l.frame l.k _ c.requires.order c.requires.read c.loop-k-test.true l.invariant refl
 
 pub returns : goal.returns
 returns c =
-    let a = c.args in
     let l = c.loop-k in
-    let end : l.k ≡ a.c = omega (arith, l.invariant.0, c.loop-k-test.false) in record { frame = l.invariant.2 ∙ rw end }
+    let end : l.k ≡ c.args.c = omega arith in
+    record { frame = l.invariant ∙ rw end }

@@ -4,15 +4,7 @@ use Rattle.desk.specs.Charge.{highest_price}
 use Rattle.desk.specs.laws.Priced.{Advance, Placed, stands}
 use Rattle.desk.proofs.laws.Unit.{Turn, turn_inside, priced_turn_over, turn_executable, priced_turn_goes, priced_turn_stays}
 use Rattle.desk.proofs.execution.advance_priced.Goals as goal
-use Rattle.desk.proofs.execution.advance_priced.Tie as tie
-use Rattle.desk.proofs.execution.advance_priced.Lts
-use Rattle.desk.proofs.execution.advance_priced.Reads
-
-abbrev In-loop-left : Type 0
-In-loop-left = Lts.In-loop tie.the-claims Reads.Pre Reads.Post goal.the-invariant-loop-left goal.the-decreases-loop-left tie.handed_clauses
-
-abbrev After-price_at-price : Type 0
-After-price_at-price = Lts.After-price_at tie.the-claims Reads.Pre Reads.Post goal.the-invariant-loop-left goal.the-decreases-loop-left tie.handed_clauses
+use Rattle.desk.proofs.execution.advance_priced.Goals.{In-loop-left, After-price_at-price}
 
 -- ---- what holds there
 
@@ -20,14 +12,14 @@ After-price_at-price = Lts.After-price_at tie.the-claims Reads.Pre Reads.Post go
 price-few : (c : After-price_at-price) → c.price_at-price.result ≤ highest_price
 price-few c =
     let o = (instruction_at c.code-code.result.now c.loop-left.p).op in
-    rw c.price_at-price.ensures.price (omega (arith, c.shared_slice_known-2-1.given o))
+    rw c.price_at-price.ensures.price (omega (arith, c.type_inv.tariff o))
 
 -- what a turn has
 turn : (c : In-loop-left) → Turn c.args.unit.now c.code-code.result.now c.constants-constants.result.now c.loop-left.left c.loop-left.p c.loop-left.frame
 turn c =
     let in-turn = turn_inside c.args.unit.now c.requires.laid c.code-code.result.now c.code-code.ensures c.loop-left.left c.loop-left.p c.loop-left-test.true in
     record {
-      bytes = λ i. omega (arith, c.shared_slice_known-1.given i);
+      bytes = λ i. omega (arith, c.type_inv.unit i);
       laid = c.requires.laid;
       runnable = c.requires.runnable;
       code_found = c.code-code.ensures;
@@ -59,42 +51,42 @@ pub loop-left-init : goal.loop-left-init
 loop-left-init c = record { same = refl; long = refl; few = omega arith }
 
 pub execute-q-requires : goal.execute-q-requires
-execute-q-requires c = let all = turn_executable (turn c.before.before) in record { code = all.0; executable = all.1 }
+execute-q-requires c = let all = turn_executable (turn (goal.at.execute-q-requires c).In-loop-left) in record { code = all.0; executable = all.1 }
 
 pub shape_of-frame-then-q-ge-NOWHERE : goal.shape_of-frame-then-q-ge-NOWHERE
 shape_of-frame-then-q-ge-NOWHERE c =
     let d = c.execute-q.ensures in
-    let stays = priced_turn_stays (turn c.before.before.before.before.before.before) (d.place, d.frame) c.args.tariff.now c.loop-left.spent c.if-q-ge-NOWHERE.true in
+    let stays = priced_turn_stays (turn (goal.at.shape_of-frame-then-q-ge-NOWHERE c).In-loop-left) (d.place, d.frame) c.args.tariff.now c.loop-left.spent c.if-q-ge-NOWHERE.true in
     ap length stays.1 ∙ c.loop-left.invariant.long
 
 pub returns-then-q-ge-NOWHERE : goal.returns-then-q-ge-NOWHERE
 returns-then-q-ge-NOWHERE c =
     let d = c.execute-q.ensures in
-    let stays = priced_turn_stays (turn c.before.before.before.before.before.before) (d.place, d.frame) c.args.tariff.now c.loop-left.spent c.if-q-ge-NOWHERE.true in
+    let stays = priced_turn_stays (turn (goal.at.returns-then-q-ge-NOWHERE c).In-loop-left) (d.place, d.frame) c.args.tariff.now c.loop-left.spent c.if-q-ge-NOWHERE.true in
     record { reached = rw stays.1 (placed (c.loop-left.invariant.same ∙ stays.0)) }
 
 pub price_at-price-requires : goal.price_at-price-requires
-price_at-price-requires c = record { code = (turn_executable (turn c.before.before.before.before.before.before)).0; tariff = c.requires.tariff }
+price_at-price-requires c = record { code = (turn_executable (turn (goal.at.price_at-price-requires c).In-loop-left)).0; tariff = c.requires.tariff }
 
 pub overflow_add-spent : goal.overflow_add-spent
-overflow_add-spent c = omega (arith, c.loop-left.invariant.few, price-few c.before)
+overflow_add-spent c = omega (arith, c.loop-left.invariant.few, price-few (goal.at.overflow_add-spent c).After-price_at-price)
 
 pub overflow_sub-left : goal.overflow_sub-left
-overflow_sub-left c = (turn c.before.before.before.before.before.before.before).some
+overflow_sub-left c = (turn (goal.at.overflow_sub-left c).In-loop-left).some
 
 pub loop-left-smaller : goal.loop-left-smaller
-loop-left-smaller c = let some = (turn c.before.before.before.before.before.before.before).some in omega arith
+loop-left-smaller c = let some = (turn (goal.at.loop-left-smaller c).In-loop-left).some in omega arith
 
 pub loop-left-preserved : goal.loop-left-preserved
 loop-left-preserved c =
-    let t = turn c.before.before.before.before.before.before.before in
+    let t = turn (goal.at.loop-left-preserved c).In-loop-left in
     let d = c.execute-q.ensures in
     let goes = priced_turn_goes t (d.place, d.frame) c.args.tariff.now c.loop-left.spent c.price_at-price.ensures.price c.if-q-ge-NOWHERE.false in
     let some = t.some in
     record {
       same = c.loop-left.invariant.same ∙ goes.0;
       long = goes.1 ∙ sym c.requires.frame;
-      few = omega (arith, c.loop-left.invariant.few, price-few c.before);
+      few = omega (arith, c.loop-left.invariant.few, price-few (goal.at.loop-left-preserved c).After-price_at-price);
     }
 
 pub shape_of-frame : goal.shape_of-frame

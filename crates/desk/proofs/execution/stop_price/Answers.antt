@@ -50,7 +50,3 @@ returns-in-Other c = record { price = rw c.in-Other.is }
 pub returns-in-Limit : goal.returns-in-Limit
 unfolding stop_price
 returns-in-Limit c = record { price = rw c.in-Limit.is }
-
-pub returns-in-Refused : goal.returns-in-Refused
-unfolding stop_price
-returns-in-Refused c = record { price = rw c.in-Refused.is }

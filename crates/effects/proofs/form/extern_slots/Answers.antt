@@ -1,10 +1,10 @@
 use Rattle.effects.specs.Shape.{extern_slots}
 use Rattle.effects.proofs.form.extern_slots.Goals as goal
 
-pub returns-in-Returns : goal.returns-in-Returns
+pub returns-in-Some : goal.returns-in-Some
 unfolding extern_slots
-returns-in-Returns c = rw c.in-Returns.is
+returns-in-Some c = rw c.in-Some.is
 
-pub returns-in-Missing : goal.returns-in-Missing
+pub returns-in-None : goal.returns-in-None
 unfolding extern_slots
-returns-in-Missing c = rw c.in-Missing.is
+returns-in-None c = rw c.in-None.is

@@ -2,10 +2,10 @@ use Rattle.effects.specs.Shape.{param_slots}
 use borrow.Author.Rules.{rules}
 use Rattle.effects.proofs.form.param_slots.Goals as goal
 
-pub returns-in-Slots : goal.returns-in-Slots
+pub returns-in-Some : goal.returns-in-Some
 unfolding param_slots
-returns-in-Slots c = (rw c.in-Slots.is, search rules)
+returns-in-Some c = (rw c.in-Some.is, search rules)
 
-pub returns-in-Missing : goal.returns-in-Missing
+pub returns-in-None : goal.returns-in-None
 unfolding param_slots
-returns-in-Missing c = (rw c.in-Missing.is, search rules)
+returns-in-None c = (rw c.in-None.is, search rules)

@@ -1,10 +1,10 @@
 use Rattle.effects.specs.Shape.{return_slots}
 use Rattle.effects.proofs.form.return_slots.Goals as goal
 
-pub returns-in-Slots : goal.returns-in-Slots
+pub returns-in-Some : goal.returns-in-Some
 unfolding return_slots
-returns-in-Slots c = rw c.in-Slots.is
+returns-in-Some c = rw c.in-Some.is
 
-pub returns-in-Missing : goal.returns-in-Missing
+pub returns-in-None : goal.returns-in-None
 unfolding return_slots
-returns-in-Missing c = rw c.in-Missing.is
+returns-in-None c = rw c.in-None.is

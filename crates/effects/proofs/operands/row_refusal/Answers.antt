@@ -2,7 +2,7 @@ use mathlib.Core.Path.{sym, ◌∙◌}
 use native.Mathlib.Omega.{arith}
 use Rattle.instruction.specs.Instruction.{of_word}
 use Rattle.instruction.specs.laws.Instruction.{word_fields}
-use Rattle.effects.specs.Shape.{Cell, Tables, tables_of}
+use Rattle.effects.specs.Shape.{Cell, Tables, tables_in}
 use Rattle.effects.specs.laws.Cells.{cell_of}
 use Rattle.effects.specs.laws.Operands.{refused_invalid}
 use Rattle.effects.specs.laws.Plain.{Plain}
@@ -15,15 +15,15 @@ unfolding of_word
 returns-then-op-gt-MAX_VALID c =
     let a = c.args in
     let x : Cell = cell_of a.metadata.now a.p a.w in
-    let T : Tables = tables_of a.functions.now a.externs.now a.cases.now in
+    let T : Tables = tables_in a.tables in
     sym (refused_invalid T x a.locals c.if-op-gt-MAX_VALID.true)
 
 pub ranges_refusal-requires : goal.ranges_refusal-requires
 unfolding of_word
-ranges_refusal-requires c = (search rules, rw c.metadata-m.ensures c.requires.2, rw c.from_word-i.ensures c.if-op-gt-MAX_VALID.false)
+ranges_refusal-requires c = (search rules, rw c.metadata.ensures c.requires.2, rw c.from_word.ensures c.if-op-gt-MAX_VALID.false)
 
 pub returns-then-not-is_plain : goal.returns-then-not-is_plain
-returns-then-not-is_plain c = rw (← c.metadata-m.ensures, ← c.from_word-i.ensures) c.ranges_refusal.ensures
+returns-then-not-is_plain c = rw (← c.metadata.ensures, ← c.from_word.ensures) c.ranges_refusal.ensures
 
 pub is_within-requires : goal.is_within-requires
 unfolding of_word
@@ -38,7 +38,7 @@ unfolding of_word
 returns-then-is_within c =
     let a = c.args in
     let x : Cell = cell_of a.metadata.now a.p a.w in
-    let T : Tables = tables_of a.functions.now a.externs.now a.cases.now in
+    let T : Tables = tables_in a.tables in
     let row = c.row-row in
     let p : Plain (of_word a.w).op row.result = plain_row (of_word a.w).op row.result row.ensures c.if-op-gt-MAX_VALID.false (sym c.is_plain.ensures ∙ c.if-not-is_plain.false) in
     sym (plain_passes a.locals (omega arith) T x (word_fields a.w) c.if-op-gt-MAX_VALID.false row.result row.ensures p (sym c.is_within.ensures ∙ c.if-is_within.true))
@@ -48,7 +48,7 @@ unfolding of_word
 returns c =
     let a = c.args in
     let x : Cell = cell_of a.metadata.now a.p a.w in
-    let T : Tables = tables_of a.functions.now a.externs.now a.cases.now in
+    let T : Tables = tables_in a.tables in
     let row = c.row-row in
     let p : Plain (of_word a.w).op row.result = plain_row (of_word a.w).op row.result row.ensures c.if-op-gt-MAX_VALID.false (sym c.is_plain.ensures ∙ c.if-not-is_plain.false) in
     sym (plain_outside a.locals (omega arith) T x (word_fields a.w) c.if-op-gt-MAX_VALID.false row.result row.ensures p (sym c.is_within.ensures ∙ c.if-is_within.false))

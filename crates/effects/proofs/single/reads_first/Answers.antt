@@ -1,10 +1,10 @@
 use mathlib.Core.Path.{refl}
 use Rattle.words.specs.Lists.{every}
 use Rattle.instruction.specs.Class.{named_class, number_of}
-use Rattle.instruction.specs.laws.Class.{class_bit}
+use Rattle.instruction.specs.laws.Class.{class_cast}
 use Rattle.effects.specs.laws.Single.{reads_first}
 use Rattle.effects.proofs.single.reads_first.Goals as goal
 
 pub returns : goal.returns
 unfolding every named_class number_of
-returns c = λ x e. class_bit _ reads_first refl x _ e
+returns c = class_cast _ reads_first refl c.args.c

@@ -1,6 +1,5 @@
 use Rattle.std.proofs.Common.{◌≡◌, ℕ, suc, ◌+◌, Bool, true, false, cond, List, [], ◌∷◌, sym, ◌∙◌, add-one}
 use Rattle.instruction.specs.declared.Instruction.{Instruction}
-use Rattle.instruction.specs.laws.Class.{number_below}
 use Rattle.instruction.specs.Instruction.{class}
 use Rattle.flow.specs.Branch.{branches, target}
 use Rattle.flow.specs.Block.{ends_block}
@@ -28,15 +27,6 @@ two-marks m m₁ m₂ p t i b e f g h j n l =
 pub returns-then-not-ends_block : goal.returns-then-not-ends_block
 returns-then-not-ends_block c = no_marks _ _ _ _ c.ends_block.ensures c.if-not-ends_block.true
 
-pub branches-requires : goal.branches-requires
-branches-requires c = rw c.class_number-k.ensures (number_below _)
-
 pub returns : goal.returns
 returns c =
-    let second = c.before.before in
-    let first = second.before.before.before.before in
-    let t = first.before in
-    let b = t.before in
-    let k = b.before.before in
-    let test = k.before in
-    two-marks _ _ _ _ _ _ _ _ (bit_one _ (b.branches.ensures _ k.class_number-k.ensures)) t.target.ensures first.mark_if.ensures test.ends_block.ensures test.if-not-ends_block.false second.mark_if-2.ensures
+    two-marks _ _ _ _ _ _ _ _ (bit_one _ (rw c.class-class.ensures at c.branches.ensures)) c.target.ensures c.mark_if.ensures c.ends_block.ensures c.if-not-ends_block.false c.mark_if-2.ensures

@@ -1,5 +1,4 @@
 use Rattle.std.proofs.Common.{◌≡◌, ◌<◌, ◌≤◌, true, sym, ◌∙◌, arith}
-use Rattle.instruction.specs.laws.Class.{number_below}
 use Rattle.instruction.specs.Instruction.{class}
 use Rattle.flow.specs.Branch.{branches, target}
 use Rattle.flow.specs.laws.Block.{no_branch}
@@ -18,12 +17,9 @@ returns-then-not-ends_block c =
     let inside = inside_none a.n a.p a.i (no_branch (class a.i) (sym c.ends_block.ensures ∙ c.if-not-ends_block.true)) in
     record { refusal = rw inside }
 
-pub branches-requires : goal.branches-requires
-branches-requires c = rw c.class_number-k.ensures (number_below _)
-
 -- it is a branch
 branching : (c : Then-branches-eq1) → branches (class c.args.i) ≡ true
-branching c = bit_set _ (c.branches.ensures _ c.class_number-k.ensures) c.if-branches-eq1.true
+branching c = bit_set _ (rw c.class-class.ensures at c.branches.ensures) c.if-branches-eq1.true
 
 pub returns-then-branch_target-n : goal.returns-then-branch_target-n
 returns-then-branch_target-n c =
@@ -44,5 +40,5 @@ returns-else-branch_target-n c =
 pub returns-else-branches-eq1 : goal.returns-else-branches-eq1
 returns-else-branches-eq1 c =
     let a = c.args in
-    let inside = inside_none a.n a.p a.i (bit_clear (branches (class a.i)) (c.branches.ensures _ c.class_number-k.ensures) c.if-branches-eq1.false) in
+    let inside = inside_none a.n a.p a.i (bit_clear (branches (class a.i)) (rw c.class-class.ensures at c.branches.ensures) c.if-branches-eq1.false) in
     record { refusal = rw inside }

@@ -1,4 +1,4 @@
-use Rattle.std.proofs.Common.{◌≡◌, ℕ, ◌-◌, cond, List, length}
+use Rattle.std.proofs.Common.{◌≡◌, ℕ, cond, List, length}
 use Rattle.unit.specs.Refusal.{branch_outside}
 use Rattle.effects.specs.Shape.{Cell}
 use Rattle.effects.specs.laws.Cells.{cells_by}
@@ -10,8 +10,5 @@ use Rattle.flow.proofs.branch.check_branches.Given as goal
 abbrev pub branch_test : ℕ → ℕ → Cell → ℕ
 branch_test n p x = cond (branch_inside n p x.instruction) 0 branch_outside
 
-abbrev pub invariant-loop-k : goal.invariant-loop-k
-invariant-loop-k l = (l.n ≡ length l.words) × ((metadata : List ℕ) → Swept (branch_test (length (cells_by l.words metadata))) l.words metadata l.list l.k)
-
-abbrev pub decreases-loop-k : goal.decreases-loop-k
-decreases-loop-k l = length l.list - l.k
+abbrev pub invariant-loop-place : goal.invariant-loop-place
+invariant-loop-place l = (l.n ≡ length l.words) × ((metadata : List ℕ) → Swept (branch_test (length (cells_by l.words metadata))) l.words metadata l.list l.place-index)

@@ -1,4 +1,4 @@
-use Rattle.std.proofs.Common.{◌≡◌, ℕ, ◌<◌, Bool, true, cond, not, ◌||◌, ltb, [], ◌∷◌, sym, refl, inl, inr, arith, le-ltb, lt-ltb}
+use Rattle.std.proofs.Common.{◌≡◌, ℕ, ◌<◌, ◌≤◌, Bool, true, cond, not, ◌||◌, ltb, [], ◌∷◌, sym, refl, inl, inr, arith, le-ltb, lt-ltb}
 use types.Run.{OneOf}
 use borrow.Author.Tests.{not-true}
 use Rattle.words.specs.Lists.{is_in, every}
@@ -24,17 +24,25 @@ listed o (inr (inl e)) = rw e
 listed o (inr (inr e)) = rw e
 
 pub returns-in_default : goal.returns-in_default
-returns-in_default c = sym (not-true _ (rw (lt-ltb _ _ c.in_default.if-op-lt57-own.true) at (each c.args.op (omega arith))))
+returns-in_default c =
+    let h : c.args.op < 57 = omega arith in
+    sym (not-true _ (rw (lt-ltb _ _ h) at (each c.args.op (omega arith))))
 
 pub returns-in_default-2 : goal.returns-in_default-2
 returns-in_default-2 c =
     let o = c.args.op in
     let r = c.in_default.in_default-own.rest.1 in
     let others = none_of (124 ∷ 111 ∷ 64 ∷ []) o (((tt, λ e. r (inl e)), λ e. r (inr (inl e))), λ e. r (inr (inr e))) in
-    sym (not-true _ (rw (le-ltb _ _ c.in_default.if-op-lt57-own.false, le-ltb _ _ c.in_default.if-op-lt60-own.false, others) at (each o (omega arith))))
+    let low : 57 ≤ o = omega arith in
+    let high : 60 ≤ o = omega arith in
+    sym (not-true _ (rw (le-ltb _ _ low, le-ltb _ _ high, others) at (each o (omega arith))))
 
 pub returns-in-57 : goal.returns-in-57
 returns-in-57 c = listed _ c.in-57.is
 
 pub returns-in-57-2 : goal.returns-in-57-2
-returns-in-57-2 c = sym (rw (le-ltb _ _ c.in-57.if-op-lt57-own.false, lt-ltb _ _ c.in-57.if-op-lt60-own.true) at (each c.args.op (omega arith)))
+returns-in-57-2 c =
+    let o = c.args.op in
+    let past : 57 ≤ o = omega arith in
+    let h : o < 60 = omega arith in
+    sym (rw (le-ltb _ _ past, lt-ltb _ _ h) at (each o (omega arith)))

@@ -1,11 +1,11 @@
 use Rattle.std.proofs.Common.{refl, arith}
 use Rattle.words.specs.Lists.{every}
 use Rattle.instruction.specs.Class.{named_class}
-use Rattle.instruction.specs.laws.Class.{class_bit}
+use Rattle.instruction.specs.laws.Class.{class_cast}
 use Rattle.flow.specs.Branch.{falls}
 use Rattle.flow.specs.laws.BranchLaws.{bit_byte}
 use Rattle.flow.proofs.branch.falls.Goals as goal
 
 pub returns : goal.returns
 unfolding every named_class falls
-returns c = λ x e. bit_byte _ _ (omega arith) (class_bit _ falls refl x _ e)
+returns c = bit_byte _ _ (omega arith) (class_cast _ falls refl c.args.c)

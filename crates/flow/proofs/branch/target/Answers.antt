@@ -1,17 +1,13 @@
 use Rattle.std.proofs.Common.{sym, ◌∙◌, add-one}
-use Rattle.instruction.specs.laws.Class.{number_below}
 use Rattle.instruction.specs.Instruction.{class}
 use Rattle.flow.specs.Branch.{branches}
 use Rattle.flow.specs.laws.BranchLaws.{next_target, bit_set, bit_clear}
 use Rattle.flow.proofs.branch.target.Goals as goal
 
-pub branches-requires : goal.branches-requires
-branches-requires c = rw c.class_number-k.ensures (number_below _)
-
 pub returns-then-branches-eq1 : goal.returns-then-branches-eq1
-returns-then-branches-eq1 c = c.branch_target.ensures (bit_set _ (c.branches.ensures _ c.class_number-k.ensures) c.if-branches-eq1.true)
+returns-then-branches-eq1 c = c.branch_target.ensures (bit_set _ (rw c.class-class.ensures at c.branches.ensures) c.if-branches-eq1.true)
 
 pub returns : goal.returns
 returns c =
     let i = c.args.i in
-    add-one _ ∙ sym (next_target (class i) _ i (bit_clear (branches (class i)) (c.branches.ensures _ c.class_number-k.ensures) c.if-branches-eq1.false))
+    add-one _ ∙ sym (next_target (class i) _ i (bit_clear (branches (class i)) (rw c.class-class.ensures at c.branches.ensures) c.if-branches-eq1.false))

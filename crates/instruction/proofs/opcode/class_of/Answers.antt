@@ -1,70 +1,552 @@
-use mathlib.Core.Path.{◌≡◌, sym, ap, ◌∙◌}
-use Prim.Native.Nat.{ℕ, zero-le}
+use Prim.Native.Nat.{zero-le}
 use Rattle.words.specs.laws.Keys.{past}
-use Rattle.instruction.specs.declared.Class.{Class}
-use Rattle.instruction.specs.Class.{number_of, named_class}
-use Rattle.instruction.specs.laws.Class.{named_number, number_past}
+use Rattle.instruction.specs.Class.{class_of, single}
+use Rattle.instruction.specs.laws.Class.{class_past}
 use Rattle.instruction.proofs.opcode.class_of.Goals as goal
 
--- the class that has the number k
-named : (k d : ℕ) (x : Class) → d ≡ number_of x → d ≡ k → named_class k ≡ x
-named k d x e q = ap named_class (sym q ∙ e) ∙ named_number x
+pub returns-in_default : goal.returns-in_default
+returns-in_default c = rw (class_past _ (past 0 136 zero-le c.in_default.in_default-own.rest))
 
 pub returns-in-0 : goal.returns-in-0
-unfolding named_class
-returns-in-0 c = named 0 _ _ c.class_number.ensures c.in-0.is
+unfolding class_of single
+returns-in-0 c = rw c.in-0.is
 
 pub returns-in-1 : goal.returns-in-1
-unfolding named_class
-returns-in-1 c = named 1 _ _ c.class_number.ensures c.in-1.is
+unfolding class_of single
+returns-in-1 c = rw c.in-1.is
 
 pub returns-in-2 : goal.returns-in-2
-unfolding named_class
-returns-in-2 c = named 2 _ _ c.class_number.ensures c.in-2.is
+unfolding class_of single
+returns-in-2 c = rw c.in-2.is
 
 pub returns-in-3 : goal.returns-in-3
-unfolding named_class
-returns-in-3 c = named 3 _ _ c.class_number.ensures c.in-3.is
+unfolding class_of single
+returns-in-3 c = rw c.in-3.is
 
 pub returns-in-4 : goal.returns-in-4
-unfolding named_class
-returns-in-4 c = named 4 _ _ c.class_number.ensures c.in-4.is
+unfolding class_of single
+returns-in-4 c = rw c.in-4.is
 
 pub returns-in-5 : goal.returns-in-5
-unfolding named_class
-returns-in-5 c = named 5 _ _ c.class_number.ensures c.in-5.is
+unfolding class_of single
+returns-in-5 c = rw c.in-5.is
 
 pub returns-in-6 : goal.returns-in-6
-unfolding named_class
-returns-in-6 c = named 6 _ _ c.class_number.ensures c.in-6.is
+unfolding class_of single
+returns-in-6 c = rw c.in-6.is
 
 pub returns-in-7 : goal.returns-in-7
-unfolding named_class
-returns-in-7 c = named 7 _ _ c.class_number.ensures c.in-7.is
+unfolding class_of single
+returns-in-7 c = rw c.in-7.is
 
 pub returns-in-8 : goal.returns-in-8
-unfolding named_class
-returns-in-8 c = named 8 _ _ c.class_number.ensures c.in-8.is
+unfolding class_of single
+returns-in-8 c = rw c.in-8.is
 
 pub returns-in-9 : goal.returns-in-9
-unfolding named_class
-returns-in-9 c = named 9 _ _ c.class_number.ensures c.in-9.is
+unfolding class_of single
+returns-in-9 c = rw c.in-9.is
 
 pub returns-in-10 : goal.returns-in-10
-unfolding named_class
-returns-in-10 c = named 10 _ _ c.class_number.ensures c.in-10.is
+unfolding class_of single
+returns-in-10 c = rw c.in-10.is
 
 pub returns-in-11 : goal.returns-in-11
-unfolding named_class
-returns-in-11 c = named 11 _ _ c.class_number.ensures c.in-11.is
+unfolding class_of single
+returns-in-11 c = rw c.in-11.is
 
 pub returns-in-12 : goal.returns-in-12
-unfolding named_class
-returns-in-12 c = named 12 _ _ c.class_number.ensures c.in-12.is
+unfolding class_of single
+returns-in-12 c = rw c.in-12.is
 
 pub returns-in-13 : goal.returns-in-13
-unfolding named_class
-returns-in-13 c = named 13 _ _ c.class_number.ensures c.in-13.is
+unfolding class_of single
+returns-in-13 c = rw c.in-13.is
 
-pub returns-in_default : goal.returns-in_default
-returns-in_default c = sym (number_past _ (rw (← c.class_number.ensures) (past 0 14 zero-le c.in_default.in_default-own.rest)))
+pub returns-in-14 : goal.returns-in-14
+unfolding class_of single
+returns-in-14 c = rw c.in-14.is
+
+pub returns-in-15 : goal.returns-in-15
+unfolding class_of single
+returns-in-15 c = rw c.in-15.is
+
+pub returns-in-16 : goal.returns-in-16
+unfolding class_of single
+returns-in-16 c = rw c.in-16.is
+
+pub returns-in-17 : goal.returns-in-17
+unfolding class_of single
+returns-in-17 c = rw c.in-17.is
+
+pub returns-in-18 : goal.returns-in-18
+unfolding class_of single
+returns-in-18 c = rw c.in-18.is
+
+pub returns-in-19 : goal.returns-in-19
+unfolding class_of single
+returns-in-19 c = rw c.in-19.is
+
+pub returns-in-20 : goal.returns-in-20
+unfolding class_of single
+returns-in-20 c = rw c.in-20.is
+
+pub returns-in-21 : goal.returns-in-21
+unfolding class_of single
+returns-in-21 c = rw c.in-21.is
+
+pub returns-in-22 : goal.returns-in-22
+unfolding class_of single
+returns-in-22 c = rw c.in-22.is
+
+pub returns-in-23 : goal.returns-in-23
+unfolding class_of single
+returns-in-23 c = rw c.in-23.is
+
+pub returns-in-24 : goal.returns-in-24
+unfolding class_of single
+returns-in-24 c = rw c.in-24.is
+
+pub returns-in-25 : goal.returns-in-25
+unfolding class_of single
+returns-in-25 c = rw c.in-25.is
+
+pub returns-in-26 : goal.returns-in-26
+unfolding class_of single
+returns-in-26 c = rw c.in-26.is
+
+pub returns-in-27 : goal.returns-in-27
+unfolding class_of single
+returns-in-27 c = rw c.in-27.is
+
+pub returns-in-28 : goal.returns-in-28
+unfolding class_of single
+returns-in-28 c = rw c.in-28.is
+
+pub returns-in-29 : goal.returns-in-29
+unfolding class_of single
+returns-in-29 c = rw c.in-29.is
+
+pub returns-in-30 : goal.returns-in-30
+unfolding class_of single
+returns-in-30 c = rw c.in-30.is
+
+pub returns-in-31 : goal.returns-in-31
+unfolding class_of single
+returns-in-31 c = rw c.in-31.is
+
+pub returns-in-32 : goal.returns-in-32
+unfolding class_of single
+returns-in-32 c = rw c.in-32.is
+
+pub returns-in-33 : goal.returns-in-33
+unfolding class_of single
+returns-in-33 c = rw c.in-33.is
+
+pub returns-in-34 : goal.returns-in-34
+unfolding class_of single
+returns-in-34 c = rw c.in-34.is
+
+pub returns-in-35 : goal.returns-in-35
+unfolding class_of single
+returns-in-35 c = rw c.in-35.is
+
+pub returns-in-36 : goal.returns-in-36
+unfolding class_of single
+returns-in-36 c = rw c.in-36.is
+
+pub returns-in-37 : goal.returns-in-37
+unfolding class_of single
+returns-in-37 c = rw c.in-37.is
+
+pub returns-in-38 : goal.returns-in-38
+unfolding class_of single
+returns-in-38 c = rw c.in-38.is
+
+pub returns-in-39 : goal.returns-in-39
+unfolding class_of single
+returns-in-39 c = rw c.in-39.is
+
+pub returns-in-40 : goal.returns-in-40
+unfolding class_of single
+returns-in-40 c = rw c.in-40.is
+
+pub returns-in-41 : goal.returns-in-41
+unfolding class_of single
+returns-in-41 c = rw c.in-41.is
+
+pub returns-in-42 : goal.returns-in-42
+unfolding class_of single
+returns-in-42 c = rw c.in-42.is
+
+pub returns-in-43 : goal.returns-in-43
+unfolding class_of single
+returns-in-43 c = rw c.in-43.is
+
+pub returns-in-44 : goal.returns-in-44
+unfolding class_of single
+returns-in-44 c = rw c.in-44.is
+
+pub returns-in-45 : goal.returns-in-45
+unfolding class_of single
+returns-in-45 c = rw c.in-45.is
+
+pub returns-in-46 : goal.returns-in-46
+unfolding class_of single
+returns-in-46 c = rw c.in-46.is
+
+pub returns-in-47 : goal.returns-in-47
+unfolding class_of single
+returns-in-47 c = rw c.in-47.is
+
+pub returns-in-48 : goal.returns-in-48
+unfolding class_of single
+returns-in-48 c = rw c.in-48.is
+
+pub returns-in-49 : goal.returns-in-49
+unfolding class_of single
+returns-in-49 c = rw c.in-49.is
+
+pub returns-in-50 : goal.returns-in-50
+unfolding class_of single
+returns-in-50 c = rw c.in-50.is
+
+pub returns-in-51 : goal.returns-in-51
+unfolding class_of single
+returns-in-51 c = rw c.in-51.is
+
+pub returns-in-52 : goal.returns-in-52
+unfolding class_of single
+returns-in-52 c = rw c.in-52.is
+
+pub returns-in-53 : goal.returns-in-53
+unfolding class_of single
+returns-in-53 c = rw c.in-53.is
+
+pub returns-in-54 : goal.returns-in-54
+unfolding class_of single
+returns-in-54 c = rw c.in-54.is
+
+pub returns-in-55 : goal.returns-in-55
+unfolding class_of single
+returns-in-55 c = rw c.in-55.is
+
+pub returns-in-56 : goal.returns-in-56
+unfolding class_of single
+returns-in-56 c = rw c.in-56.is
+
+pub returns-in-57 : goal.returns-in-57
+unfolding class_of single
+returns-in-57 c = rw c.in-57.is
+
+pub returns-in-58 : goal.returns-in-58
+unfolding class_of single
+returns-in-58 c = rw c.in-58.is
+
+pub returns-in-59 : goal.returns-in-59
+unfolding class_of single
+returns-in-59 c = rw c.in-59.is
+
+pub returns-in-60 : goal.returns-in-60
+unfolding class_of single
+returns-in-60 c = rw c.in-60.is
+
+pub returns-in-61 : goal.returns-in-61
+unfolding class_of single
+returns-in-61 c = rw c.in-61.is
+
+pub returns-in-62 : goal.returns-in-62
+unfolding class_of single
+returns-in-62 c = rw c.in-62.is
+
+pub returns-in-63 : goal.returns-in-63
+unfolding class_of single
+returns-in-63 c = rw c.in-63.is
+
+pub returns-in-64 : goal.returns-in-64
+unfolding class_of single
+returns-in-64 c = rw c.in-64.is
+
+pub returns-in-65 : goal.returns-in-65
+unfolding class_of single
+returns-in-65 c = rw c.in-65.is
+
+pub returns-in-66 : goal.returns-in-66
+unfolding class_of single
+returns-in-66 c = rw c.in-66.is
+
+pub returns-in-67 : goal.returns-in-67
+unfolding class_of single
+returns-in-67 c = rw c.in-67.is
+
+pub returns-in-68 : goal.returns-in-68
+unfolding class_of single
+returns-in-68 c = rw c.in-68.is
+
+pub returns-in-69 : goal.returns-in-69
+unfolding class_of single
+returns-in-69 c = rw c.in-69.is
+
+pub returns-in-70 : goal.returns-in-70
+unfolding class_of single
+returns-in-70 c = rw c.in-70.is
+
+pub returns-in-71 : goal.returns-in-71
+unfolding class_of single
+returns-in-71 c = rw c.in-71.is
+
+pub returns-in-72 : goal.returns-in-72
+unfolding class_of single
+returns-in-72 c = rw c.in-72.is
+
+pub returns-in-73 : goal.returns-in-73
+unfolding class_of single
+returns-in-73 c = rw c.in-73.is
+
+pub returns-in-74 : goal.returns-in-74
+unfolding class_of single
+returns-in-74 c = rw c.in-74.is
+
+pub returns-in-75 : goal.returns-in-75
+unfolding class_of single
+returns-in-75 c = rw c.in-75.is
+
+pub returns-in-76 : goal.returns-in-76
+unfolding class_of single
+returns-in-76 c = rw c.in-76.is
+
+pub returns-in-77 : goal.returns-in-77
+unfolding class_of single
+returns-in-77 c = rw c.in-77.is
+
+pub returns-in-78 : goal.returns-in-78
+unfolding class_of single
+returns-in-78 c = rw c.in-78.is
+
+pub returns-in-79 : goal.returns-in-79
+unfolding class_of single
+returns-in-79 c = rw c.in-79.is
+
+pub returns-in-80 : goal.returns-in-80
+unfolding class_of single
+returns-in-80 c = rw c.in-80.is
+
+pub returns-in-81 : goal.returns-in-81
+unfolding class_of single
+returns-in-81 c = rw c.in-81.is
+
+pub returns-in-82 : goal.returns-in-82
+unfolding class_of single
+returns-in-82 c = rw c.in-82.is
+
+pub returns-in-83 : goal.returns-in-83
+unfolding class_of single
+returns-in-83 c = rw c.in-83.is
+
+pub returns-in-84 : goal.returns-in-84
+unfolding class_of single
+returns-in-84 c = rw c.in-84.is
+
+pub returns-in-85 : goal.returns-in-85
+unfolding class_of single
+returns-in-85 c = rw c.in-85.is
+
+pub returns-in-86 : goal.returns-in-86
+unfolding class_of single
+returns-in-86 c = rw c.in-86.is
+
+pub returns-in-87 : goal.returns-in-87
+unfolding class_of single
+returns-in-87 c = rw c.in-87.is
+
+pub returns-in-88 : goal.returns-in-88
+unfolding class_of single
+returns-in-88 c = rw c.in-88.is
+
+pub returns-in-89 : goal.returns-in-89
+unfolding class_of single
+returns-in-89 c = rw c.in-89.is
+
+pub returns-in-90 : goal.returns-in-90
+unfolding class_of single
+returns-in-90 c = rw c.in-90.is
+
+pub returns-in-91 : goal.returns-in-91
+unfolding class_of single
+returns-in-91 c = rw c.in-91.is
+
+pub returns-in-92 : goal.returns-in-92
+unfolding class_of single
+returns-in-92 c = rw c.in-92.is
+
+pub returns-in-93 : goal.returns-in-93
+unfolding class_of single
+returns-in-93 c = rw c.in-93.is
+
+pub returns-in-94 : goal.returns-in-94
+unfolding class_of single
+returns-in-94 c = rw c.in-94.is
+
+pub returns-in-95 : goal.returns-in-95
+unfolding class_of single
+returns-in-95 c = rw c.in-95.is
+
+pub returns-in-96 : goal.returns-in-96
+unfolding class_of single
+returns-in-96 c = rw c.in-96.is
+
+pub returns-in-97 : goal.returns-in-97
+unfolding class_of single
+returns-in-97 c = rw c.in-97.is
+
+pub returns-in-98 : goal.returns-in-98
+unfolding class_of single
+returns-in-98 c = rw c.in-98.is
+
+pub returns-in-99 : goal.returns-in-99
+unfolding class_of single
+returns-in-99 c = rw c.in-99.is
+
+pub returns-in-100 : goal.returns-in-100
+unfolding class_of single
+returns-in-100 c = rw c.in-100.is
+
+pub returns-in-101 : goal.returns-in-101
+unfolding class_of single
+returns-in-101 c = rw c.in-101.is
+
+pub returns-in-102 : goal.returns-in-102
+unfolding class_of single
+returns-in-102 c = rw c.in-102.is
+
+pub returns-in-103 : goal.returns-in-103
+unfolding class_of single
+returns-in-103 c = rw c.in-103.is
+
+pub returns-in-104 : goal.returns-in-104
+unfolding class_of single
+returns-in-104 c = rw c.in-104.is
+
+pub returns-in-105 : goal.returns-in-105
+unfolding class_of single
+returns-in-105 c = rw c.in-105.is
+
+pub returns-in-106 : goal.returns-in-106
+unfolding class_of single
+returns-in-106 c = rw c.in-106.is
+
+pub returns-in-107 : goal.returns-in-107
+unfolding class_of single
+returns-in-107 c = rw c.in-107.is
+
+pub returns-in-108 : goal.returns-in-108
+unfolding class_of single
+returns-in-108 c = rw c.in-108.is
+
+pub returns-in-109 : goal.returns-in-109
+unfolding class_of single
+returns-in-109 c = rw c.in-109.is
+
+pub returns-in-110 : goal.returns-in-110
+unfolding class_of single
+returns-in-110 c = rw c.in-110.is
+
+pub returns-in-111 : goal.returns-in-111
+unfolding class_of single
+returns-in-111 c = rw c.in-111.is
+
+pub returns-in-112 : goal.returns-in-112
+unfolding class_of single
+returns-in-112 c = rw c.in-112.is
+
+pub returns-in-113 : goal.returns-in-113
+unfolding class_of single
+returns-in-113 c = rw c.in-113.is
+
+pub returns-in-114 : goal.returns-in-114
+unfolding class_of single
+returns-in-114 c = rw c.in-114.is
+
+pub returns-in-115 : goal.returns-in-115
+unfolding class_of single
+returns-in-115 c = rw c.in-115.is
+
+pub returns-in-116 : goal.returns-in-116
+unfolding class_of single
+returns-in-116 c = rw c.in-116.is
+
+pub returns-in-117 : goal.returns-in-117
+unfolding class_of single
+returns-in-117 c = rw c.in-117.is
+
+pub returns-in-118 : goal.returns-in-118
+unfolding class_of single
+returns-in-118 c = rw c.in-118.is
+
+pub returns-in-119 : goal.returns-in-119
+unfolding class_of single
+returns-in-119 c = rw c.in-119.is
+
+pub returns-in-120 : goal.returns-in-120
+unfolding class_of single
+returns-in-120 c = rw c.in-120.is
+
+pub returns-in-121 : goal.returns-in-121
+unfolding class_of single
+returns-in-121 c = rw c.in-121.is
+
+pub returns-in-122 : goal.returns-in-122
+unfolding class_of single
+returns-in-122 c = rw c.in-122.is
+
+pub returns-in-123 : goal.returns-in-123
+unfolding class_of single
+returns-in-123 c = rw c.in-123.is
+
+pub returns-in-124 : goal.returns-in-124
+unfolding class_of single
+returns-in-124 c = rw c.in-124.is
+
+pub returns-in-125 : goal.returns-in-125
+unfolding class_of single
+returns-in-125 c = rw c.in-125.is
+
+pub returns-in-126 : goal.returns-in-126
+unfolding class_of single
+returns-in-126 c = rw c.in-126.is
+
+pub returns-in-127 : goal.returns-in-127
+unfolding class_of single
+returns-in-127 c = rw c.in-127.is
+
+pub returns-in-128 : goal.returns-in-128
+unfolding class_of single
+returns-in-128 c = rw c.in-128.is
+
+pub returns-in-129 : goal.returns-in-129
+unfolding class_of single
+returns-in-129 c = rw c.in-129.is
+
+pub returns-in-130 : goal.returns-in-130
+unfolding class_of single
+returns-in-130 c = rw c.in-130.is
+
+pub returns-in-131 : goal.returns-in-131
+unfolding class_of single
+returns-in-131 c = rw c.in-131.is
+
+pub returns-in-132 : goal.returns-in-132
+unfolding class_of single
+returns-in-132 c = rw c.in-132.is
+
+pub returns-in-133 : goal.returns-in-133
+unfolding class_of single
+returns-in-133 c = rw c.in-133.is
+
+pub returns-in-134 : goal.returns-in-134
+unfolding class_of single
+returns-in-134 c = rw c.in-134.is
+
+pub returns-in-135 : goal.returns-in-135
+unfolding class_of single
+returns-in-135 c = rw c.in-135.is

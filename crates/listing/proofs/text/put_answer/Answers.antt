@@ -1,15 +1,23 @@
+use borrow.Author.Rules.{rules}
+use Rattle.std.specs.Prelude.{◌≡◌, Ok}
+use Rattle.std.proofs.Common.{ap, ◌∙◌}
+use Rattle.optimize.specs.declared.Answer.TheVariants.{Unchanged, Rewritten}
 use Rattle.listing.specs.Text.{text_of, unchanged_text, refused_text, rewritten_text}
 use Rattle.listing.specs.laws.Puts.{puts_then}
 use Rattle.listing.proofs.text.put_answer.Goals as goal
 
-pub returns-in-Unchanged : goal.returns-in-Unchanged
+pub returns-in-Ok-Unchanged : goal.returns-in-Ok-Unchanged
 unfolding text_of unchanged_text
-returns-in-Unchanged c = rw c.in-Unchanged.is c.put_bytes.ensures
+returns-in-Ok-Unchanged c =
+    let z : c.in-Ok-Unchanged.field-0 ≡ Unchanged = search rules in
+    rw (c.in-Ok-Unchanged.is ∙ ap Ok z) c.put_bytes.ensures
 
-pub returns-in-Refused : goal.returns-in-Refused
+pub returns-in-Err : goal.returns-in-Err
 unfolding text_of refused_text
-returns-in-Refused c = rw c.in-Refused.is (puts_then (puts_then c.put_bytes-at.ensures c.put_number-at.ensures.text) c.put_number.ensures.text)
+returns-in-Err c = rw c.in-Err.is (puts_then (puts_then c.put_bytes-at-in-Err.ensures c.put_number-at-in-Err.ensures.text) c.put_number.ensures.text)
 
-pub returns-in-Rewritten : goal.returns-in-Rewritten
+pub returns-in-Ok-Rewritten : goal.returns-in-Ok-Rewritten
 unfolding text_of rewritten_text
-returns-in-Rewritten c = rw c.in-Rewritten.is (puts_then (puts_then c.put_bytes-at-in-Rewritten.ensures c.put_number-at-in-Rewritten.ensures.text) c.put_lines.ensures)
+returns-in-Ok-Rewritten c =
+    let z : c.in-Ok-Rewritten.field-0 ≡ Rewritten c.in-Ok-Rewritten.n = search rules in
+    rw (c.in-Ok-Rewritten.is ∙ ap Ok z) (puts_then (puts_then c.put_bytes-at.ensures c.put_number-at.ensures.text) c.put_lines.ensures)

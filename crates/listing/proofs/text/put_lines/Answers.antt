@@ -5,8 +5,8 @@ use Rattle.listing.proofs.text.put_lines.Goals as goal
 
 pub loop-k-init : goal.loop-k-init
 unfolding lines
-loop-k-init c = (search rules, search rules, puts_none _ _ (search rules))
+loop-k-init c = (search rules, puts_none _ _ (search rules))
 
 pub loop-k-preserved : goal.loop-k-preserved
 unfolding lines
-loop-k-preserved c = (search rules, search rules, rw (add-one c.loop-k.k) (puts_then c.loop-k.invariant.2 c.put_line-end.ensures.text))
+loop-k-preserved c = (search rules, rw (add-one c.loop-k.k) (puts_then c.loop-k.invariant.1 c.put_line-end.ensures.text))

@@ -4,7 +4,4 @@ use Rattle.listing.specs.laws.Puts.{Puts}
 use Rattle.listing.proofs.text.put_lines.Given as goal
 
 abbrev pub invariant-loop-k : goal.invariant-loop-k
-invariant-loop-k l = (l.k ≤ l.n) × (l.end ≤ l.at + 77 * l.k) × Puts l.at (lines l.out l.n l.k) l.initial.text l.text l.end
-
-abbrev pub decreases-loop-k : goal.decreases-loop-k
-decreases-loop-k l = l.n - l.k
+invariant-loop-k l = (l.end ≤ l.at + 77 * l.k) × Puts l.at (lines l.out l.n l.k) l.initial.text l.text l.end

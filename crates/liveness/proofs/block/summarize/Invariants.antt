@@ -1,7 +1,6 @@
 use mathlib.Core.Path.{◌≡◌}
-use Prim.Native.Nat.{◌-◌, ◌≤◌}
 use lib.ListN.{length}
-use Rattle.effects.specs.Shape.{tables_of}
+use Rattle.effects.specs.Shape.{tables_in}
 use Rattle.effects.specs.laws.Cells.{cells_by}
 use Rattle.liveness.specs.laws.SetMemory.{code_words, uses_of, preserved_of, InSums}
 use Rattle.words.specs.laws.Only.{Only}
@@ -10,8 +9,5 @@ use Rattle.liveness.proofs.block.summarize.Given as goal
 
 abbrev pub invariant-loop-b : goal.invariant-loop-b
 invariant-loop-b l =
-    (l.b ≤ l.sets.count) × (length l.memory ≡ length l.initial.memory) × Only (InSums l.sets) l.initial.memory l.memory
-    × Summed (tables_of l.functions l.externs l.cases) l.keep (cells_by (code_words l.sets l.initial.memory) l.metadata) l.sets.width l.starts (uses_of l.sets l.memory) (preserved_of l.sets l.memory) l.b
-
-abbrev pub decreases-loop-b : goal.decreases-loop-b
-decreases-loop-b l = l.sets.count - l.b
+    (length l.memory ≡ length l.initial.memory) × Only (InSums l.sets) l.initial.memory l.memory
+    × Summed (tables_in l.tables) l.keep (cells_by (code_words l.sets l.initial.memory) l.metadata) l.sets.width l.starts (uses_of l.sets l.memory) (preserved_of l.sets l.memory) l.b

@@ -5,7 +5,6 @@ use native.Mathlib.Omega.{arith}
 use lib.Dec.{ltb}
 use lib.Bits.{bit_and}
 use borrow.Rule.Slice.PartMut.{mid_of}
-use Rattle.instruction.specs.laws.Class.{number_below}
 use Rattle.instruction.specs.Instruction.{class}
 use Rattle.flow.specs.Branch.{falls, branches}
 use Rattle.use_def.specs.laws.Wordwise.{all_bits}
@@ -26,21 +25,15 @@ After-falls = Lts.After-falls tie.the-claims Reads.Pre Reads.Post
 abbrev After-mask-first : Type 0
 After-mask-first = Lts.After-mask tie.the-claims Reads.Pre Reads.Post
 
-pub falls-requires : goal.falls-requires
-falls-requires c = rw c.class_number-k.ensures (number_below _)
-
 -- does it go on at the next place?
 abbrev goes_on : After-falls → Bool
 goes_on c = falls (class c.from_word-i.result) && ltb (c.args.p + 1) c.args.sets.code
 
 pub mask-first-requires : goal.mask-first-requires
-mask-first-requires c = rw (c.falls.ensures _ c.class_number-k.ensures, both_bits) (byte_below (goes_on c.before))
-
-pub branches-requires : goal.branches-requires
-branches-requires c = rw c.class_number-k.ensures (number_below _)
+mask-first-requires c = rw (c.falls.ensures, c.class-class.ensures, both_bits) (byte_below (goes_on c.before))
 
 pub mask-second-requires : goal.mask-second-requires
-mask-second-requires c = rw (c.branches.ensures _ c.class_number-k.ensures) (byte_below (branches (class c.from_word-i.result)))
+mask-second-requires c = rw (rw c.class-class.ensures at c.branches.ensures) (byte_below (branches (class c.from_word-i.result)))
 
 -- the next place, if it goes on there, or place 0
 abbrev nextPlace : After-mask-first → ℕ
@@ -50,7 +43,7 @@ next-inside : (c : After-mask-first) → nextPlace c < c.args.sets.code
 next-inside c = next_place (falls (class c.from_word-i.result)) c.args.p c.args.sets.code c.requires.1
 
 goes_on_lem : (c : After-mask-first) → c.mask-first.result ≡ all_bits (goes_on c.before)
-goes_on_lem c = c.mask-first.ensures (goes_on c.before) (rw (c.falls.ensures _ c.class_number-k.ensures) (both_bits (falls (class c.from_word-i.result)) (ltb (c.args.p + 1) c.args.sets.code)))
+goes_on_lem c = c.mask-first.ensures (goes_on c.before) (rw (rw c.class-class.ensures at c.falls.ensures) (both_bits (falls (class c.from_word-i.result)) (ltb (c.args.p + 1) c.args.sets.code)))
 
 next-masked : (c : After-mask-first) → bit_and (c.args.p + 1) c.mask-first.result ≡ nextPlace c
 next-masked c =
@@ -70,7 +63,7 @@ abbrev targetPlace : After-branch_target → ℕ
 targetPlace c = cond (branching c) c.branch_target.result 0
 
 branches-to : (c : After-branch_target) → c.mask-second.result ≡ all_bits (branching c)
-branches-to c = c.mask-second.ensures (branching c) (c.branches.ensures _ c.class_number-k.ensures)
+branches-to c = c.mask-second.ensures (branching c) (rw c.class-class.ensures at c.branches.ensures)
 
 target-masked : (c : After-branch_target) → bit_and c.branch_target.result c.mask-second.result ≡ targetPlace c
 target-masked c = rw (branches-to c) (place_if c.branch_target.result (branching c) (omega arith))

@@ -1,6 +1,6 @@
 use mathlib.Core.Path.{◌≡◌}
 use mathlib.Core.List.{List}
-use Prim.Native.Nat.{ℕ, ◌≤◌}
+use Prim.Native.Nat.{ℕ}
 use lib.ListN.{length}
 use Rattle.effects.specs.Shape.{Sections}
 use Rattle.effects.specs.laws.Cells.{cells_by}
@@ -12,9 +12,6 @@ use Rattle.liveness.proofs.round.round.Given as goal
 
 abbrev pub invariant-loop-b : goal.invariant-loop-b
 invariant-loop-b l =
-    (l.b ≤ l.sets.count) × (length l.memory ≡ length l.initial.memory) × Only (InRows l.sets) l.initial.memory l.memory
+    (length l.memory ≡ length l.initial.memory) × Only (InRows l.sets) l.initial.memory l.memory
     × ((S : Sections) (leaders keep metadata : List ℕ) (rows : List Row) → Around S leaders keep (cells_by (code_words l.sets l.initial.memory) metadata) l.sets.width l.sets.count rows l.blocks l.starts (uses_of l.sets l.initial.memory) (preserved_of l.sets l.initial.memory) (live_of l.sets l.initial.memory)
     → Rounding S leaders keep (cells_by (code_words l.sets l.initial.memory) metadata) l.sets.width l.sets.count rows (live_of l.sets l.initial.memory) (live_of l.sets l.memory) l.b l.changed)
-
-abbrev pub decreases-loop-b : goal.decreases-loop-b
-decreases-loop-b l = l.b

@@ -3,17 +3,12 @@ use mathlib.Core.Bool.{false≢true}
 use Prim.Native.Nat.{◌*◌, ◌≤◌}
 use native.Mathlib.Nat.{mul-le-mul}
 use native.Mathlib.Omega.{arith}
-use Rattle.effects.specs.Shape.{tables_of}
+use Rattle.effects.specs.Shape.{tables_in}
 use Rattle.liveness.specs.laws.Droppable.{few_words, few_blocks}
 use Rattle.liveness.specs.laws.Stores.{no_words, too_many}
 use Rattle.liveness.specs.laws.Workable.{Workable, workable}
 use Rattle.liveness.proofs.solve.solve_rows.Goals as goal
-use Rattle.liveness.proofs.solve.solve_rows.Tie as tie
-use Rattle.liveness.proofs.solve.solve_rows.Lts
-use Rattle.liveness.proofs.solve.solve_rows.Reads
-
-abbrev After-laid_out : Type 0
-After-laid_out = Lts.After-laid_out tie.the-claims Reads.Pre Reads.Post tie.handed_clauses
+use Rattle.liveness.proofs.solve.solve_rows.Goals.{After-laid_out}
 
 pub returns-then-w-eq0 : goal.returns-then-w-eq0
 returns-then-w-eq0 c =
@@ -31,17 +26,16 @@ returns-then-w-count-gt-MAX_SET_WORDS c =
     record { found = λ e. absurd (false≢true e); none = λ e constants. too_many c.requires.known c.set_words-w.ensures constants c.if-w-count-gt-MAX_SET_WORDS.true; code = refl }
 
 -- the sets as they are laid out
-works : (c : After-laid_out) → let a = c.before.before.before.before.before.before.before.before.before.before.before.before in
-    Workable c.laid_out.result (tables_of a.args.functions.now a.args.externs.now a.args.cases.now) a.args.memory.now a.args.metadata.now a.args.types.now a.args.table.now
+works : (c : After-laid_out) → Workable c.laid_out.result (tables_in c.args.tables) c.args.memory.now c.args.metadata.now c.args.types.now c.args.table.now
 works c =
     workable c.requires.known c.set_words-w.ensures _ c.laid_out.ensures (omega arith) (omega arith) c.requires.room c.requires.flags
 
 pub solve_blocks-requires : goal.solve_blocks-requires
-solve_blocks-requires c = record { workable = (_, works c.before) }
+solve_blocks-requires c = record { workable = (_, works (goal.at.solve_blocks-requires c).After-laid_out) }
 
 pub returns : goal.returns
 returns c =
     let words = c.set_words-w.ensures in
-    let g = rw (c.laid_out.ensures, words) at (works c.before.before.before.before) in
+    let g = rw (c.laid_out.ensures, words) at (works (goal.at.returns c).After-laid_out) in
     let x = rw (c.laid_out.ensures, words) at c.solve_blocks.ensures in
     record { found = λ e constants. x.found e _ constants g; none = λ e constants. x.none e _ constants g; code = x.code }

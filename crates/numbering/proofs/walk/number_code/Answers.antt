@@ -56,36 +56,10 @@ word h l =
 pub returns-then-n-eq0 : goal.returns-then-n-eq0
 returns-then-n-eq0 c = no_code (mid_of 0 (length c.args.leaders.now) c.args.memory.now) _ _ _ (mid_long c.args.memory.now 0 (length c.args.leaders.now) (omega (arith, c.requires.long)) ∙ c.if-n-eq0.true)
 
-pub slice_bounds-begin-count : goal.slice_bounds-begin-count
-slice_bounds-begin-count c = omega (arith, c.requires.long)
-
-pub slice_bounds-begin-start : goal.slice_bounds-begin-start
-slice_bounds-begin-start c = omega (arith, c.requires.long)
-
-pub begin-requires : goal.begin-requires
-begin-requires c =
-    let part = mid_long c.args.memory.now (length c.args.leaders.now) (length c.args.memory.now - length c.args.leaders.now) (omega (arith, c.requires.long)) in
-    (omega arith, c.requires.few, c.requires.locals, omega (arith, part, c.requires.long))
-
 pub loop-p-init : goal.loop-p-init
 loop-p-init c =
     let b = c.begin in
     numbering_start c.args.memory.now _ (omega (arith, c.requires.long)) b.auto.t b.ensures
-
-pub offset_bounds-memory-p : goal.offset_bounds-memory-p
-offset_bounds-memory-p c = omega (arith, (start c.before.before).requires.few)
-
-pub bounds-memory-p : goal.bounds-memory-p
-bounds-memory-p c = omega (arith, room c.before.before.before)
-
-pub slice_bounds-turn-count : goal.slice_bounds-turn-count
-slice_bounds-turn-count c = room c.before.before.before.before
-
-pub slice_bounds-turn-start : goal.slice_bounds-turn-start
-slice_bounds-turn-start c = room c.before.before.before.before
-
-pub overflow_cast-p : goal.overflow_cast-p
-overflow_cast-p c = omega (arith, (start c.before.before.before.before.before).requires.few)
 
 pub turn-requires : goal.turn-requires
 turn-requires c =
@@ -94,18 +68,9 @@ turn-requires c =
     let s = start c.before.before.before.before.before in
     (turn_room g l s.requires.few, omega (arith, g.epochs_few, s.requires.few), rw (word c.before.before.before.before.before l) (s.requires.named c.loop-p.p l), l)
 
-pub offset_bounds-memory-p-in-loop-p : goal.offset_bounds-memory-p-in-loop-p
-offset_bounds-memory-p-in-loop-p c = omega (arith, (start c.before.before.before.before.before.before.before.before).requires.few)
-
-pub bounds-memory-p-in-loop-p : goal.bounds-memory-p-in-loop-p
-bounds-memory-p-in-loop-p c = omega (arith, room c.before.before.before.before.before.before.before.before, whole_long (size c.before.before.before.before.before.before.before.before) c.loop-p.memory c.turn.new.t (room c.before.before.before.before.before.before.before.before) c.turn.auto.t)
-
 pub loop-p-preserved : goal.loop-p-preserved
 loop-p-preserved c =
     numbering_turn c.loop-p.invariant c.loop-p-test.true (room c.before.before.before.before.before.before.before.before) refl c.turn.auto.t c.turn.ensures
-
-pub shape_of-memory : goal.shape_of-memory
-shape_of-memory c = long c.before.before
 
 pub returns : goal.returns
 returns c =

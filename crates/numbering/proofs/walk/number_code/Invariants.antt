@@ -1,10 +1,5 @@
-use Prim.Native.Nat.{◌-◌}
-use lib.ListN.{length}
 use Rattle.numbering.proofs.Loop.{Numbering}
 use Rattle.numbering.proofs.walk.number_code.Given as goal
 
 abbrev pub invariant-loop-p : goal.invariant-loop-p
 invariant-loop-p l = Numbering l.leaders l.types l.constants l.initial.memory l.memory l.p
-
-abbrev pub decreases-loop-p : goal.decreases-loop-p
-decreases-loop-p l = length l.leaders - l.p

@@ -1,13 +1,13 @@
 use mathlib.Core.Path.{◌≡◌, refl, sym, ap, ◌∙◌}
 use mathlib.Core.List.{List}
-use Prim.Native.Nat.{ℕ, ◌+◌, ◌-◌, ◌≤◌}
+use Prim.Native.Nat.{ℕ, ◌+◌, ◌-◌}
 use native.Mathlib.Omega.{arith}
 use lib.ListN.{length}
 use borrow.Rule.Slice.PartMut.{mid_of}
+use Rattle.std.proofs.lemmas.Result.{err_from_is_err_and}
 use Rattle.words.specs.laws.Regions.{mid_long}
-use Rattle.effects.specs.declared.Check.TheVariants.{Passed}
+use Rattle.effects.specs.Check.{Passed, operand_check}
 use Rattle.effects.specs.Shape.{Sections, Cell}
-use Rattle.effects.specs.Check.{operand_check}
 use Rattle.flow.specs.laws.Listing.{check_of}
 use Rattle.answer.specs.Answer.{sections_of}
 use Rattle.answer.specs.Pass.{after_operands, optimized}
@@ -16,49 +16,7 @@ use Rattle.optimize.specs.laws.Steps.{controls_at, Loaded, ListedControls, Renum
 use Rattle.optimize.specs.laws.Decided.{Finished, decides_refused, conclude_decides}
 use Rattle.optimize.specs.laws.Chain.{checked_refused, checked_passed, same_room, loaded_numberable, loaded_branches, loaded_renumbered, numbered_listed, reached_marks_lem, reached_answer, marks_retainable, kept_finished, kept_answer}
 use Rattle.optimize.proofs.function.decide.Goals as goal
-use Rattle.optimize.proofs.function.decide.Tie as tie
-use Rattle.optimize.proofs.function.decide.Lts
-use Rattle.optimize.proofs.function.decide.Reads
-
-abbrev After-load : Type 0
-After-load = Lts.After-load tie.the-claims Reads.Pre Reads.Post tie.handed_clauses
-
-abbrev After-number : Type 0
-After-number = Lts.After-number tie.the-claims Reads.Pre Reads.Post tie.handed_clauses
-
-abbrev After-reach : Type 0
-After-reach = Lts.After-reach tie.the-claims Reads.Pre Reads.Post tie.handed_clauses
-
-abbrev After-reach-arg-1 : Type 0
-After-reach-arg-1 = Lts.After-reach-arg tie.the-claims Reads.Pre Reads.Post tie.handed_clauses
-
-abbrev After-retain : Type 0
-After-retain = Lts.After-retain tie.the-claims Reads.Pre Reads.Post tie.handed_clauses
-
-abbrev After-work64_room : Type 0
-After-work64_room = Lts.After-work64_room tie.the-claims Reads.Pre Reads.Post tie.handed_clauses
-
-abbrev In-Listed : Type 0
-In-Listed = Lts.Past-After-known_told2 tie.the-claims Reads.Pre Reads.Post tie.handed_clauses
-
-abbrev In-Passed : Type 0
-In-Passed = Lts.Past-After-enum_told tie.the-claims Reads.Pre Reads.Post tie.handed_clauses
-
-abbrev In-Passed-reach : Type 0
-In-Passed-reach = Lts.Past-After-enum_told2 tie.the-claims Reads.Pre Reads.Post tie.handed_clauses
-
-abbrev Start : Type 0
-Start = Lts.Start tie.the-claims Reads.Pre Reads.Post tie.handed_clauses
-
--- the function
-abbrev S : Start → Sections
-S s = sections_of s.args.unit.now
-
-abbrev cells : Start → List Cell
-cells s = cells_in s.args.n s.args.code.now s.args.metadata.now
-
-given : (s : Start) → Given s.args.n s.args.code.now s.args.metadata.now (S s)
-given s = s.requires.given.given
+use Rattle.optimize.proofs.function.decide.Goals.{After-work64_room, In_ok-count, In_ok-check_branches, After-number, After-reach, After-retain}
 
 -- ---- the list of the control places
 pub work64_room-requires : goal.work64_room-requires
@@ -66,231 +24,187 @@ unfolding sections_of
 work64_room-requires c =
     rw (c.types.ensures, c.requires.given.given.typed) (omega (arith, c.requires.given.given.few), c.requires.given.given.slots)
 
-there : (w : After-work64_room) → w.work64_room.result - w.args.n ≡ controls_at w.args.n (S w.before.before.before.before.before.before.before).locals
+pub load-requires-clause-list : goal.load-requires-clause-list
 unfolding sections_of
-there w = rw (w.work64_room.ensures, w.types.ensures, w.requires.given.given.typed)
+load-requires-clause-list c = rw (c.work64_room.ensures, c.types.ensures, c.requires.given.given.typed)
 
-pub load-requires : goal.load-requires
-load-requires c =
-    record { laid = c.requires.given.laid; given = c.requires.given.given; list = there c.before.before; room = c.requires.given.room.room64 }
+-- ---- past refusals 5, 6 and 7: the code is loaded, and its control places are listed
+record Coded (S : Sections) (code metadata : List ℕ) (n at count room32 : ℕ) (words : List ℕ) : Type 0 where
+  given : Given n code metadata S
+  loaded : Loaded n S.locals at count code words
+  operands : operand_check S.locals S.tables (cells_in n code metadata) ≡ Passed
+  room : WorkRoom n S.locals room32 (length words)
 
--- ---- after refusals 5, 6 and 7: the code is loaded
-abbrev asked : After-work64_room → Start
-asked w = w.before.before.before.before.before.before.before
-
-abbrev start : After-load → Start
-start l = asked l.before.before
-
-abbrev at : After-load → ℕ
-at l = l.work64_room.result - (start l).args.n
-
--- the work then
-abbrev words : After-load → List ℕ
-words l = l.load.new.work64
-
-abbrev listing : In-Listed → After-load
-listing m = m.before.before.before
-
-abbrev entry : In-Listed → Start
-entry m = start (listing m)
-
-abbrev count : In-Listed → ℕ
-count m = m.in-Listed.count
-
-loaded : (m : In-Listed) → let s = entry m in Loaded s.args.n (S s).locals (at (listing m)) (count m) s.args.code.now (words (listing m))
-loaded m = (listing m).load.ensures.loaded _ m.in-Listed.is
-
-operands : (m : In-Listed) → let s = entry m in operand_check (S s).locals (S s).tables (cells s) ≡ Passed
+coded : (m : In_ok-count) → Coded (sections_of m.args.unit.now) m.args.code.now m.args.metadata.now m.args.n (m.work64_room.result - m.args.n) m.in_ok-count.count (length m.args.work32.now) m.load.new.work64
 unfolding check_of
-operands m = sym (listing m).load.ensures.answer ∙ ap check_of m.in-Listed.is
-
-room : (m : In-Listed) → let s = entry m in WorkRoom s.args.n (S s).locals (length s.args.work32.now) (length (words (listing m)))
-room m = same_room _ _ _ _ _ _ (entry m).requires.given.room refl (listing m).load.auto.work64
-
-within : (m : In-Listed) → at (listing m) + count m ≤ length (words (listing m))
-within m = (loaded m).listed.within
-
-pub overflow_add-at : goal.overflow_add-at
-overflow_add-at c = omega (arith, within c.before.before)
-
-pub offset_bounds-work64-at : goal.offset_bounds-work64-at
-offset_bounds-work64-at c = omega (arith, within c.before.before)
-
-pub slice_bounds-check_branches-end-in-Listed : goal.slice_bounds-check_branches-end-in-Listed
-slice_bounds-check_branches-end-in-Listed c = omega (arith, within c.before.before)
+coded m = record {
+  given = m.requires.given.given;
+  loaded = m.load.ensures.loaded _ m.in_ok-count.was;
+  operands = sym m.load.ensures.answer ∙ ap check_of m.in_ok-count.was;
+  room = same_room _ _ _ _ _ _ m.requires.given.room refl m.load.auto.work64;
+}
 
 pub check_branches-requires : goal.check_branches-requires
 check_branches-requires c =
-    let n = (entry c.before.before.before).args.n in
-    let l = (loaded c.before.before.before).listed in
-    let size : length (mid_of 0 (n - 0) (words (listing c.before.before.before))) ≡ n - 0 = mid_long (words (listing c.before.before.before)) 0 (n - 0) (omega (arith, l.values, l.within)) in
-    (rw size (omega (arith, (given (entry c.before.before.before)).few)), list_lent l (n - 0) (at (listing c.before.before.before) + count c.before.before.before - at (listing c.before.before.before)) (omega arith) (omega arith))
+    let n = c.args.n in
+    let at = c.work64_room.result - n in
+    let m = coded (goal.at.check_branches-requires c).In_ok-count in
+    let l = m.loaded.listed in
+    let size : length (mid_of 0 (n - 0) c.load.new.work64) ≡ n - 0 = mid_long c.load.new.work64 0 (n - 0) (omega (arith, l.values, l.within)) in
+    (rw size (omega (arith, m.given.few)), list_lent l (n - 0) (at + c.in_ok-count.count - at) (omega arith) (omega arith))
 
--- ---- after refusal 8
-abbrev branched : In-Passed → In-Listed
-branched b = b.before.before.before.before
-
-pub number-requires : goal.number-requires
-number-requires c =
-    let m = branched c.before.before.before in
-    let s = entry m in
-    let a = s.args in record { laid = s.requires.given.laid; typed = (given s).typed; numberable = loaded_numberable a.n a.code.now a.metadata.now (S s) (given s) _ _ (room m) (operands m) (loaded m).words; listed = (loaded m).listed }
-
-checked : (b : In-Passed) → let s = entry (branched b) in Checked (S s) (cells s)
-checked b =
-    let m = branched b in
-    let s = entry m in
-    let a = s.args in
+-- ---- past refusal 8
+checked : (b : In_ok-check_branches) → Coded (sections_of b.args.unit.now) b.args.code.now b.args.metadata.now b.args.n (b.work64_room.result - b.args.n) b.in_ok-count.count (length b.args.work32.now) b.load.new.work64
+    → Checked (sections_of b.args.unit.now) (cells_in b.args.n b.args.code.now b.args.metadata.now)
+checked b m =
+    let a = b.args in
     record {
-      operands = operands m;
-      branches = loaded_branches a.n a.code.now a.metadata.now (S s) (given s) (a.n - 0) (words (listing m)) (omega arith) (loaded m).words ∙ sym (b.check_branches.ensures a.metadata.now) ∙ b.in-Passed.is;
+      operands = m.operands;
+      branches = loaded_branches a.n a.code.now a.metadata.now (sections_of a.unit.now) m.given (a.n - 0) b.load.new.work64 (omega arith) m.loaded.words ∙ sym (b.check_branches.ensures a.metadata.now) ∙ b.in_ok-check_branches.was;
     }
 
+pub number-requires-clause-numberable : goal.number-requires-clause-numberable
+number-requires-clause-numberable c =
+    let a = c.args in
+    let m = coded (goal.at.number-requires-clause-numberable c).In_ok-count in
+    loaded_numberable a.n a.code.now a.metadata.now (sections_of a.unit.now) m.given _ _ m.room m.operands m.loaded.words
+
+pub number-requires-clause-listed : goal.number-requires-clause-listed
+number-requires-clause-listed c = (coded (goal.at.number-requires-clause-listed c).In_ok-count).loaded.listed
+
 -- ---- the code is numbered
-abbrev passed : After-number → In-Passed
-passed r = r.before.before.before
+record Numbered (S : Sections) (code metadata : List ℕ) (n at count : ℕ) (work32 work64 : List ℕ) : Type 0 where
+  given : Given n code metadata S
+  checked : Checked S (cells_in n code metadata)
+  room : WorkRoom n S.locals (length work32) (length work64)
+  renumbered : Renumbered S (cells_in n code metadata) n work32 work64
+  listed : ListedControls n S.locals at count work64
 
-abbrev begin : After-number → Start
-begin r = entry (branched (passed r))
-
-abbrev m : After-number → In-Listed
-m r = branched (passed r)
-
-abbrev work32 : After-number → List ℕ
-work32 r = r.number.new.work32
-
-abbrev work64 : After-number → List ℕ
-work64 r = r.number.new.work64
-
-long64 : (r : After-number) → length (work64 r) ≡ length (words (listing (m r)))
-long64 r = r.number.auto.work64
-
-numbered-room : (r : After-number) → WorkRoom (begin r).args.n (S (begin r)).locals (length (work32 r)) (length (work64 r))
-numbered-room r = same_room _ _ _ _ _ _ (room (m r)) r.number.auto.work32 (long64 r)
-
-renumbered : (r : After-number) → Renumbered (S (begin r)) (cells (begin r)) (begin r).args.n (work32 r) (work64 r)
-renumbered r =
-    let s = begin r in
-    let a = s.args in
-    loaded_renumbered a.n a.code.now a.metadata.now (S s) (given s) (words (listing (m r))) _ _ (loaded (m r)).words (r.number.ensures.numbered a.metadata.now)
-
-listed : (r : After-number) → ListedControls (begin r).args.n (S (begin r)).locals (at (listing (m r))) (count (m r)) (work64 r)
-listed r =
-    let s = begin r in
-    let a = s.args in
-    numbered_listed a.n a.code.now a.metadata.now (S s) (given s) (checked (passed r)) _ _ (renumbered r) (loaded (m r)).words (long64 r) r.number.ensures.behind (loaded (m r)).listed
-
-pub slice_bounds-reach-end : goal.slice_bounds-reach-end
-slice_bounds-reach-end c = omega (arith, (listed c.before.before.before.before.before.before).values, (listed c.before.before.before.before.before.before).within)
-
-pub overflow_add-at-in-Passed : goal.overflow_add-at-in-Passed
-overflow_add-at-in-Passed c = omega (arith, (listed c.before.before.before.before.before.before.before).within, long64 c.before.before.before.before.before.before.before, (listing (m c.before.before.before.before.before.before.before)).load.auto.work64, (begin c.before.before.before.before.before.before.before).well_formed.1.1.1.1.0)
-
-pub offset_bounds-work64-at-in-Passed : goal.offset_bounds-work64-at-in-Passed
-offset_bounds-work64-at-in-Passed c = omega (arith, (listed c.before.before.before.before.before.before.before).within, long64 c.before.before.before.before.before.before.before, (listing (m c.before.before.before.before.before.before.before)).load.auto.work64, (begin c.before.before.before.before.before.before.before).well_formed.1.1.1.1.0)
-
-pub slice_bounds-reach-end-in-Passed : goal.slice_bounds-reach-end-in-Passed
-slice_bounds-reach-end-in-Passed c = omega (arith, (listed c.before.before.before.before.before.before.before).within)
+numbered : (r : After-number) → Coded (sections_of r.args.unit.now) r.args.code.now r.args.metadata.now r.args.n (r.work64_room.result - r.args.n) r.in_ok-count.count (length r.args.work32.now) r.load.new.work64
+    → Checked (sections_of r.args.unit.now) (cells_in r.args.n r.args.code.now r.args.metadata.now)
+    → Numbered (sections_of r.args.unit.now) r.args.code.now r.args.metadata.now r.args.n (r.work64_room.result - r.args.n) r.in_ok-count.count r.number.new.work32 r.number.new.work64
+numbered r m k =
+    let a = r.args in
+    let S = sections_of a.unit.now in
+    let d = loaded_renumbered a.n a.code.now a.metadata.now S m.given r.load.new.work64 _ _ m.loaded.words (r.number.ensures.numbered a.metadata.now) in
+    record {
+      given = m.given;
+      checked = k;
+      room = same_room _ _ _ _ _ _ m.room r.number.auto.work32 r.number.auto.work64;
+      renumbered = d;
+      listed = numbered_listed a.n a.code.now a.metadata.now S m.given k _ _ d m.loaded.words r.number.auto.work64 r.number.ensures.behind m.loaded.listed;
+    }
 
 pub reach-requires : goal.reach-requires
 reach-requires c =
-    let s = begin c.before.before.before.before.before.before.before.before in
-    let n = s.args.n in
-    let l = listed c.before.before.before.before.before.before.before.before in
-    let size : length (mid_of 0 (n - 0) (work64 c.before.before.before.before.before.before.before.before)) ≡ n - 0 = mid_long (work64 c.before.before.before.before.before.before.before.before) 0 (n - 0) (omega (arith, l.values, l.within)) in
+    let n = c.args.n in
+    let at = c.work64_room.result - n in
+    let way = goal.at.reach-requires c in
+    let m = coded way.In_ok-count in
+    let d = numbered way.After-number m (checked way.In_ok-check_branches m) in
+    let l = d.listed in
+    let size : length (mid_of 0 (n - 0) c.number.new.work64) ≡ n - 0 = mid_long c.number.new.work64 0 (n - 0) (omega (arith, l.values, l.within)) in
     let whole : n - 0 ≡ n = omega arith in
-    ((given s).some, size ∙ whole, (given s).few, (given s).metadata_long, (numbered-room c.before.before.before.before.before.before.before.before).room32, list_lent l (n - 0) (at (listing (m c.before.before.before.before.before.before.before.before)) + count (m c.before.before.before.before.before.before.before.before) - at (listing (m c.before.before.before.before.before.before.before.before))) (omega arith) (omega arith))
+    (d.given.some, size ∙ whole, d.given.few, d.given.metadata_long, d.room.room32, list_lent l (n - 0) (at + c.in_ok-count.count - at) (omega arith) (omega arith))
 
--- ---- after refusal 9: the reached places are marked
-abbrev lent : After-reach-arg-1 → After-number
-lent r = r.before.before.before.before.before
+-- ---- past refusal 9: the reached places are marked
+record Marked (S : Sections) (code metadata : List ℕ) (n : ℕ) (work32 work64 : List ℕ) : Type 0 where
+  room : WorkRoom n S.locals (length work32) (length work64)
+  marks : Marks S (cells_in n code metadata) n work32 work64
 
-abbrev turned : After-reach → After-number
-turned h = lent h.before.before.before
+marked : (h : After-reach) → Numbered (sections_of h.args.unit.now) h.args.code.now h.args.metadata.now h.args.n (h.work64_room.result - h.args.n) h.in_ok-count.count h.number.new.work32 h.number.new.work64
+    → Marked (sections_of h.args.unit.now) h.args.code.now h.args.metadata.now h.args.n h.reach.new.work32 h.number.new.work64
+marked h d =
+    let a = h.args in
+    record {
+      room = same_room _ _ _ _ _ _ d.room h.reach.auto.work32 refl;
+      marks = reached_marks_lem a.n a.code.now a.metadata.now (sections_of a.unit.now) d.given d.checked h.number.new.work32 h.number.new.work64 d.renumbered (a.n - 0) _ _ (omega arith) h.reach.ensures.reached;
+    }
 
-abbrev reached : In-Passed-reach → After-reach
-reached e = e.before.before.before
+pub retain-requires-clause-given : goal.retain-requires-clause-given
+retain-requires-clause-given c =
+    let a = c.args in
+    let way = goal.at.retain-requires-clause-given c in
+    let m = coded way.In_ok-count in
+    let d = numbered way.After-number m (checked way.In_ok-check_branches m) in
+    let k = marked way.After-reach d in
+    marks_retainable a.n a.code.now a.metadata.now (sections_of a.unit.now) d.given d.checked c.reach.new.work32 c.number.new.work64 k.room k.marks (c.work64_room.result - a.n) d.listed.sets
 
-abbrev marked32 : After-reach → List ℕ
-marked32 h = h.reach.new.work32
-
-marks : (h : After-reach) → let r = turned h in Marks (S (begin r)) (cells (begin r)) (begin r).args.n (marked32 h) (work64 r)
-marks h =
-    let r = turned h in
-    let s = begin r in
-    let a = s.args in
-    reached_marks_lem a.n a.code.now a.metadata.now (S s) (given s) (checked (passed r)) (work32 r) (work64 r) (renumbered r) (a.n - 0) _ _ (omega arith) h.reach.ensures.reached
-
-marked-room : (h : After-reach) → let r = turned h in WorkRoom (begin r).args.n (S (begin r)).locals (length (marked32 h)) (length (work64 r))
-marked-room h = same_room _ _ _ _ _ _ (numbered-room (turned h)) h.reach.auto.work32 refl
-
-pub retain-requires : goal.retain-requires
-retain-requires c =
-    let h = reached c.before.before.before in
-    let r = turned h in
-    let s = begin r in
-    let a = s.args in
-    let l = listed r in record { laid = s.requires.given.laid; given = marks_retainable a.n a.code.now a.metadata.now (S s) (given s) (checked (passed r)) (marked32 h) (work64 r) (marked-room h) (marks h) (at (listing (m r))) l.sets; within = l.within; listed = l.controls }
+pub retain-requires-clause-listed : goal.retain-requires-clause-listed
+retain-requires-clause-listed c =
+    let way = goal.at.retain-requires-clause-listed c in
+    let m = coded way.In_ok-count in
+    (numbered way.After-number m (checked way.In_ok-check_branches m)).listed.controls
 
 -- ---- the retained places are known
-abbrev settled : After-retain → After-reach
-settled t = reached t.before.before.before
+finished : (t : After-retain) → Numbered (sections_of t.args.unit.now) t.args.code.now t.args.metadata.now t.args.n (t.work64_room.result - t.args.n) t.in_ok-count.count t.number.new.work32 t.number.new.work64
+    → Marked (sections_of t.args.unit.now) t.args.code.now t.args.metadata.now t.args.n t.reach.new.work32 t.number.new.work64
+    → Finished t.args.n t.args.metadata.now t.retain.new.work32 t.retain.new.work64
+finished t d k =
+    let a = t.args in
+    kept_finished a.n a.code.now a.metadata.now (sections_of a.unit.now) d.given d.checked t.reach.new.work32 t.number.new.work64 k.room k.marks t.retain.auto.work32 t.retain.auto.work64 t.retain.ensures.retained
 
-finished : (t : After-retain) → let s = begin (turned (settled t)) in Finished s.args.n s.args.metadata.now t.retain.new.work32 t.retain.new.work64
-finished t =
-    let h = settled t in
-    let r = turned h in
-    let s = begin r in
-    let a = s.args in
-    kept_finished a.n a.code.now a.metadata.now (S s) (given s) (checked (passed r)) (marked32 h) (work64 r) (marked-room h) (marks h) t.retain.auto.work32 t.retain.auto.work64 t.retain.ensures.retained
+pub conclude-requires-clause-finished : goal.conclude-requires-clause-finished
+conclude-requires-clause-finished c =
+    let way = goal.at.conclude-requires-clause-finished c in
+    let m = coded way.In_ok-count in
+    let d = numbered way.After-number m (checked way.In_ok-check_branches m) in
+    finished way.After-retain d (marked way.After-reach d)
 
-pub conclude-requires : goal.conclude-requires
-conclude-requires c =
-    let r = turned (settled c.before.before.before.before.before) in
-    let l = list_still (listed r) c.retain.auto.work64 c.retain.ensures.behind c.retain.ensures.retained.code in record { finished = finished c.before.before.before.before.before; code = (given (begin r)).code_long; within = l.within; listed = l.controls }
+pub conclude-requires-clause-listed : goal.conclude-requires-clause-listed
+conclude-requires-clause-listed c =
+    let way = goal.at.conclude-requires-clause-listed c in
+    let m = coded way.In_ok-count in
+    let d = numbered way.After-number m (checked way.In_ok-check_branches m) in
+    (list_still d.listed c.retain.auto.work64 c.retain.ensures.behind c.retain.ensures.retained.code).controls
 
 -- ---- the answers
-pub returns-in-Refused : goal.returns-in-Refused
+pub returns-in_err-count : goal.returns-in_err-count
 unfolding check_of
-returns-in-Refused c =
-    let all = decides_refused _ _ _ _ _ _ _ (optimized_operands _ _ ∙ checked_refused _ _ _ _ (sym c.load.ensures.answer ∙ ap check_of c.in-Refused.is)) in record { answer = all.0; holds = all.1 }
+returns-in_err-count c =
+    let p = err_from_is_err_and c.from_residual.result c.from_residual.ensures.1 in
+    let all = decides_refused _ _ _ _ _ _ _ (optimized_operands _ _ ∙ checked_refused _ _ _ _ (sym c.load.ensures.answer ∙ ap check_of c.in_err-count.was)) in
+    record { answer = rw (p.1, p.2) all.0; holds = all.1 }
 
 -- the rows that are past
-past-operands : (m : In-Listed) → let s = entry m in optimized (S s) (cells s) ≡ after_operands (S s) (cells s)
-past-operands m = optimized_operands _ _ ∙ checked_passed _ _ (operands m)
+past_operands : {S : Sections} {code metadata : List ℕ} {n at count room32 : ℕ} {words : List ℕ} → Coded S code metadata n at count room32 words → optimized S (cells_in n code metadata) ≡ after_operands S (cells_in n code metadata)
+past_operands m = optimized_operands _ _ ∙ checked_passed _ _ m.operands
 
-past-branches : (b : In-Passed) → let s = entry (branched b) in optimized (S s) (cells s) ≡ from_branches (S s) (cells s)
-past-branches b = past-operands (branched b) ∙ operands_branches _ _ ∙ checked_passed _ _ (checked b).branches
+past_branches : {S : Sections} {cells : List Cell} → optimized S cells ≡ after_operands S cells → Checked S cells → optimized S cells ≡ from_branches S cells
+past_branches past k = past ∙ operands_branches _ _ ∙ checked_passed _ _ k.branches
 
-pub returns-in-Refused-check_branches : goal.returns-in-Refused-check_branches
-returns-in-Refused-check_branches c =
-    let s = entry c.before.before.before.before.before in
-    let a = s.args in let all = decides_refused _ _ _ _ _ _ _ (past-operands c.before.before.before.before.before ∙ operands_branches _ _ ∙ checked_refused _ _ _ _ (loaded_branches a.n a.code.now a.metadata.now (S s) (given s) (a.n - 0) (words (listing c.before.before.before.before.before)) (omega arith) (loaded c.before.before.before.before.before).words ∙ sym (c.check_branches.ensures a.metadata.now) ∙ c.in-Refused-check_branches.is)) in record { answer = all.0; holds = all.1 }
+pub returns-in_err-check_branches : goal.returns-in_err-check_branches
+returns-in_err-check_branches c =
+    let a = c.args in
+    let m = coded (goal.at.returns-in_err-check_branches c).In_ok-count in
+    let p = err_from_is_err_and c.from_residual-in_err-check_branches.result c.from_residual-in_err-check_branches.ensures.1 in
+    let same = loaded_branches a.n a.code.now a.metadata.now (sections_of a.unit.now) m.given (a.n - 0) c.load.new.work64 (omega arith) m.loaded.words in
+    let all = decides_refused _ _ _ _ _ _ _ (past_operands m ∙ operands_branches _ _ ∙ checked_refused _ _ _ _ (same ∙ sym (c.check_branches.ensures a.metadata.now) ∙ c.in_err-check_branches.was)) in
+    record { answer = rw (p.1, p.2) all.0; holds = all.1 }
 
-pub returns-in-Refused-reach : goal.returns-in-Refused-reach
-returns-in-Refused-reach c =
-    let r = turned c.before.before.before.before in
-    let s = begin r in
-    let a = s.args in let all = decides_refused _ _ _ _ _ _ _ (past-branches (passed r) ∙ branches_loops _ _ ∙ checked_refused _ _ _ _ (reached_answer a.n a.code.now a.metadata.now (S s) (given s) (checked (passed r)) (work32 r) (work64 r) (renumbered r) (a.n - 0) _ _ (omega arith) c.reach.ensures.reached ∙ c.in-Refused-reach.is)) in record { answer = all.0; holds = all.1 }
+pub returns-in_err-reach : goal.returns-in_err-reach
+returns-in_err-reach c =
+    let a = c.args in
+    let way = goal.at.returns-in_err-reach c in
+    let m = coded way.In_ok-count in
+    let k = checked way.In_ok-check_branches m in
+    let d = numbered way.After-number m k in
+    let p = err_from_is_err_and c.from_residual-in_err-reach.result c.from_residual-in_err-reach.ensures.1 in
+    let same = reached_answer a.n a.code.now a.metadata.now (sections_of a.unit.now) d.given k c.number.new.work32 c.number.new.work64 d.renumbered (a.n - 0) _ _ (omega arith) c.reach.ensures.reached in
+    let all = decides_refused _ _ _ _ _ _ _ (past_branches (past_operands m) k ∙ branches_loops _ _ ∙ checked_refused _ _ _ _ (same ∙ c.in_err-reach.was)) in
+    record { answer = rw (p.1, p.2) all.0; holds = all.1 }
 
-past-loops : (e : In-Passed-reach) → let s = begin (turned (reached e)) in optimized (S s) (cells s) ≡ from_loops (S s) (cells s)
-past-loops e =
-    let h = reached e in
-    let r = turned h in
-    let s = begin r in
-    let a = s.args in
-    past-branches (passed r) ∙ branches_loops _ _ ∙ checked_passed _ _ (reached_answer a.n a.code.now a.metadata.now (S s) (given s) (checked (passed r)) (work32 r) (work64 r) (renumbered r) (a.n - 0) _ _ (omega arith) h.reach.ensures.reached ∙ e.in-Passed-reach.is)
-
-pub shape_of-work64-in-Passed-reach : goal.shape_of-work64-in-Passed-reach
-shape_of-work64-in-Passed-reach c =
-    let r = turned (settled c.before.before.before.before.before.before) in
-    c.retain.auto.work64 ∙ long64 r ∙ (listing (m r)).load.auto.work64
-
-pub returns-in-Passed-reach : goal.returns-in-Passed-reach
-returns-in-Passed-reach c =
-    let h = settled c.before.before.before.before.before.before in
-    let r = turned h in
-    let s = begin r in
-    let a = s.args in let all = conclude_decides (finished c.before.before.before.before.before.before) a.code.now _ _
-    (past-loops c.before.before.before.before.before.before.before.before.before ∙ kept_answer a.n a.code.now a.metadata.now (S s) (given s) (checked (passed r)) (marked32 h) (work64 r) (marked-room h) (marks h) c.retain.auto.work32 c.retain.auto.work64 c.retain.ensures.retained)
-    c.conclude.ensures.answer in record { answer = all.0; holds = all.1 }
+pub returns : goal.returns
+returns c =
+    let a = c.args in
+    let S = sections_of a.unit.now in
+    let way = goal.at.returns c in
+    let m = coded way.In_ok-count in
+    let k = checked way.In_ok-check_branches m in
+    let d = numbered way.After-number m k in
+    let h = marked way.After-reach d in
+    let same = reached_answer a.n a.code.now a.metadata.now S d.given k c.number.new.work32 c.number.new.work64 d.renumbered (a.n - 0) _ _ (omega arith) c.reach.ensures.reached in
+    let loops : optimized S (cells_in a.n a.code.now a.metadata.now) ≡ from_loops S (cells_in a.n a.code.now a.metadata.now) = past_branches (past_operands m) k ∙ branches_loops _ _ ∙ checked_passed _ _ (same ∙ c.in_ok-reach.was) in
+    let all = conclude_decides (finished way.After-retain d h) a.code.now _ _
+    (loops ∙ kept_answer a.n a.code.now a.metadata.now S d.given k c.reach.new.work32 c.number.new.work64 h.room h.marks c.retain.auto.work32 c.retain.auto.work64 c.retain.ensures.retained) c.conclude.ensures.answer in
+    record { answer = all.0; holds = all.1 }

@@ -1,4 +1,4 @@
-use Rattle.std.proofs.Common.{◌≡◌, ℕ, ◌-◌, ◌≤◌, List, length}
+use Rattle.std.proofs.Common.{ℕ, List, length}
 use Rattle.unit.specs.Result.{code_bytes}
 use Rattle.unit.specs.Size.{result_header_size}
 use Rattle.pc_map.specs.laws.Listed.{Listed}
@@ -6,7 +6,4 @@ use Rattle.pc_map.proofs.Writing.{WrittenTo}
 use Rattle.pc_map.proofs.retained.write_code.Given as goal
 
 abbrev pub invariant-loop-q : goal.invariant-loop-q
-invariant-loop-q l = (l.q ≤ length l.kept) × (length l.out ≡ length l.initial.out) × ((keep metadata : List ℕ) → Listed keep l.bounds l.kept (length l.words) → WrittenTo 8 code_bytes keep l.kept l.words metadata result_header_size l.initial.out l.out l.q)
-
-abbrev pub decreases-loop-q : goal.decreases-loop-q
-decreases-loop-q l = length l.kept - l.q
+invariant-loop-q l = (keep metadata : List ℕ) → Listed keep l.map.boundaries.now l.kept (length l.words) → WrittenTo 8 code_bytes keep l.kept l.words metadata result_header_size l.initial.out l.out l.q

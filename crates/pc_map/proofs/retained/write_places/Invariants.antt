@@ -1,11 +1,8 @@
-use Rattle.std.proofs.Common.{◌≡◌, ℕ, ◌-◌, ◌≤◌, List, length}
+use Rattle.std.proofs.Common.{◌≡◌, ℕ, List, length}
 use Rattle.unit.specs.Result.{place_bytes}
 use Rattle.pc_map.specs.laws.Listed.{kept_list}
 use Rattle.pc_map.proofs.Writing.{WrittenTo}
 use Rattle.pc_map.proofs.retained.write_places.Given as goal
 
 abbrev pub invariant-loop-q : goal.invariant-loop-q
-invariant-loop-q l = (l.q ≤ length l.kept) × (length l.out ≡ length l.initial.out) × ((keep words metadata : List ℕ) → l.kept ≡ kept_list keep → length keep ≡ length words → WrittenTo 4 place_bytes keep l.kept words metadata l.a l.initial.out l.out l.q)
-
-abbrev pub decreases-loop-q : goal.decreases-loop-q
-decreases-loop-q l = length l.kept - l.q
+invariant-loop-q l = (keep words metadata : List ℕ) → l.kept ≡ kept_list keep → length keep ≡ length words → WrittenTo 4 place_bytes keep l.kept words metadata l.a l.initial.out l.out l.q

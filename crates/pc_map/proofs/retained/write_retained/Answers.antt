@@ -6,17 +6,12 @@ use Rattle.pc_map.proofs.retained.write_retained.Goals as goal
 
 pub returns : goal.returns
 returns c =
-    let p = c.before.before in
-    let m = p.before.before.before.before.before in
-    let w = m.before.before.before.before.before in
-    let h = w.before.before.before.before in
-    let s = h.before.before.before.before.before.before.before in
-    let a = s.args in
+    let a = c.args in
     λ keep l.
     all_written (length a.kept.now) (retain_from keep 0 (cells_by a.words.now a.metadata.now)) a.out.now
     (listed_many keep a.kept.now a.words.now a.metadata.now l.list l.long)
-    s.requires.fits
-    h.write_header.ensures
-    (w.write_code.ensures keep a.metadata.now l)
-    (rw m.metadata_at.ensures at (m.write_metadata.ensures keep l))
-    (rw p.places_at.ensures at (p.write_places.ensures keep a.words.now a.metadata.now l.list l.long))
+    c.requires.fits
+    c.write_header.ensures
+    (c.write_code.ensures keep a.metadata.now l)
+    (rw c.metadata_at.ensures at (c.write_metadata.ensures keep l))
+    (rw c.places_at.ensures at (c.write_places.ensures keep a.words.now a.metadata.now l.list l.long))

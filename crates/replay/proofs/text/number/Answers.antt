@@ -5,13 +5,13 @@ use Rattle.replay.proofs.text.number.Goals as goal
 
 pub loop-k-init : goal.loop-k-init
 unfolding number_at
-loop-k-init c = (refl, omega arith)
+loop-k-init c = refl
 
 pub returns-then-b-le32 : goal.returns-then-b-le32
-returns-then-b-le32 c = number_ends _ _ _ _ _ c.byte-b.ensures c.loop-k-test.true c.if-b-le32.true ∙ c.loop-k.invariant.0
+returns-then-b-le32 c = number_ends _ _ _ _ _ c.byte-b.ensures c.loop-k-test.true c.if-b-le32.true ∙ c.loop-k.invariant
 
 pub loop-k-preserved : goal.loop-k-preserved
-loop-k-preserved c = (number_goes_on _ _ _ _ _ c.byte-b.ensures c.loop-k-test.true c.if-b-le32.false ∙ c.loop-k.invariant.0, omega (arith, c.loop-k-test.true))
+loop-k-preserved c = number_goes_on _ _ _ _ _ c.byte-b.ensures c.loop-k-test.true c.if-b-le32.false ∙ c.loop-k.invariant
 
 pub returns : goal.returns
-returns c = number_full _ _ _ _ c.loop-k-test.false ∙ c.loop-k.invariant.0
+returns c = number_full _ _ _ _ c.loop-k-test.false ∙ c.loop-k.invariant

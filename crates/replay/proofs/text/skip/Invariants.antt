@@ -4,6 +4,3 @@ use Rattle.replay.proofs.text.skip.Given as goal
 
 abbrev pub invariant-loop-i : goal.invariant-loop-i
 invariant-loop-i l = skipped l.text l.i l.last ≡ skipped l.text l.at l.last
-
-abbrev pub decreases-loop-i : goal.decreases-loop-i
-decreases-loop-i l = length l.text - l.i

@@ -8,8 +8,6 @@ use Rattle.unit.proofs.entry.write_line.Goals as goal
 pub returns : goal.returns
 unfolding line_bytes
 returns c =
-    let second = c.before.before in
-    let first = second.before.before.before.before in
-    let a = first.args in
-    rw (second.write_u32-2.ensures, first.write_u32.ensures)
+    let a = c.args in
+    rw (c.write_u32-2.ensures, c.write_u32.ensures)
     (put_put a.d.now a.at 4 (to_le 4 a.e.place) (length_to_le 4 a.e.place) (omega arith) 4 (to_le 4 a.e.line))

@@ -6,18 +6,12 @@ use Rattle.unit.proofs.result.write_header.Goals as goal
 pub returns : goal.returns
 unfolding result_header
 returns c =
-    let sixth = c.before.before in
-    let fifth = sixth.before.before.before.before.before in
-    let fourth = fifth.before.before.before.before in
-    let third = fourth.before.before.before.before.before in
-    let second = third.before.before.before.before.before in
-    let first = second.before.before.before.before in
-    let a = first.args in
-    rw (← sixth.lines_at.ensures, ← fourth.places_at.ensures, ← third.metadata_at.ensures)
+    let a = c.args in
+    rw (← c.lines_at.ensures, ← c.places_at.ensures, ← c.metadata_at.ensures)
     (six_words a.k 24 _ _ 0 _ a.out.now (omega arith)
-    first.write_u32.ensures
-    second.write_u32-2.ensures
-    third.write_u32-3.ensures
-    fourth.write_u32-4.ensures
-    fifth.write_u32-5.ensures
-    sixth.write_u32-6.ensures)
+    c.write_u32.ensures
+    c.write_u32-2.ensures
+    c.write_u32-3.ensures
+    c.write_u32-4.ensures
+    c.write_u32-5.ensures
+    c.write_u32-6.ensures)

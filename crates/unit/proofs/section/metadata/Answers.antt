@@ -1,14 +1,7 @@
-use native.Mathlib.Omega.{arith}
 use Rattle.unit.specs.Layout.{header_of}
 use Rattle.unit.proofs.laws.UnitLaws.{unit_laid}
 use Rattle.unit.proofs.section.metadata.Goals as goal
 
 pub part-requires : goal.part-requires
 unfolding header_of
-part-requires c =
-    let l = unit_laid c.args.unit.now c.requires in
-    (l.header, omega arith, omega arith, omega arith, l.within.metadata)
-
-pub returns : goal.returns
-unfolding header_of
-returns c = c.part.ensures
+part-requires c = let l = unit_laid c.args.unit.now c.requires in record { header = l.header; within = l.within.metadata }

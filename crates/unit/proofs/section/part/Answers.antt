@@ -8,5 +8,5 @@ pub returns : goal.returns
 returns c =
     let a = c.args in
     let start = c.word-start in
-    let long : c.past-end.result - start.result ≡ a.size * u32_at a.unit.now a.count = omega arith in
+    let long : c.past-end.result - start.result ≡ a.s.size * u32_at a.unit.now a.s.count = omega arith in
     rw (long, start.ensures.0)

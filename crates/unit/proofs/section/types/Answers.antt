@@ -7,9 +7,7 @@ use Rattle.unit.proofs.section.types.Goals as goal
 
 pub part-requires : goal.part-requires
 unfolding header_of
-part-requires c =
-    let l = unit_laid c.args.unit.now c.requires in
-    (l.header, omega arith, omega arith, omega arith, omega (arith, l.within.types))
+part-requires c = let l = unit_laid c.args.unit.now c.requires in record { header = l.header; within = omega (arith, l.within.types) }
 
 pub returns : goal.returns
 unfolding header_of

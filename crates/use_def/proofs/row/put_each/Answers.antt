@@ -1,10 +1,10 @@
-use Rattle.std.proofs.Common.{◌≡◌, ◌*◌, length, arith}
+use Rattle.std.proofs.Common.{◌*◌, length, arith}
 use Rattle.use_def.specs.laws.Sets.{range}
 use Rattle.use_def.specs.laws.Sets.{putting_begin, putting_turn, within_end}
 use Rattle.use_def.proofs.row.put_each.Goals as goal
 
 pub loop-k-init : goal.loop-k-init
-loop-k-init c = (omega arith, putting_begin _ _ _)
+loop-k-init c = putting_begin _ _ _
 
 pub overflow_add-start : goal.overflow_add-start
 overflow_add-start c =
@@ -14,17 +14,9 @@ overflow_add-start c =
 pub put-requires : goal.put-requires
 put-requires c =
     let s = c.before.before.before.before in
-    omega (arith, c.loop-k.invariant.1.long, within_end (64 * length s.args.row.now) (range s.args.start s.args.count) s.requires.1 (omega arith))
+    omega (arith, c.loop-k.invariant.long, within_end (64 * length s.args.row.now) (range s.args.start s.args.count) s.requires.1 (omega arith))
 
 pub loop-k-preserved : goal.loop-k-preserved
 loop-k-preserved c =
     let p = c.before.before in
-    (omega arith, putting_turn _ _ _ _ _ _ p.loop-k.invariant.1 p.put.auto.row p.put.ensures)
-
-pub shape_of-row : goal.shape_of-row
-shape_of-row c = c.loop-k.invariant.1.long
-
-pub returns : goal.returns
-returns c =
-    let end : c.loop-k.k ≡ c.args.count = omega arith in
-    rw (← end) c.loop-k.invariant.1.put
+    putting_turn _ _ _ _ _ _ p.loop-k.invariant p.put.auto.row p.put.ensures

@@ -1,4 +1,4 @@
-use Rattle.std.proofs.Common.{◌≡◌, ◌-◌, ◌≤◌, length}
+use Rattle.std.proofs.Common.{◌≡◌, length}
 use borrow.Rule.Slice.PartMut.{mid_of}
 use Rattle.words.specs.laws.Only.{At, Only}
 use Rattle.use_def.specs.laws.Wordwise.{transfer_words, Storing}
@@ -6,8 +6,5 @@ use Rattle.use_def.proofs.row.transfer.Given as goal
 
 abbrev pub invariant-loop-k : goal.invariant-loop-k
 invariant-loop-k l =
-    (l.k ≤ l.w) × (length l.memory ≡ length l.initial.memory) × Only (At l.live l.w) l.initial.memory l.memory
+    (length l.memory ≡ length l.initial.memory) × Only (At l.live l.w) l.initial.memory l.memory
     × Storing (transfer_words (mid_of l.uses l.w l.initial.memory) (mid_of l.out l.w l.initial.memory) (mid_of l.preserved l.w l.initial.memory)) (mid_of l.live l.w l.initial.memory) (mid_of l.live l.w l.memory) l.k l.changes
-
-abbrev pub decreases-loop-k : goal.decreases-loop-k
-decreases-loop-k l = l.w - l.k

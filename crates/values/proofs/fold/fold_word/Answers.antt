@@ -1,18 +1,18 @@
-use Rattle.std.proofs.Common.{arith, ne_eqb}
+use Rattle.std.proofs.Common.{ne_eqb}
 use Rattle.values.specs.Fold.{fold_word}
 use Rattle.values.proofs.fold.fold_word.Goals as goal
 
 pub returns-in-19 : goal.returns-in-19
 unfolding fold_word
-returns-in-19 c = rw c.in-19.is c.wrapping_add_u64.ensures.value
+returns-in-19 c = rw c.in-19.is
 
 pub returns-in-20 : goal.returns-in-20
 unfolding fold_word
-returns-in-20 c = rw c.in-20.is (omega (arith, c.wrapping_sub_u64.ensures.value))
+returns-in-20 c = rw c.in-20.is
 
 pub returns-in-21 : goal.returns-in-21
 unfolding fold_word
-returns-in-21 c = rw c.in-21.is c.wrapping_mul.ensures
+returns-in-21 c = rw c.in-21.is (cc)
 
 pub returns-in-26 : goal.returns-in-26
 unfolding fold_word

@@ -4,15 +4,15 @@ use Rattle.values.proofs.fold.truncate.Goals as goal
 
 pub returns-in-1 : goal.returns-in-1
 unfolding trunc
-returns-in-1 c = rw c.in-1.is c.low_8.ensures
+returns-in-1 c = rw c.in-1.is c.low_bits.ensures
 
 pub returns-in-2 : goal.returns-in-2
 unfolding trunc
-returns-in-2 c = rw c.in-2.is c.low_16.ensures
+returns-in-2 c = rw c.in-2.is c.low_bits-in-2.ensures
 
 pub returns-in-4 : goal.returns-in-4
 unfolding trunc
-returns-in-4 c = rw c.in-4.is c.low_32.ensures
+returns-in-4 c = rw c.in-4.is c.low_bits-in-4.ensures
 
 pub returns-in_default : goal.returns-in_default
 unfolding trunc

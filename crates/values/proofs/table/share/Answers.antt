@@ -1,4 +1,4 @@
-use Rattle.values.proofs.Recording.{Bounded, place_asks, place_long, end_inside, put_asks, near_found, shares_none, shares_found, shares_other}
+use Rattle.values.proofs.Recording.{Bounded, end_inside, put_asks, near_found, shares_none, shares_found, shares_other}
 use Rattle.std.proofs.Common.{length, refl, arith}
 use Rattle.values.proofs.table.share.Goals as goal
 use Rattle.values.proofs.table.share.Tie as tie
@@ -27,20 +27,8 @@ bounded c =
       end_is = c.end_of-end.ensures;
     }
 
-pub bounds_place-at-requires : goal.bounds_place-at-requires
-bounds_place-at-requires c = let h = c.requires in place_asks h.0 h.2
-
-pub offset_bounds-t-at : goal.offset_bounds-t-at
-offset_bounds-t-at c = let h = c.requires in let a = place_asks h.0 h.2 in record { fits = omega (arith, a.0, a.1, c.bounds_place-at.ensures) }
-
-pub bounds-t-at : goal.bounds-t-at
-bounds-t-at c = let h = c.requires in place_long h.0 h.2 (omega (arith, c.bounds_place-at.ensures))
-
 pub lowest-near-requires : goal.lowest-near-requires
 lowest-near-requires c = ((bounded c.before).ready, end_inside (bounded c.before))
-
-pub put-requires : goal.put-requires
-put-requires c = put_asks (bounded c.before.before.before.before) (omega arith)
 
 pub returns-then-end-near : goal.returns-then-end-near
 returns-then-end-near c = shares_none (bounded c.before.before.before.before.before.before.before) c.lowest-near.ensures c.if-end-near.true c.put.ensures
@@ -53,6 +41,11 @@ lowest_typed-r-requires c =
 
 pub put-requires-2 : goal.put-requires-2
 put-requires-2 c = let w = bounded c.before.before.before.before.before in put_asks w (end_inside w)
+
+pub overflow_cast-result : goal.overflow_cast-result
+overflow_cast-result c =
+    let w = bounded c.before.before.before.before.before.before.before.before.before in
+    record { fits = omega (arith, c.if-r-end.true, end_inside w, w.ready.order.locals) }
 
 pub returns-then-r-end : goal.returns-then-r-end
 returns-then-r-end c = shares_found (bounded c.before.before.before.before.before.before.before.before.before) c.lowest-near.ensures c.lowest_typed-r.ensures c.put-2.ensures c.if-r-end.true

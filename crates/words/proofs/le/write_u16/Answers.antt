@@ -1,9 +1,10 @@
-use Rattle.words.specs.laws.Le.{put_two}
-use Rattle.std.proofs.Common.{arith, length-set}
+use Rattle.std.proofs.Common.{◌≡◌, ap, ◌∙◌, arith, ◌+◌, ◌-◌}
+use borrow.Rule.Slice.PartMut.{put_mid}
+use Rattle.words.specs.laws.Le.{to_le_low}
 use Rattle.words.proofs.le.write_u16.Goals as goal
 
-pub bounds-d-at-2 : goal.bounds-d-at-2
-bounds-d-at-2 c = simp length-set (omega arith)
-
 pub returns : goal.returns
-returns c = put_two c.args.d.now c.args.at c.args.v (omega arith) (omega arith)
+returns c =
+    let a = c.args in
+    let long : a.at + 2 - a.at ≡ 2 = omega arith in
+    rw long (ap (put_mid a.at 2 a.d.now) (c.copy_from_slice.ensures.after ∙ c.to_le_bytes.ensures ∙ to_le_low 2 a.v))

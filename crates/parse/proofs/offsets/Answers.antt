@@ -1,6 +1,0 @@
-use Rattle.unit.specs.Layout.{header_of}
-use Rattle.parse.proofs.offsets.Goals as goal
-
-pub returns : goal.returns
-unfolding header_of
-returns c = cc
