@@ -12,7 +12,7 @@ ghost use Rattle.again.specs.laws.Found.{lines_at, Writable};
 
 use unit::refusal::{Reason, Refusal};
 use unit::{Counts, Header, Offsets, field, result, section, size};
-use words::le;
+use words::{bytes, le};
 
 // A result's number at a byte.
 fn word(res: &[u8], at: usize) -> usize
@@ -146,7 +146,7 @@ fn copy(to: &mut [u8], at: usize, from: &[u8], start: usize, n: usize)
     requires room { at + n ≤ length to.old }
     ensures to { to.new ≡ put_mid at n to.old (mid_of start n from.now) }
 {
-    to[at..at + n].copy_from_slice(&from[start..start + n]);
+    bytes::copy(&from[start..start + n], &mut to[at..at + n]);
 }
 
 // The unit again, with header h, at the front of a buffer. What stands between metadata and lines is the given unit's.

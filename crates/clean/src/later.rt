@@ -71,9 +71,14 @@ pub fn later(
     if k < 2 {
         return Ok(Answer::Unchanged);
     }
-    let answer = work(unit, from, to, work32, work64, k)?;
-    if let Answer::Rewritten(j) = answer {
-        place(from, to, k, j as usize);
+    // By a match, and not by `?`, which hides what becomes of a refusal: the edit refusal_gives_the_pass_before
+    // turns it.
+    match work(unit, from, to, work32, work64, k) {
+        Ok(Answer::Unchanged) => Ok(Answer::Unchanged),
+        Err(r) => Err(r),
+        Ok(Answer::Rewritten(j)) => {
+            place(from, to, k, j as usize);
+            Ok(Answer::Rewritten(j))
+        }
     }
-    Ok(answer)
 }

@@ -23,6 +23,7 @@ use answer::Admission;
 use optimize::{Answer, pass};
 use unit::refusal::Refusal;
 use unit::size;
+use words::bytes;
 
 // What the cleaning answers, and the number of the last pass run.
 #[derive(Clone, Copy)]
@@ -37,7 +38,7 @@ fn give(from: &[u8], out: &mut [u8], k: usize, passes: u32) -> Cleaned
     ensures { AnswersCleaned (finished (retained_in k from.now) passes) result out.old out.new }
 {
     let room = size::output_room(k, 0);
-    out[..room].copy_from_slice(&from[..room]);
+    bytes::copy(&from[..room], &mut out[..room]);
     Cleaned {
         answer: Ok(Answer::Rewritten(k as u32)),
         passes,

@@ -29,7 +29,7 @@ fn check_operands(unit: &[u8]) -> Result<(), Refusal>
     let n = code.len() / size::INSTRUCTION;
     for p in 0..n {
         let w = instruction::read(code, p).word();
-        let refused = operands::operand_refusal(locals, w, metadata, p, tables);
+        let refused = operands::operand_refusal(locals, w, metadata, p, &tables);
         if let Some(reason) = refused {
             return Err(reason.at(p as u32));
         }

@@ -17,6 +17,7 @@ ghost use Rattle.desk.specs.laws.Spent.{stop_price};
 
 use crate::{PRICES, Stop, copy};
 use instruction::{Class, Instruction, opcode};
+use unit::refusal::Refusal;
 use unit::{Constant, entry, section, size};
 use values::fold;
 
@@ -297,8 +298,8 @@ pub fn stop_at(unit: &[u8], p: usize, left: u32) -> Stop
     }
 }
 
-// The price of the step by which a run stops at place p: of Return and Panic.
-pub fn stop_price(unit: &[u8], tariff: &[u16], p: usize, stop: Stop) -> u64
+// The price of the step by which a run stops at place p: of Return and Panic. A refusal has none.
+pub fn stop_price(unit: &[u8], tariff: &[u16], p: usize, stop: Result<Stop, Refusal>) -> u64
     requires laid { is_unit unit.now ≡ true }
     requires tariff { length tariff.now ≡ prices }
     requires place { 0 < stop_price 1 stop → p < length (cells_of unit.now) }
@@ -306,10 +307,11 @@ pub fn stop_price(unit: &[u8], tariff: &[u16], p: usize, stop: Stop) -> u64
 {
     let code = section::code(unit);
     match stop {
-        Stop::Returned(_, _) => price_at(code, tariff, p),
-        Stop::Panicked(_, _) => price_at(code, tariff, p),
-        Stop::Ended => 0,
-        Stop::Other(_) => 0,
-        Stop::Limit => 0,
+        Ok(Stop::Returned(_, _)) => price_at(code, tariff, p),
+        Ok(Stop::Panicked(_, _)) => price_at(code, tariff, p),
+        Ok(Stop::Ended) => 0,
+        Ok(Stop::Other(_)) => 0,
+        Ok(Stop::Limit) => 0,
+        Err(_) => 0,
     }
 }

@@ -82,7 +82,7 @@ pub fn charge(
     check::check_charge(unit, frame.len(), tariff.len())?;
     let paid = execution::advance_priced(unit, frame, tariff, 0, limit);
     let stop = execution::stop_at(unit, paid.place, paid.left);
-    let last = execution::stop_price(unit, tariff, paid.place, stop);
+    let last = execution::stop_price(unit, tariff, paid.place, Ok(stop));
     let spent = paid.spent + last;
     let cents = (spent + 999) / 1000;
     Ok(Charged { stop, cents })

@@ -8,6 +8,7 @@ use Rattle.unit.specs.declared.Callee.{Callee}
 use Rattle.unit.specs.Entry.{function_at, extern_at, kind_call_layout, kind_call_iface_layout, kind_call_extern_layout}
 use Rattle.effects.specs.declared.Range.{Range}
 use Rattle.effects.specs.declared.Cell as code
+use Rattle.effects.specs.declared.Callees as names
 use Rattle.effects.specs.declared.Tables as view
 
 -- The sections that effects look at.
@@ -21,10 +22,10 @@ tables_of functions externs cases = record { functions = functions; externs = ex
 
 -- what those sections hold that code has a view of
 abbrev pub tables_in : view.Tables → Tables
-tables_in t = tables_of t.functions.now t.externs.now t.cases.now
+tables_in t = tables_of t.callees.functions.now t.callees.externs.now t.cases.now
 
--- the same with any cases
-abbrev pub tables_with : List ℕ → view.Tables → Tables
+-- what may be called, with any cases
+abbrev pub tables_with : List ℕ → names.Callees → Tables
 tables_with cases t = tables_of t.functions.now t.externs.now cases
 
 -- All of a unit that stays as it is while its code and metadata change.

@@ -5,7 +5,7 @@ ghost use Rattle.effects.specs.Shape.{tables_of, tables_with, is_there, is_known
 ghost use Rattle.effects.specs.Effects.{demands_met};
 ghost use Rattle.effects.specs.laws.Form.{demand_at};
 
-use crate::{Cell, Tables, form, table};
+use crate::{Callees, Cell, form, table};
 use unit::{Callee, entry, kind};
 
 #[tactic(auto, unfolding(crate::specs::Shape::is_there))]
@@ -37,33 +37,33 @@ fn is_result_layout(kind: u8) -> bool
 }
 
 // GoStart, DeferPush and ErrDeferPush call a closure or a function.
-fn call_shape_met(x: Cell, tables: Tables) -> bool
-    ensures { (externs cases : List ℕ) → result ≡ met (tables_of tables.entry.functions.now externs cases) x call_shape }
+fn call_shape_met(x: Cell, callees: Callees) -> bool
+    ensures { (externs cases : List ℕ) → result ≡ met (tables_of callees.entry.functions.now externs cases) x call_shape }
 {
     if x.instruction.call_shape_is_closure() {
         is_call_layout(x.metadata.kind)
     } else {
-        is_there(form::shape_callee(x.instruction, tables.functions))
+        is_there(form::shape_callee(x.instruction, callees.functions))
     }
 }
 
 // Demands that no single metadata kind meets.
-fn call_met(demand: u32, x: Cell, tables: Tables) -> bool
+fn call_met(demand: u32, x: Cell, callees: Callees) -> bool
     requires { 16 ≤ demand }
-    ensures { (cases : List ℕ) → result ≡ met (tables_with cases tables.entry) x (demand_at demand) }
+    ensures { (cases : List ℕ) → result ≡ met (tables_with cases callees.entry) x (demand_at demand) }
 {
     match demand {
         16 => is_call_layout(x.metadata.kind),
         17 => is_result_layout(x.metadata.kind),
-        18 => is_there(form::callee(x.instruction, tables.functions)),
-        19 => is_known(entry::extern_of(tables.externs, x.instruction.b as usize)),
-        _ => call_shape_met(x, tables),
+        18 => is_there(form::callee(x.instruction, callees.functions)),
+        19 => is_known(entry::extern_of(callees.externs, x.instruction.b as usize)),
+        _ => call_shape_met(x, callees),
     }
 }
 
 // A demand below 16 is that metadata kind, 0 none.
-fn is_met(demand: u32, x: Cell, tables: Tables) -> bool
-    ensures { (cases : List ℕ) → result ≡ met (tables_with cases tables.entry) x (demand_at demand) }
+fn is_met(demand: u32, x: Cell, callees: Callees) -> bool
+    ensures { (cases : List ℕ) → result ≡ met (tables_with cases callees.entry) x (demand_at demand) }
 {
     if demand == 0 {
         return true;
@@ -71,18 +71,18 @@ fn is_met(demand: u32, x: Cell, tables: Tables) -> bool
     if demand < 16 {
         return (x.metadata.kind as u32) == demand;
     }
-    call_met(demand, x, tables)
+    call_met(demand, x, callees)
 }
 
-pub fn demands_met(x: Cell, tables: Tables) -> bool
-    ensures { (cases : List ℕ) → result ≡ demands_met (tables_with cases tables.entry) x }
+pub fn demands_met(x: Cell, callees: Callees) -> bool
+    ensures { (cases : List ℕ) → result ≡ demands_met (tables_with cases callees.entry) x }
 {
     let op = x.instruction.op;
     let row = table::demand_row(op);
     if row == 0 {
         return true;
     }
-    is_met(row % 256, x, tables)
-        & is_met(row / 256 % 256, x, tables)
-        & is_met(row / 65536, x, tables)
+    is_met(row % 256, x, callees)
+        & is_met(row / 256 % 256, x, callees)
+        & is_met(row / 65536, x, callees)
 }

@@ -8,7 +8,7 @@ ghost use Rattle.effects.specs.Shape.{range_of, tables_of, tables_with, param_sl
 ghost use Rattle.effects.specs.laws.Form.{form_at, empty_range};
 ghost use Rattle.effects.specs.laws.Plain.{slot_of};
 
-use crate::{Cell, Range, Tables};
+use crate::{Callees, Cell, Range};
 use instruction::Instruction;
 use unit::{Callee, entry};
 
@@ -54,14 +54,14 @@ pub fn shape_callee(i: Instruction, functions: &[u8]) -> Option<Callee>
 }
 
 // A closure's arguments are counted by its layout.
-fn argument_slots(x: Cell, tables: Tables) -> usize
+fn argument_slots(x: Cell, callees: Callees) -> usize
     ensures { (externs cases : List ℕ)
-        → result ≡ value (tables_of tables.entry.functions.now externs cases) x arguments }
+        → result ≡ value (tables_of callees.entry.functions.now externs cases) x arguments }
 {
     if x.instruction.call_shape_is_closure() {
         x.metadata.first as usize
     } else {
-        param_slots(shape_callee(x.instruction, tables.functions))
+        param_slots(shape_callee(x.instruction, callees.functions))
     }
 }
 
@@ -200,35 +200,35 @@ pub fn layout_range(form: u64, x: Cell) -> Range
 }
 
 // Forms of the function or the extern that is called.
-fn call_range(form: u64, x: Cell, tables: Tables) -> Range
+fn call_range(form: u64, x: Cell, callees: Callees) -> Range
     requires { 29 ≤ form }
-    ensures { (cases : List ℕ) → result ≡ range_of (tables_with cases tables.entry) x (form_at form) }
+    ensures { (cases : List ℕ) → result ≡ range_of (tables_with cases callees.entry) x (form_at form) }
 {
     let a = x.instruction.a as usize;
     let b = x.instruction.b as usize;
     match form {
         29 => Range {
             start: b,
-            count: param_slots(callee(x.instruction, tables.functions)),
+            count: param_slots(callee(x.instruction, callees.functions)),
         },
         30 => Range {
-            start: b + param_slots(callee(x.instruction, tables.functions)),
-            count: return_slots(callee(x.instruction, tables.functions)),
+            start: b + param_slots(callee(x.instruction, callees.functions)),
+            count: return_slots(callee(x.instruction, callees.functions)),
         },
         31 => Range {
             start: a,
-            count: extern_slots(entry::extern_of(tables.externs, x.instruction.b as usize)),
+            count: extern_slots(entry::extern_of(callees.externs, x.instruction.b as usize)),
         },
         32 => Range {
             start: b,
-            count: argument_slots(x, tables),
+            count: argument_slots(x, callees),
         },
         _ => Range { start: 0, count: 0 },
     }
 }
 
-pub fn range_of(form: u64, x: Cell, tables: Tables) -> Range
-    ensures { (cases : List ℕ) → result ≡ range_of (tables_with cases tables.entry) x (form_at form) }
+pub fn range_of(form: u64, x: Cell, callees: Callees) -> Range
+    ensures { (cases : List ℕ) → result ≡ range_of (tables_with cases callees.entry) x (form_at form) }
 {
     if form < 3 {
         return slot_range(form, x.instruction);
@@ -239,5 +239,5 @@ pub fn range_of(form: u64, x: Cell, tables: Tables) -> Range
     if form < 29 {
         return layout_range(form, x);
     }
-    call_range(form, x, tables)
+    call_range(form, x, callees)
 }

@@ -17,11 +17,17 @@ pub mod table;
 use instruction::Instruction;
 use unit::{Metadata, section};
 
+// What may be called: the sections of a unit by which calls are checked.
+#[derive(Clone, Copy)]
+pub struct Callees<'a> {
+    pub functions: &'a [u8],
+    pub externs: &'a [u8],
+}
+
 // The sections of a unit that effects look at.
 #[derive(Clone, Copy)]
 pub struct Tables<'a> {
-    pub functions: &'a [u8],
-    pub externs: &'a [u8],
+    pub callees: Callees<'a>,
     pub cases: &'a [u8],
 }
 
@@ -29,13 +35,15 @@ impl<'a> Tables<'a> {
     // Those of a unit.
     pub fn of_unit(unit: &'a [u8]) -> Tables<'a>
         requires { is_unit unit.now ≡ true }
-        ensures functions { result.functions.now ≡ functions_of unit.now }
-        ensures externs { result.externs.now ≡ externs_of unit.now }
+        ensures functions { result.callees.functions.now ≡ functions_of unit.now }
+        ensures externs { result.callees.externs.now ≡ externs_of unit.now }
         ensures cases { result.cases.now ≡ cases_of unit.now }
     {
         Tables {
-            functions: section::functions(unit),
-            externs: section::externs(unit),
+            callees: Callees {
+                functions: section::functions(unit),
+                externs: section::externs(unit),
+            },
             cases: section::cases(unit),
         }
     }

@@ -1,5 +1,5 @@
 // The ranges of slots that an instruction reads, surely writes and perhaps writes, by number. They stand for the Rust's visitor closures.
-ghost use Rattle.std.specs.Prelude.{◌≡◌, List, ℕ, ◌/◌, ◌%◌, ◌^◌, ◌<◌, length, get_or};
+ghost use Rattle.std.specs.Prelude.{◌≡◌, List, [], ℕ, ◌/◌, ◌%◌, ◌^◌, ◌<◌, length, get_or};
 ghost use Rattle.unit.specs.declared.Metadata.{Metadata};
 ghost use Rattle.effects.specs.Shape as shape;
 ghost use Rattle.effects.specs.Shape.{tables_of, tables_in, tables_with};
@@ -7,7 +7,7 @@ ghost use Rattle.effects.specs.Effects.{all_reads, sure_writes, perhaps_writes};
 ghost use Rattle.effects.specs.laws.Form.{empty_range};
 ghost use Rattle.effects.specs.laws.Ranges.{CasesInside};
 
-use crate::{Cell, Range, Tables, form, select, table};
+use crate::{Callees, Cell, Range, Tables, form, select, table};
 use instruction::{Instruction, opcode};
 
 // The k-th of packed forms.
@@ -38,7 +38,7 @@ pub fn read_range(k: usize, x: Cell, tables: Tables) -> Range
         return select::case_read(k, x.metadata, tables.cases);
     }
     let form = form_at(table::row(op) / 256, k);
-    form::range_of(form, x, tables)
+    form::range_of(form, x, tables.callees)
 }
 
 // How many ranges are surely written.
@@ -48,12 +48,13 @@ pub fn sure_count(i: Instruction) -> usize
     (table::row(i.op) / 16 % 16) as usize
 }
 
-pub fn sure_range(k: usize, x: Cell, tables: Tables) -> Range
-    requires { k < length (sure_writes (tables_in tables) x) }
-    ensures { (cases : List ℕ) → result ≡ get_or (sure_writes (tables_with cases tables.entry) x) k empty_range }
+// No case is looked at.
+pub fn sure_range(k: usize, x: Cell, callees: Callees) -> Range
+    requires { k < length (sure_writes (tables_with [] callees) x) }
+    ensures { (cases : List ℕ) → result ≡ get_or (sure_writes (tables_with cases callees.entry) x) k empty_range }
 {
     let form = form_at(table::row(x.instruction.op) / 1099511627776, k);
-    form::range_of(form, x, tables)
+    form::range_of(form, x, callees)
 }
 
 // How many ranges are perhaps written: of SelectExec one for each case, of MapIterNext key and value, of others none.
@@ -68,13 +69,14 @@ pub fn perhaps_count(x: Cell) -> usize
     }
 }
 
-pub fn perhaps_range(k: usize, x: Cell, tables: Tables) -> Range
-    requires { (k < length (perhaps_writes (tables_in tables) x)) × CasesInside tables.cases.now x }
+// Nothing that is called is looked at.
+pub fn perhaps_range(k: usize, x: Cell, cases: &[u8]) -> Range
+    requires { (k < length (perhaps_writes (tables_of [] [] cases.now) x)) × CasesInside cases.now x }
     ensures { (functions externs : List ℕ)
-        → result ≡ get_or (perhaps_writes (tables_of functions externs tables.entry.cases.now) x) k empty_range }
+        → result ≡ get_or (perhaps_writes (tables_of functions externs cases.now) x) k empty_range }
 {
     if x.instruction.op == opcode::SELECT_EXEC {
-        return select::case_write(k, x.metadata, tables.cases);
+        return select::case_write(k, x.metadata, cases);
     }
     form::layout_range(form::KEY_AND_VALUE, x)
 }

@@ -50,7 +50,7 @@ pub fn check_operands(
     let mut count: usize = 0;
     for p in 0..n {
         let w = memory[p];
-        let refused = operands::operand_refusal(locals, w, metadata, p, tables);
+        let refused = operands::operand_refusal(locals, w, metadata, p, &tables);
         if let Some(reason) = refused {
             return Err(reason.at(p as u32));
         }

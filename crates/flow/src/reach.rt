@@ -98,6 +98,7 @@ fn mark_run(words: &[u64], metadata: &[u8], work: &mut [u32], sp: usize, first: 
     let n = words.len();
     let end = region::stack_end(n);
     let mut p = first;
+    // No range: where the run ends is not known before.
     while work[p] == 0 {
         work[p] = 1;
         if goes_on((words[p] % 256) as u8) & (p + 1 < n) {
@@ -122,6 +123,7 @@ pub fn mark_reached(words: &[u64], metadata: &[u8], work: &mut [u32])
     work[0..n].fill(0);
     work[n] = 0;
     let mut sp: usize = 1;
+    // By `while`: the stack grows and shrinks.
     while sp > 0 {
         sp -= 1;
         let p = work[n + sp] as usize;

@@ -19,6 +19,8 @@ use operand::{NotCovered, smallest};
 use optimize::{Answer, pass};
 use unit::refusal::Refusal;
 
+// Each struct here is as C reads it: its kinds are numbers.
+
 // An answer in numbers: kind 0 unchanged; 1 refused, with number and place; 2 rewritten, with the number of instructions.
 #[repr(C)]
 #[derive(Clone, Copy)]
@@ -49,10 +51,10 @@ impl From<Result<Answer, Refusal>> for Numbers {
                 number: 0,
                 place: 0,
             },
-            Err(Refusal { number, place }) => Numbers {
+            Err(r) => Numbers {
                 kind: 1,
-                number,
-                place,
+                number: r.number,
+                place: r.place,
             },
             Ok(Answer::Rewritten(n)) => Numbers {
                 kind: 2,

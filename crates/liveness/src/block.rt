@@ -61,7 +61,7 @@ fn summarize_place(
         i,
         metadata,
         p,
-        tables,
+        tables.callees,
     );
     touch::live_before(&mut memory[uses..uses + w], i, metadata, p, tables);
 }

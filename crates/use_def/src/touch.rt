@@ -18,7 +18,7 @@ ghost use Rattle.use_def.specs.laws.BranchSets.{BranchFits};
 ghost use Rattle.use_def.specs.laws.PlainSets.{SameRanges};
 
 use crate::row;
-use effects::{Cell, Range, Tables, branching, form, plain, ranges, single, table};
+use effects::{Callees, Cell, Range, Tables, branching, form, plain, ranges, single, table};
 use instruction::{Class, Instruction};
 use unit::{Metadata, entry};
 
@@ -93,13 +93,13 @@ fn put_each_read(row: &mut [u64], x: Cell, tables: Tables)
 }
 
 // Only surely written ranges: a perhaps written one "no longer ends a slot's life".
-fn put_each_write(row: &mut [u64], on: bool, x: Cell, tables: Tables)
-    requires { WritesFit (length row.old) tables.functions.now tables.externs.now x }
-    ensures { (cases : List ℕ) → Put on (writing (tables_with cases tables.entry) x) row.old row.new }
+fn put_each_write(row: &mut [u64], on: bool, x: Cell, callees: Callees)
+    requires { WritesFit (length row.old) callees.functions.now callees.externs.now x }
+    ensures { (cases : List ℕ) → Put on (writing (tables_with cases callees.entry) x) row.old row.new }
 {
     let n = ranges::sure_count(x.instruction);
     for k in 0..n {
-        let r = ranges::sure_range(k, x, tables);
+        let r = ranges::sure_range(k, x, callees);
         row::put_range(row, r, on);
     }
 }
@@ -139,11 +139,11 @@ pub fn put_writes(
     i: Instruction,
     metadata: &[u8],
     p: usize,
-    tables: Tables,
+    callees: Callees,
 )
-    requires { (metadata_size * p + metadata_size ≤ length metadata.now) × WritesFit (length row.old) tables.functions.now tables.externs.now (record { instruction = i; metadata = metadata_at metadata.now p }) }
+    requires { (metadata_size * p + metadata_size ≤ length metadata.now) × WritesFit (length row.old) callees.functions.now callees.externs.now (record { instruction = i; metadata = metadata_at metadata.now p }) }
     ensures { (cases : List ℕ)
-        → Put on (writing (tables_with cases tables.entry) (record { instruction = i; metadata = metadata_at metadata.now p })) row.old row.new }
+        → Put on (writing (tables_with cases callees.entry) (record { instruction = i; metadata = metadata_at metadata.now p })) row.old row.new }
 {
     let c = i.class();
     if is_outside(c) {
@@ -151,7 +151,7 @@ pub fn put_writes(
             instruction: i,
             metadata: ranges_metadata(i, metadata, p),
         };
-        put_each_write(row, on, x, tables);
+        put_each_write(row, on, x, callees);
         return;
     }
     row::put_range(row, write(c, i), on);
@@ -211,6 +211,6 @@ pub fn live_before(row: &mut [u64], i: Instruction, metadata: &[u8], p: usize, t
     requires { (metadata_size * p + metadata_size ≤ length metadata.now) × Fits (length row.old) (tables_in tables) (record { instruction = i; metadata = metadata_at metadata.now p }) }
     ensures { Before (tables_in tables.entry) (record { instruction = i; metadata = metadata_at metadata.now p }) row.old row.new }
 {
-    put_writes(row, false, i, metadata, p, tables);
+    put_writes(row, false, i, metadata, p, tables.callees);
     put_reads(row, i, metadata, p, tables);
 }

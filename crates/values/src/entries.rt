@@ -72,6 +72,7 @@ pub fn find(w: &[u64], h: usize, count: usize, first: u64, left: u64, right: u64
 {
     let mut path = left;
     let mut p = first as usize;
+    // By `while`: from link to link.
     while p > 0 {
         let at = h + 4 * (p - 1);
         if holds(w, at, left, right) {
@@ -90,6 +91,7 @@ fn attach(w: &mut [u64], h: usize, count: usize, first: usize, left: u64)
 {
     let mut path = left;
     let mut p = first;
+    // From link to link, until there is none.
     loop {
         let at = h + 4 * (p - 1) + 3;
         let links = w[at];

@@ -1,6 +1,15 @@
 -- Definitions. Words of 64 bits: products modulo 2 ^ 64, and signed readings.
 -- Assumes nothing.
-use Rattle.std.specs.Prelude.{ℕ, ◌+◌, ◌-◌, ◌%◌, ◌^◌, Bool, cond, nat_lt}
+use Rattle.std.specs.Prelude.{ℕ, ◌+◌, ◌-◌, ◌*◌, ◌/◌, ◌%◌, ◌^◌, Bool, cond, nat_lt}
+
+-- the product of the low halves of two words and, 32 bits up, the sum of the cross products, modulo 2 ^ 64
+abbrev pub product_of_halves : ℕ → ℕ → ℕ
+product_of_halves a b =
+    let a0 = a % 4294967296 in
+    let a1 = a / 4294967296 in
+    let b0 = b % 4294967296 in
+    let b1 = b / 4294967296 in
+    (a0 * b0 + (a0 * b1 % 4294967296 + a1 * b0 % 4294967296) % 4294967296 * 4294967296) % 2 ^ 64
 
 -- a before b in the order of signed readings: turning the sign bit over makes it the order of the words
 abbrev pub signed_less : ℕ → ℕ → Bool

@@ -8,7 +8,7 @@ pub fn read_u16(s: &[u8], at: usize) -> u16
     requires { at + 2 ≤ length s.now }
     ensures { result ≡ u16_at s.now at }
 {
-    u16::from_le_bytes(*s[at..at + 2].as_array().unwrap())
+    u16::from_le_bytes([s[at], s[at + 1]])
 }
 
 pub fn read_u32(s: &[u8], at: usize) -> u32

@@ -3,5 +3,6 @@
 #![tactic(auto)]
 
 pub mod bits;
+pub mod bytes;
 pub mod le;
 pub mod word;

@@ -1,10 +1,11 @@
 // 64-bit words: products and negation modulo 2^64, the order of signed readings, and sign extension.
 ghost use Rattle.std.specs.Prelude.{◌≡◌, ◌-◌, ◌*◌, ◌%◌, ◌^◌, ◌<◌, ◌≤◌};
-ghost use Rattle.words.specs.Word.{signed_less, sign_extend};
+ghost use Rattle.words.specs.Word.{product_of_halves, signed_less, sign_extend};
 
-// Over std's methods: document 01 asks for helpers that are proved modulo 2^64.
+// Over std's methods: document 01 asks for helpers that are proved modulo 2^64. The product is that of the halves too.
 pub fn wrapping_mul(a: u64, b: u64) -> u64
-    ensures { result ≡ a * b % 2 ^ 64 }
+    ensures product { result ≡ a * b % 2 ^ 64 }
+    ensures halves { result ≡ product_of_halves a b }
 {
     a.wrapping_mul(b)
 }

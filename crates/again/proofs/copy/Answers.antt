@@ -9,4 +9,4 @@ part_long at n = omega arith
 pub returns : goal.returns
 returns c =
     let a = c.args in
-    record { to = rw (c.copy_from_slice.ensures.after, part_long a.at a.n, part_long a.start a.n) }
+    record { to = rw (c.copy.ensures, part_long a.at a.n, part_long a.start a.n) }

@@ -40,11 +40,11 @@ unfolding charge_answer stopped_by charge_cents charged_by stop_of cents_of
 charge_refused u f limit tariff r e = record { answer = rw e refl; frame = rw e refl; charge = rw e refl; most = omega arith }
 
 -- a run that stops by a step stops at an instruction
-pub stop_inside : (S : Sections) (cells : List Cell) (k p : ℕ) (f : List ℕ) → 0 < stop_price 1 (stop_at S cells k p f) → p < length cells
+pub stop_inside : (S : Sections) (cells : List Cell) (k p : ℕ) (f : List ℕ) → 0 < stop_price 1 (Ok (stop_at S cells k p f)) → p < length cells
 unfolding stop_at stop_price
 stop_inside S cells k p f h = go (nat_lt p (length cells)) refl h
   where
-    go : (t : Bool) → nat_lt p (length cells) ≡ t → 0 < stop_price 1 (cond t (stop_by p k (due_at S cells p f)) Ended) → p < length cells
+    go : (t : Bool) → nat_lt p (length cells) ≡ t → 0 < stop_price 1 (Ok (cond t (stop_by p k (due_at S cells p f)) Ended)) → p < length cells
     go true e h = ltb-true p (length cells) e
     go false e h = absurd (omega arith)
 
@@ -55,7 +55,7 @@ cents_most spent limit l h = omega arith
 
 module _ (u f : List ℕ) (limit : ℕ) (tariff : List ℕ) (priced : (o : ℕ) → slice_index tariff o ≤ highest_price) where
   module _ {q l v : ℕ} {g : List ℕ} {s : Stop} {last : ℕ} (a : Placed (advanced (sections_of u) (cells_of u) tariff limit 0 0 f) q l v g)
-      (e : s ≡ stop_at (sections_of u) (cells_of u) l q g) (c : last ≡ stop_price (price_at tariff (cells_of u) q) s) where
+      (e : s ≡ stop_at (sections_of u) (cells_of u) l q g) (c : last ≡ stop_price (price_at tariff (cells_of u) q) (Ok s)) where
     -- what was spent on the way, and on the last step
     all_spent : v + last ≡ spent_from (sections_of u) (cells_of u) tariff limit 0 f
     all_spent =

@@ -2,7 +2,7 @@
 -- Assumes nothing.
 use Rattle.std.specs.Prelude.{Option, Some, None, ◌≡◌, ℕ, zero, suc, ◌+◌, ◌*◌, ◌<◌, ◌≤◌, Bool, true, false, cond, List, [], length, nat_lt, slice_index}
 use Rattle.std.proofs.Math.Path.{refl}
-use Rattle.std.proofs.Common.{ap, add-zero, lt-ltb}
+use Rattle.std.proofs.Common.{Ok, ap, add-zero, lt-ltb}
 use native.Mathlib.Omega.{arith}
 use Rattle.words.specs.Lists.{is_in, sum}
 use Rattle.words.specs.laws.Lists.{sum_append}
@@ -27,7 +27,7 @@ use Rattle.desk.specs.laws.Spent.{stop_price}
 
 unfoldable Costs : ℕ → Due → Type 0
 Costs v (goes q g) = Unit {0}
-Costs v (stops s) = stop_price v s ≡ v
+Costs v (stops s) = stop_price v (Ok s) ≡ v
 Costs v not_executed = Unit {0}
 
 costs_loads : (v p : ℕ) (f : List ℕ) (a : ℕ) (c : Option Constant) → Costs v (loads p f a c)
@@ -58,7 +58,7 @@ costs v constants Outside p i f = tt
 costs v constants Invalid p i f = tt
 
 module _ (S : Sections) (cells : List Cell) (tariff : List ℕ) where
-  stop_costs : (v p : ℕ) (f : List ℕ) (s : Stop) → due_at S cells p f ≡ stops s → stop_price v s ≡ v
+  stop_costs : (v p : ℕ) (f : List ℕ) (s : Stop) → due_at S cells p f ≡ stops s → stop_price v (Ok s) ≡ v
   unfolding Costs
   stop_costs v p f s d = rw d at (costs v S.constants (class (cell_at cells p).instruction) p (cell_at cells p).instruction f)
 
@@ -66,15 +66,15 @@ module _ (S : Sections) (cells : List Cell) (tariff : List ℕ) where
   price = price_at tariff cells
 
   abbrev all : Advance → ℕ
-  all a = a.spent + stop_price (price a.place) (stop_at S cells a.left a.place a.frame)
+  all a = a.spent + stop_price (price a.place) (Ok (stop_at S cells a.left a.place a.frame))
 
   -- what was spent on the way, and on the step by which the run stops, is all
   pub spent_advances : (k p v : ℕ) (f : List ℕ) → let a = advanced S cells tariff k p v f in
-      v + spent_from S cells tariff k p f ≡ a.spent + stop_price (price_at tariff cells a.place) (stop_at S cells a.left a.place a.frame)
+      v + spent_from S cells tariff k p f ≡ a.spent + stop_price (price_at tariff cells a.place) (Ok (stop_at S cells a.left a.place a.frame))
   unfolding spent_from notes_from noted_by sum advanced onward stop_at stop_by stop_price
   spent_advances zero p v f = go (nat_lt p (length cells)) (due_at S cells p f)
     where
-      go : (t : Bool) (d : Due) → v + 0 ≡ v + stop_price (price p) (cond t (stop_by p 0 d) Ended)
+      go : (t : Bool) (d : Due) → v + 0 ≡ v + stop_price (price p) (Ok (cond t (stop_by p 0 d) Ended))
       go true (goes q g) = refl
       go true (stops s) = refl
       go true not_executed = refl

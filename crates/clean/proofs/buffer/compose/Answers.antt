@@ -10,7 +10,7 @@ loop-p-init c = refl
 pub read_u32-requires : goal.read_u32-requires
 read_u32-requires c =
     let old = c.read_u32-old.ensures ∙ place_left c.args.from.now c.args.to.now c.loop-p.to c.loop-p.p c.loop-p.invariant in
-    rw old (c.requires.2 c.loop-p.p c.loop-p-test.true)
+    rw old (c.requires.2 c.loop-p.p (omega arith))
 
 pub loop-p-preserved : goal.loop-p-preserved
 loop-p-preserved c =

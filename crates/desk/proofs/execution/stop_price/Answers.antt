@@ -1,8 +1,9 @@
-use Rattle.std.proofs.Common.{◌≡◌, ℕ, ◌<◌, List, length, get_or, ap, ◌∙◌, arith}
+use Rattle.std.proofs.Common.{◌≡◌, Ok, ℕ, ◌<◌, List, length, get_or, ap, ◌∙◌, arith, rules}
 use Rattle.instruction.specs.declared.Instruction.{Instruction}
 use Rattle.instruction.specs.Instruction.{instruction_at}
 use Rattle.unit.specs.Layout.{code_of}
 use Rattle.answer.specs.Answer.{cells_of}
+use Rattle.desk.specs.declared.Stop.TheVariants.{Returned, Panicked, Ended, Other, Limit}
 use Rattle.desk.specs.Charge.{price_at}
 use Rattle.desk.proofs.laws.Checking.{read_cell}
 use Rattle.desk.specs.laws.Spent.{stop_price}
@@ -18,35 +19,51 @@ found u code tariff p c h e = e ∙ ap (λ (i : Instruction). get_or tariff i.op
 pub price_at-requires : goal.price_at-requires
 unfolding stop_price
 price_at-requires c =
-    let inside : c.args.p < length (cells_of c.args.unit.now) = c.requires.place (rw c.in-Returned.is (omega arith)) in
+    let z : c.in-Ok-Returned.field-0 ≡ Returned c.in-Ok-Returned.field-0-0 c.in-Ok-Returned.field-0-1 = search rules in
+    let inside : c.args.p < length (cells_of c.args.unit.now) = c.requires.place (rw (c.in-Ok-Returned.is ∙ ap Ok z) (omega arith)) in
     record { code = place_inside c.args.unit.now c.requires.laid _ _ c.code-code.ensures inside; tariff = c.requires.tariff }
 
-pub price_at-requires-in-Panicked : goal.price_at-requires-in-Panicked
+pub price_at-requires-in-Ok-Panicked : goal.price_at-requires-in-Ok-Panicked
 unfolding stop_price
-price_at-requires-in-Panicked c =
-    let inside : c.args.p < length (cells_of c.args.unit.now) = c.requires.place (rw c.in-Panicked.is (omega arith)) in
+price_at-requires-in-Ok-Panicked c =
+    let z : c.in-Ok-Panicked.field-0 ≡ Panicked c.in-Ok-Panicked.field-0-0 c.in-Ok-Panicked.field-0-1 = search rules in
+    let inside : c.args.p < length (cells_of c.args.unit.now) = c.requires.place (rw (c.in-Ok-Panicked.is ∙ ap Ok z) (omega arith)) in
     record { code = place_inside c.args.unit.now c.requires.laid _ _ c.code-code.ensures inside; tariff = c.requires.tariff }
 
-pub returns-in-Returned : goal.returns-in-Returned
+pub returns-in-Ok-Returned : goal.returns-in-Ok-Returned
 unfolding stop_price
-returns-in-Returned c =
-    let inside : c.args.p < length (cells_of c.args.unit.now) = c.requires.place (rw c.in-Returned.is (omega arith)) in
-    record { price = rw c.in-Returned.is (found c.args.unit.now _ c.args.tariff.now _ c.code-code.ensures inside c.price_at.ensures.price) }
+returns-in-Ok-Returned c =
+    let z : c.in-Ok-Returned.field-0 ≡ Returned c.in-Ok-Returned.field-0-0 c.in-Ok-Returned.field-0-1 = search rules in
+    let e = c.in-Ok-Returned.is ∙ ap Ok z in
+    let inside : c.args.p < length (cells_of c.args.unit.now) = c.requires.place (rw e (omega arith)) in
+    record { price = rw e (found c.args.unit.now _ c.args.tariff.now _ c.code-code.ensures inside c.price_at.ensures.price) }
 
-pub returns-in-Panicked : goal.returns-in-Panicked
+pub returns-in-Ok-Panicked : goal.returns-in-Ok-Panicked
 unfolding stop_price
-returns-in-Panicked c =
-    let inside : c.args.p < length (cells_of c.args.unit.now) = c.requires.place (rw c.in-Panicked.is (omega arith)) in
-    record { price = rw c.in-Panicked.is (found c.args.unit.now _ c.args.tariff.now _ c.code-code.ensures inside c.price_at-in-Panicked.ensures.price) }
+returns-in-Ok-Panicked c =
+    let z : c.in-Ok-Panicked.field-0 ≡ Panicked c.in-Ok-Panicked.field-0-0 c.in-Ok-Panicked.field-0-1 = search rules in
+    let e = c.in-Ok-Panicked.is ∙ ap Ok z in
+    let inside : c.args.p < length (cells_of c.args.unit.now) = c.requires.place (rw e (omega arith)) in
+    record { price = rw e (found c.args.unit.now _ c.args.tariff.now _ c.code-code.ensures inside c.price_at-in-Ok-Panicked.ensures.price) }
 
-pub returns-in-Ended : goal.returns-in-Ended
+pub returns-in-Ok-Ended : goal.returns-in-Ok-Ended
 unfolding stop_price
-returns-in-Ended c = record { price = rw c.in-Ended.is }
+returns-in-Ok-Ended c =
+    let z : c.in-Ok-Ended.field-0 ≡ Ended = search rules in
+    record { price = rw (c.in-Ok-Ended.is ∙ ap Ok z) }
 
-pub returns-in-Other : goal.returns-in-Other
+pub returns-in-Ok-Other : goal.returns-in-Ok-Other
 unfolding stop_price
-returns-in-Other c = record { price = rw c.in-Other.is }
+returns-in-Ok-Other c =
+    let z : c.in-Ok-Other.field-0 ≡ Other c.in-Ok-Other.field-0-0 = search rules in
+    record { price = rw (c.in-Ok-Other.is ∙ ap Ok z) }
 
-pub returns-in-Limit : goal.returns-in-Limit
+pub returns-in-Ok-Limit : goal.returns-in-Ok-Limit
 unfolding stop_price
-returns-in-Limit c = record { price = rw c.in-Limit.is }
+returns-in-Ok-Limit c =
+    let z : c.in-Ok-Limit.field-0 ≡ Limit = search rules in
+    record { price = rw (c.in-Ok-Limit.is ∙ ap Ok z) }
+
+pub returns-in-Err : goal.returns-in-Err
+unfolding stop_price
+returns-in-Err c = record { price = rw c.in-Err.is }

@@ -35,4 +35,4 @@ returns-in_default c =
       ne_eqb a.demand 18 c.in_default.in_default-own.rest.0.1,
       ne_eqb a.demand 19 c.in_default.in_default-own.rest.1,
     )
-    (c.call_shape_met.ensures a.tables.externs.now cases)
+    (c.call_shape_met.ensures a.callees.externs.now cases)

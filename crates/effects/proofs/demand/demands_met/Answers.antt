@@ -9,7 +9,7 @@ returns-then-row-eq0 c =
     let a = c.args in
     let x = a.x in
     λ cases.
-    let T : Tables = tables_with cases a.tables in
+    let T : Tables = tables_with cases a.callees in
     rw (demands_row T x c.demand_row-row.result c.demand_row-row.ensures, c.if-row-eq0.true)
 
 pub returns : goal.returns
@@ -17,5 +17,5 @@ returns c =
     let a = c.args in
     let x = a.x in
     λ cases.
-    let T : Tables = tables_with cases a.tables in
+    let T : Tables = tables_with cases a.callees in
     cc (demands_row T x c.demand_row-row.result c.demand_row-row.ensures, c.is_met-3.ensures cases, c.is_met-2.ensures cases, c.is_met.ensures cases)

@@ -19,7 +19,7 @@ returns-in-31 c = λ cases. rw (c.in-31.is, add-zero) (cc)
 
 pub returns-in-32 : goal.returns-in-32
 unfolding forms form_at range_of applies value
-returns-in-32 c = λ cases. rw (c.in-32.is, add-zero) (cc (c.argument_slots.ensures c.args.tables.externs.now cases))
+returns-in-32 c = λ cases. rw (c.in-32.is, add-zero) (cc (c.argument_slots.ensures c.args.callees.externs.now cases))
 
 pub returns-in_default : goal.returns-in_default
 unfolding forms form_at range_of applies value

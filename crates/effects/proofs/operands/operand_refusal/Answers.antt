@@ -19,7 +19,7 @@ unfolding of_word
 returns-then-is_within c =
     let a = c.args in
     let x : Cell = cell_of a.metadata.now a.p a.w in
-    let T : Tables = tables_in a.tables in
+    let T : Tables = tables_in a.tables.now in
     sym (single_passes T x (single (goal.at.returns-then-is_within c).Else-not-is_single) (word_fields a.w) a.locals (omega arith) (sym (rw c.class_of-class.ensures at c.is_within.ensures) ∙ c.if-is_within.true))
 
 pub returns : goal.returns
@@ -27,5 +27,5 @@ unfolding of_word
 returns c =
     let a = c.args in
     let x : Cell = cell_of a.metadata.now a.p a.w in
-    let T : Tables = tables_in a.tables in
+    let T : Tables = tables_in a.tables.now in
     sym (single_outside T x (single (goal.at.returns c).Else-not-is_single) (word_fields a.w) a.locals (omega arith) (sym (rw c.class_of-class.ensures at c.is_within.ensures) ∙ c.if-is_within.false))

@@ -15,7 +15,7 @@ unfolding of_word
 returns-then-op-gt-MAX_VALID c =
     let a = c.args in
     let x : Cell = cell_of a.metadata.now a.p a.w in
-    let T : Tables = tables_in a.tables in
+    let T : Tables = tables_in a.tables.now in
     sym (refused_invalid T x a.locals c.if-op-gt-MAX_VALID.true)
 
 pub ranges_refusal-requires : goal.ranges_refusal-requires
@@ -38,7 +38,7 @@ unfolding of_word
 returns-then-is_within c =
     let a = c.args in
     let x : Cell = cell_of a.metadata.now a.p a.w in
-    let T : Tables = tables_in a.tables in
+    let T : Tables = tables_in a.tables.now in
     let row = c.row-row in
     let p : Plain (of_word a.w).op row.result = plain_row (of_word a.w).op row.result row.ensures c.if-op-gt-MAX_VALID.false (sym c.is_plain.ensures ∙ c.if-not-is_plain.false) in
     sym (plain_passes a.locals (omega arith) T x (word_fields a.w) c.if-op-gt-MAX_VALID.false row.result row.ensures p (sym c.is_within.ensures ∙ c.if-is_within.true))
@@ -48,7 +48,7 @@ unfolding of_word
 returns c =
     let a = c.args in
     let x : Cell = cell_of a.metadata.now a.p a.w in
-    let T : Tables = tables_in a.tables in
+    let T : Tables = tables_in a.tables.now in
     let row = c.row-row in
     let p : Plain (of_word a.w).op row.result = plain_row (of_word a.w).op row.result row.ensures c.if-op-gt-MAX_VALID.false (sym c.is_plain.ensures ∙ c.if-not-is_plain.false) in
     sym (plain_outside a.locals (omega arith) T x (word_fields a.w) c.if-op-gt-MAX_VALID.false row.result row.ensures p (sym c.is_within.ensures ∙ c.if-is_within.false))

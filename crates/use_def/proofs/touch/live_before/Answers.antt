@@ -12,6 +12,6 @@ put_reads-requires c = rw c.put_writes.auto.row c.requires
 pub returns : goal.returns
 returns c =
     let cases = c.args.tables.cases.now in
-    let T : Tables = tables_with cases c.args.tables in
+    let T : Tables = tables_with cases c.args.tables.callees in
     let x : Cell = record { instruction = c.args.i; metadata = metadata_at c.args.metadata.now c.args.p } in
     before T x _ _ _ (c.put_writes.ensures cases) c.put_reads.ensures

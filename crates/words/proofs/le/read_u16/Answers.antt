@@ -1,12 +1,9 @@
-use Rattle.std.proofs.Common.{rules, ◌≡◌, ◌∙◌, arith, ◌+◌, ◌-◌}
-use Rattle.std.specs.Array.{IsWholeChunk}
-use borrow.Rule.Slice.PartMut.{mid_of}
-use Rattle.words.specs.laws.Le.{mid_le}
+use Rattle.std.proofs.Common.{arith}
+use Rattle.words.specs.laws.Le.{u16_bytes}
 use Rattle.words.proofs.le.read_u16.Goals as goal
 
 pub returns : goal.returns
 returns c =
     let a = c.args in
-    let long : a.at + 2 - a.at ≡ 2 = omega arith in
-    let whole : IsWholeChunk (mid_of a.at (a.at + 2 - a.at) a.s.now) c.unwrap.result.now 2 = search rules in
-    c.from_le_bytes.ensures ∙ mid_le 1 a.s.now _ a.at (rw long at whole.same) (omega arith)
+    let e = c.from_le_bytes.ensures in
+    omega (arith, e, u16_bytes a.s.now a.at (omega arith))
